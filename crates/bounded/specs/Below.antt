@@ -1,0 +1,34 @@
+-- "Each", "there is", "how many", "the highest" and "the first" over the numbers below n.
+-- A counting loop's invariant is the definition at its counter.
+use Prim.Native.Nat.{ℕ, zero, suc, _+_, max}
+use mathlib.Core.Bool.{Bool, true, false, cond, _&&_, _||_}
+use lib.Dec.{ltb}
+
+-- each number below n passes
+unfoldable pub allBelow : ℕ → (ℕ → Bool) → Bool
+allBelow zero f = true
+allBelow (suc n) f = allBelow n f && f n
+
+-- some number below n passes
+unfoldable pub someBelow : ℕ → (ℕ → Bool) → Bool
+someBelow zero f = false
+someBelow (suc n) f = someBelow n f || f n
+
+-- the sum of f over the numbers below n
+unfoldable pub sumBelow : ℕ → (ℕ → ℕ) → ℕ
+sumBelow zero f = 0
+sumBelow (suc n) f = sumBelow n f + f n
+
+-- the highest of f over the numbers below n; 0 where n is 0
+unfoldable pub maxBelow : ℕ → (ℕ → ℕ) → ℕ
+maxBelow zero f = 0
+maxBelow (suc n) f = max (maxBelow n f) (f n)
+
+-- one more number looked at: what was found below n, else n itself where it passes, else n + 1
+abbrev pub foundOr : ℕ → ℕ → Bool → ℕ
+foundOr found n passes = cond (ltb found n) found (cond passes n (suc n))
+
+-- the lowest number below n that passes; n where none does
+unfoldable pub firstBelow : ℕ → (ℕ → Bool) → ℕ
+firstBelow zero f = 0
+firstBelow (suc n) f = foundOr (firstBelow n f) n (f n)

@@ -1,0 +1,3 @@
+pub mod Permission
+pub mod Erase
+pub mod Suggest

@@ -1,0 +1,1 @@
+// No code yet: how a call answers (specs/Outcome.antt).

@@ -1,0 +1,3 @@
+pub mod Launch
+pub mod Write
+pub mod Withdraw

@@ -1,0 +1,1 @@
+// Transactions ("rings"): launch, write, withdraw. No code yet: the definitions are in specs/.
