@@ -1,3 +1,4 @@
 pub mod State
 pub mod Cycle
 pub mod Change
+pub mod Computing
