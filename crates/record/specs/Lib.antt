@@ -1,3 +1,5 @@
 pub mod Slot
+pub mod SlotLaws
 pub mod Flash
+pub mod FlashLaws
 pub mod Computing

@@ -19,16 +19,6 @@ use Rattle.table.specs.Table.{tableSound, ofPage, ofVersion, clash, some
 pub blank-holds : {s : Slot} {r : Record} → s ≡ Blank → s ≡ Holds r → ⊥
 blank-holds e h = let z : _≡_ {A = ℕ} 0 1 = cc in omega arith
 
--- a slot that holds a record which passes holds some record r, and r passes
-pub holds-at : (f : Record → Bool) (s : Slot) → holds f s ≡ true → (r : Record) × (s ≡ Holds r) × (f r ≡ true)
-unfolding holds
-holds-at f Blank e = absurd (never refl (sym e))
-holds-at f (Holds r) e = (r, refl, e)
-
-pub holds-of : (f : Record → Bool) {s : Slot} {r : Record} → s ≡ Holds r → f r ≡ true → holds f s ≡ true
-unfolding holds
-holds-of f e h = rw e h
-
 module _ (t : ℕ → Slot) where
   -- "a slot neither blank nor sound": there is none
   pub sound-at : (P S k : ℕ) {r : Record} → tableSound P S t ≡ true → k < S → t k ≡ Holds r → recordSound P r ≡ true
@@ -115,7 +105,7 @@ module _ (t : ℕ → Slot) where
     unfolding hasRecord someRecord ofPage
     has-record S = (
       λ e. let w = some-at (λ k. holds (ofPage p) (t k)) S e in
-          let h = holds-at (ofPage p) (t (w .0)) (w .2) in
+          let h = holds-exactly (ofPage p) (t (w .0)) .0 (w .2) in
           (w .0, h .0, w .1, h .1, eqb-true (h .0 .p) p (h .2)),
       λ w. some-of (λ k. holds (ofPage p) (t k)) S (w .0) (w .2) (holds-of (ofPage p) (w .3) (eq-eqb (w .1 .p) p (w .4))),
     )
@@ -143,7 +133,7 @@ module _ (t : ℕ → Slot) where
   pub lowest-holds : (S p v : ℕ) → lowestSlot S t p v < S → (r : Record) × (t (lowestSlot S t p v) ≡ Holds r) × (r .p ≡ p) × (r .v ≡ v)
   unfolding lowestSlot
   lowest-holds S p v l =
-      let h = holds-at (ofVersion p v) (t (lowestSlot S t p v)) (first-passes (λ k. holds (ofVersion p v) (t k)) S l) in
+      let h = holds-exactly (ofVersion p v) (t (lowestSlot S t p v)) .0 (first-passes (λ k. holds (ofVersion p v) (t k)) S l) in
       let q = of-version p v (h .0) .0 (h .2) in
       (h .0, h .1, q .0, q .1)
 
@@ -182,7 +172,7 @@ module _ (t : ℕ → Slot) where
       clash-at : (x y : Slot) → clash x y ≡ true → (a : Record) × (b : Record) × (x ≡ Holds a) × (y ≡ Holds b) × (a .p ≡ b .p) × (a .v ≡ b .v)
       clash-at x Blank e = absurd (never refl (sym e))
       clash-at x (Holds b) e =
-          let h = holds-at (ofVersion (b .p) (b .v)) x e in
+          let h = holds-exactly (ofVersion (b .p) (b .v)) x .0 e in
           let q = of-version (b .p) (b .v) (h .0) .0 (h .2) in
           (h .0, b, h .1, refl, q .0, q .1)
 
