@@ -7,5 +7,4 @@ ghost use Rattle.atomicity.specs.StarCases.{starTable};
 pub fn star_cases()
     ensures cases { λ _. ⌜ RowsHold starTable ⌝ }
     ensures bounds { λ _. ⌜ RowsHold boundRows ⌝ }
-{
-}
+{}

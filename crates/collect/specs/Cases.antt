@@ -2,7 +2,10 @@
 use Prim.Native.Nat.{ℕ, zero, suc, _*_}
 use mathlib.Core.Path.{_≡_, refl}
 use mathlib.Core.List.{List, [], _∷_, _++_, map}
+use mathlib.Core.Bool.{cond}
+use lib.Dec.{eqb}
 use lib.ListN.{replicate}
+use Rattle.bounded.specs.Parts.{joinParts}
 use Rattle.bounded.specs.Limits.{width}
 use Rattle.outcome.specs.Outcome.{Outcome}
 use Rattle.outcome.specs.Row.{Row, row, RowsHold}
@@ -34,15 +37,15 @@ eraseRows v =
     ∷ row 8 (eraseOn v (1 ∷ []) .answer ∷ []) (0 ∷ [])
     ∷ []
 
--- that volume: page 0 is committed at 0 and used at 1, page 1 at 3, page 2 at 1
+-- that volume, slot 6 with bytes 3: page 0 is committed at 0 and used at 1, page 1 at 3, page 2 at 1
 unfoldable pub volume6 : Volume
 volume6 =
     record {
       flash = record {
         words = tableOf 8 (formattedRecords 3 ++ given 0 1 0 1 1 ∷ given 1 2 0 2 1 ∷ given 2 1 0 1 2 ∷ given 1 3 2 1 3 ∷ []);
-        contents = replicate (width * 8) 0
+        contents = joinParts 8 (λ k. replicate width (cond (eqb k 6) 3 0));
       };
-      state = stateWords 3 page
+      state = stateWords 3 page;
     }
   where
     page : ℕ → PageState

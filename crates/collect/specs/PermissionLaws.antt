@@ -12,30 +12,23 @@ use Rattle.bounded.specs.BelowLaws.{some-at, some-of, all-each}
 use Rattle.record.specs.declared.Record.{Record}
 use Rattle.record.specs.declared.Slot.{Slot}
 use Rattle.record.specs.declared.Slot.the-variants.{Blank, Holds}
-use Rattle.record.specs.Slot.{holds, someRecord, straddles}
+use Rattle.record.specs.Slot.{someRecord, straddles}
+use Rattle.record.specs.SlotLaws.{Straddles, straddles-exactly, holds-exactly, some-record-at, some-record-of}
 use Rattle.state.specs.declared.PageState.{PageState}
 use Rattle.state.specs.State.{inFlight}
-use Rattle.table.specs.TableLaws.{holds-at, holds-of}
 use Rattle.collect.specs.Permission.{isObsolete, isExposed, outreaches, isShielded, isNeeded, isCurrent, mayEraseRecord, mayErase, mayEraseAll}
 
--- "some record"
-pub some-record :
+-- "some record" that passes a test which is exactly Q
+some-record :
     (S : ℕ) (t : ℕ → Slot) (f : Record → Bool) {Q : Record → Type 0}
     → ((r : Record) → (f r ≡ true) ↔ Q r)
     → (someRecord S t f ≡ true) ↔ ((k : ℕ) × (r : Record) × (k < S) × (t k ≡ Holds r) × Q r)
-unfolding someRecord
 some-record S t f i = (
-  λ e. let w = some-at (λ k. holds f (t k)) S e in
-      let h = holds-at f (t (w .0)) (w .2) in
-      (w .0, h .0, w .1, h .1, i (h .0) .0 (h .2)),
-  λ w. some-of (λ k. holds f (t k)) S (w .0) (w .2) (holds-of f (w .3) (i (w .1) .1 (w .4))),
+  λ e. let w = some-record-at S t f e in (w .0, w .1, w .2, w .3, i (w .1) .0 (w .4)),
+  λ w. some-record-of S t f (w .0, w .1, w .2, w .3, i (w .1) .1 (w .4)),
 )
 
 module _ (S : ℕ) (t : ℕ → Slot) (st : ℕ → PageState) where
-  -- K straddles I's link
-  abbrev pub Straddles : (K I : Record) → Type 0
-  Straddles K I = (K .p ≡ I .np) × ((K .c < I .nv) × (I .nv < K .v))
-
   abbrev pub Obsolete : Record → Type 0
   Obsolete r = r .v < st (r .p) .committed
 
@@ -50,12 +43,6 @@ module _ (S : ℕ) (t : ℕ → Slot) (st : ℕ → PageState) where
   -- "an obsolete record that is no needed straddler, or an exposed record other than one whose page is in flight with v = used"
   abbrev pub Erasable : Record → Type 0
   Erasable r = (Obsolete r × ¬ (Needed r)) ⊎ (Exposed r × ¬ ((inFlight (st (r .p)) ≡ true) × (r .v ≡ st (r .p) .used)))
-
-  pub straddles-exactly : (K I : Record) → (straddles K I ≡ true) ↔ Straddles K I
-  unfolding straddles
-  straddles-exactly K I =
-      conjoined (eqb (K .p) (I .np)) (ltb (K .c) (I .nv) && ltb (I .nv) (K .v)) (equal-test (K .p) (I .np))
-      (conjoined (ltb (K .c) (I .nv)) (ltb (I .nv) (K .v)) (below-test (K .c) (I .nv)) (below-test (I .nv) (K .v)))
 
   needed-exactly : (K : Record) → (isNeeded S t st K ≡ true) ↔ Needed K
   unfolding isNeeded outreaches isShielded isExposed
@@ -90,8 +77,8 @@ module _ (S : ℕ) (t : ℕ → Slot) (st : ℕ → PageState) where
   pub may-erase-exactly : (k : ℕ) → (mayErase S t st k ≡ true) ↔ ((r : Record) × (t k ≡ Holds r) × Erasable r)
   unfolding mayErase
   may-erase-exactly k = (
-    λ e. let h = holds-at (mayEraseRecord S t st) (t k) e in (h .0, h .1, erasable-exactly (h .0) .0 (h .2)),
-    λ w. holds-of (mayEraseRecord S t st) (w .1) (erasable-exactly (w .0) .1 (w .2)),
+    λ e. let h = holds-exactly (mayEraseRecord S t st) (t k) .0 e in (h .0, h .1, erasable-exactly (h .0) .0 (h .2)),
+    λ w. holds-exactly (mayEraseRecord S t st) (t k) .1 (w .0, w .1, erasable-exactly (w .0) .1 (w .2)),
   )
 
   -- each listed slot may be erased

@@ -15,7 +15,8 @@ use Rattle.outcome.specs.Outcome.{_⇒_otherwise_, Outcome, settled, settled-an
 use Rattle.record.specs.declared.Record.{Record}
 use Rattle.record.specs.declared.Slot.{Slot}
 use Rattle.record.specs.declared.Slot.the-variants.{Blank, Holds}
-use Rattle.record.specs.Slot.{slotAt, recordSound}
+use Rattle.record.specs.Slot.{slotAt}
+use Rattle.record.specs.SlotLaws.{sound-facts}
 use Rattle.state.specs.State.{stateWords}
 use Rattle.table.specs.Table.{tableSound, highest, highestVersionOf}
 use Rattle.table.specs.TableLaws.{highest-is, highest-held, sound-at}
@@ -54,11 +55,8 @@ module _ (S : ℕ) (t : ℕ → Slot) where
           let k = highest-held t q S (highest-is t q S) f in
           let u = sound-at t P S (k .0) sound (k .1) (k .2) in
           let i = on-next J r g in
-          let l = next-below J u in
+          let l = sound-facts P J u .next-below in
           omega arith
-        where
-          next-below : (J : Record) → recordSound P J ≡ true → J .np < P
-          next-below J u = ?
 
 -- ---- answer 4
 

@@ -12,12 +12,17 @@ use Rattle.bounded.specs.BelowLaws.{below-suc, all-at, some-at, some-of, first-
 use Rattle.record.specs.declared.Record.{Record}
 use Rattle.record.specs.declared.Slot.{Slot}
 use Rattle.record.specs.declared.Slot.the-variants.{Blank, Holds}
+use Rattle.record.specs.SlotLaws.{holds-exactly}
 use Rattle.record.specs.Slot.{slotSound, recordSound, holds, someRecord}
 use Rattle.table.specs.Table.{tableSound, ofPage, ofVersion, clash, someClash, hasRecord, lowestSlot, hasVersion, above, better, highest, versionIn, highestVersionOf}
 
 -- two slots' contents never both blank and a record
 pub blank-holds : {s : Slot} {r : Record} → s ≡ Blank → s ≡ Holds r → ⊥
 blank-holds e h = let z : _≡_ {A = ℕ} 0 1 = cc in omega arith
+
+-- a slot that holds a record which passes
+pub holds-of : (f : Record → Bool) {s : Slot} {r : Record} → s ≡ Holds r → f r ≡ true → holds f s ≡ true
+holds-of f {s} {r} e h = holds-exactly f s .1 (r, e, h)
 
 module _ (t : ℕ → Slot) where
   -- "a slot neither blank nor sound": there is none
