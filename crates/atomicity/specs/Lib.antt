@@ -1,1 +1,5 @@
 pub mod StarCases
+pub mod Call
+pub mod Run
+pub mod Model
+pub mod Promise
