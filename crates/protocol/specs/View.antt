@@ -1,0 +1,103 @@
+-- What the invariant sees of the flash: the set of (record, contents) pairs that the slots hold, and of a record its page, version and link.
+use Prim.Native.Nat.{ℕ, zero, suc, _<_}
+use native.Mathlib.Omega.{arith}
+use mathlib.Core.Path.{_≡_, refl, sym, ap, _∙_, subst}
+use mathlib.Core.List.{List}
+use mathlib.Core.Logic.{_⊎_, inl, inr}
+use mathlib.Core.Bool.{Bool}
+use Rattle.bounded.specs.BelowLaws.{below-suc}
+use Rattle.record.specs.declared.Record.{Record}
+use Rattle.record.specs.declared.Slot.{Slot}
+use Rattle.record.specs.declared.Slot.the-variants.{Blank, Holds}
+use Rattle.record.specs.Slot.{recordSound, plannedRecord}
+
+-- A family's view of its records: each has a page and version, and links to a page and version; when a record is sound among P pages;
+-- and the record planned for a page in flight, which is of that page at its used version and links to the next page's.
+pub record View (X : Type 0) : Type 0 where
+  pub page : X → ℕ
+  pub version : X → ℕ
+  pub nextPage : X → ℕ
+  pub nextVersion : X → ℕ
+  pub sound : ℕ → X → Bool
+  pub planned : (page used committed next usedOfNext : ℕ) → X
+  pub planned-page : (p u c q n : ℕ) → page (planned p u c q n) ≡ p
+  pub planned-version : (p u c q n : ℕ) → version (planned p u c q n) ≡ u
+  pub planned-nextPage : (p u c q n : ℕ) → nextPage (planned p u c q n) ≡ q
+  pub planned-nextVersion : (p u c q n : ℕ) → nextVersion (planned p u c q n) ≡ n
+
+-- A record is exposed if its version is above its page's committed version, obsolete if below, committed if it is that version.
+abbrev pub Exposed : {X : Type 0} → View X → (ℕ → ℕ) → X → Type 0
+Exposed view comm r = comm (view .page r) < view .version r
+
+abbrev pub Obsolete : {X : Type 0} → View X → (ℕ → ℕ) → X → Type 0
+Obsolete view comm r = view .version r < comm (view .page r)
+
+abbrev pub IsCommitted : {X : Type 0} → View X → (ℕ → ℕ) → X → Type 0
+IsCommitted view comm r = view .version r ≡ comm (view .page r)
+
+-- r is the record of page p at version v
+abbrev pub IsAt : {X : Type 0} → View X → X → (p v : ℕ) → Type 0
+IsAt view r p v = (view .page r ≡ p) × (view .version r ≡ v)
+
+-- r links to t
+abbrev pub LinksTo : {X : Type 0} → View X → (r t : X) → Type 0
+LinksTo view r t = (view .page t ≡ view .nextPage r) × (view .version t ≡ view .nextVersion r)
+
+-- a record of the set that passes, or none does
+abbrev pub Search : {X : Type 0} → (X → List ℕ → Type 0) → (X → Type 0) → Type 0
+Search {X} R Q = ((r : X) × (b : List ℕ) × R r b × Q r) ⊎ ((r : X) (b : List ℕ) → R r b → Q r → ⊥)
+
+-- the set can be searched for any decidable property of a record
+abbrev pub Finds : {X : Type 0} → (X → List ℕ → Type 0) → Type 1
+Finds {X} R = (Q : X → Type 0) → ((r : X) → Dec (Q r)) → Search R Q
+
+-- ---- five-word records, in slots
+
+abbrev pub recordView : View Record
+unfolding plannedRecord
+recordView =
+    record {
+      page = λ r. r .p;
+      version = λ r. r .v;
+      nextPage = λ r. r .np;
+      nextVersion = λ r. r .nv;
+      sound = recordSound;
+      planned = plannedRecord;
+      planned-page = λ p u c q n. refl;
+      planned-version = λ p u c q n. refl;
+      planned-nextPage = λ p u c q n. refl;
+      planned-nextVersion = λ p u c q n. refl;
+    }
+
+-- the pairs in the S slots of the table t: some slot holds the record and has those bytes
+abbrev pub InSlots : (S : ℕ) (t : ℕ → Slot) (bytes : ℕ → List ℕ) → Record → List ℕ → Type 0
+InSlots S t bytes r b = (k : ℕ) × (k < S) × (t k ≡ Holds r) × (bytes k ≡ b)
+
+module _ (t : ℕ → Slot) (bytes : ℕ → List ℕ) (Q : Record → Type 0) (decide : (r : Record) → Dec (Q r)) where
+  SlotSearch : Slot → Type 0
+  SlotSearch s = ((r : Record) × (s ≡ Holds r) × Q r) ⊎ ((r : Record) → s ≡ Holds r → Q r → ⊥)
+
+  search-slot : (s : Slot) → SlotSearch s
+  unfolding SlotSearch
+  search-slot Blank = inr (λ r e q. let z : _≡_ {A = ℕ} 0 1 = cc in omega arith)
+  search-slot (Holds r) =
+      elim (decide r) [
+        | yes q ↦ inl (r, refl, q)
+        | no n ↦ inr (λ s e q. let w : s ≡ r = cc in n (subst Q w q))
+      ]
+
+  search-slots : (n : ℕ) → Search (InSlots n t bytes) Q
+  unfolding SlotSearch
+  search-slots zero = inr (λ r b w q. absurd (let l = w .1 in omega arith))
+  search-slots (suc n) = go (search-slots n) (search-slot (t n))
+    where
+      go : Search (InSlots n t bytes) Q → SlotSearch (t n) → Search (InSlots (suc n) t bytes) Q
+      go (inl w) here = inl (w .0, w .1, (w .2 .0, (let l = w .2 .1 in omega arith), w .2 .2, w .2 .3), w .3)
+      go (inr none) (inl w) = inl (w .0, bytes n, (n, omega arith, w .1, refl), w .2)
+      go (inr none) (inr not) =
+          inr (λ r b w q. below-suc (w .0) n (w .1)
+          (λ l. none r b (w .0, l, w .2, w .3) q)
+          (λ e. not r (ap t (sym e) ∙ w .2) q))
+
+pub finds-in-slots : (S : ℕ) (t : ℕ → Slot) (bytes : ℕ → List ℕ) → Finds (InSlots S t bytes)
+finds-in-slots S t bytes Q decide = search-slots t bytes Q decide S
