@@ -1,3 +1,4 @@
 pub mod View
 pub mod Shared
 pub mod BackPointer
+pub mod Colours
