@@ -1,3 +1,5 @@
 pub mod State
 pub mod Cycle
 pub mod Change
+pub mod StateLaws
+pub mod CycleLaws
