@@ -1,2 +1,4 @@
 pub mod Slot
+pub mod SlotLaws
 pub mod Flash
+pub mod FlashLaws

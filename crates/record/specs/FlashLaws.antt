@@ -1,0 +1,178 @@
+-- Storing or blanking slot k changes slot k to that record and bytes and no other slot; and what a list of steps leaves.
+use Prim.Native.Nat.{ℕ, suc, _*_, _≤_, _<_}
+use native.Mathlib.Omega.{arith}
+use mathlib.Core.Path.{_≡_, refl, sym, ap, _∙_, subst, fun-ext}
+use mathlib.Core.Logic.{⊎-elim}
+use mathlib.Core.List.{List, [], _∷_, _++_, map, List·Memᴰ, List·Memᴰ·head, List·Memᴰ·tail, List·Memᴰ·not-nil, List·Memᴰ·cases-cons}
+use lib.ListN.{length, getD, replicate, length-replicate}
+use Rattle.bounded.specs.Limits.{highestVersion}
+use Rattle.bounded.specs.Choice.{on-eq}
+use Rattle.bounded.specs.Parts.{part, putPart, update}
+use Rattle.bounded.specs.PartsLaws.{update-same, update-other, length-putPart, part-put-same, part-put-other}
+use Rattle.record.specs.declared.Record.{Record}
+use Rattle.record.specs.declared.Slot.{Slot}
+use Rattle.record.specs.declared.Slot.the-variants.{Blank, Holds}
+use Rattle.record.specs.Slot.{wordsOf, slotOf, slotAt, bytesAt, blankRecord}
+use Rattle.record.specs.SlotLaws.{words-length, slot-of-words, slot-of-blank}
+use Rattle.record.specs.Flash.{Flash, Step, putSlot, apply, applyAll}
+
+-- "The slot table has 5×S … words, the contents 32×S bytes", for w bytes a slot
+pub record Sized (w S : ℕ) (f : Flash) : Type 0 where
+  pub words-sized : length (f .words) ≡ 5 * S
+  pub contents-sized : length (f .contents) ≡ w * S
+
+-- ---- one part written
+
+-- writing part k of n changes the parts, as a function, at k alone
+pub parts-put : (w n k : ℕ) (s l : List ℕ) → k < n → length s ≡ w → length l ≡ w * n → (λ i. part w i (putPart w k s l)) ≡ update (λ i. part w i l) k s
+parts-put w n k s l h e q =
+    fun-ext (λ i. on-eq i k
+    (λ d. subst (λ (x : ℕ). part w x (putPart w k s l) ≡ update (λ i. part w i l) k s x) (sym d)
+    (part-put-same w n k s l h e q ∙ sym (update-same (λ i. part w i l) k s)))
+    (λ d. part-put-other w n k i s l h e q d ∙ sym (update-other (λ i. part w i l) k s i d)))
+
+-- a function of each value, after an update
+pub update-map : {A B : Type 0} (g : A → B) (f : ℕ → A) (k : ℕ) (x : A) → (λ i. g (update f k x i)) ≡ update (λ i. g (f i)) k (g x)
+update-map g f k x =
+    fun-ext (λ i. on-eq i k
+    (λ d. subst (λ (j : ℕ). g (update f k x j) ≡ update (λ i. g (f i)) k (g x) j) (sym d) (ap g (update-same f k x) ∙ sym (update-same (λ i. g (f i)) k (g x))))
+    (λ d. ap g (update-other f k x i d) ∙ sym (update-other (λ i. g (f i)) k (g x) i d)))
+
+-- the slots and the bytes after slot k's words or bytes are written
+pub slots-put : (S k : ℕ) (r : Record) (words : List ℕ) → k < S → length words ≡ 5 * S → slotAt (putPart 5 k (wordsOf r) words) ≡ update (slotAt words) k (slotOf (wordsOf r))
+unfolding slotAt
+slots-put S k r words h q =
+    ap {B = ℕ → Slot} (λ (t : ℕ → List ℕ) i. slotOf (t i)) (parts-put 5 S k (wordsOf r) words h (words-length r) q)
+    ∙ update-map slotOf (λ i. part 5 i words) k (wordsOf r)
+
+pub bytes-put : (w S k : ℕ) (bytes contents : List ℕ) → k < S → length bytes ≡ w → length contents ≡ w * S → bytesAt w (putPart w k bytes contents) ≡ update (bytesAt w contents) k bytes
+unfolding bytesAt
+bytes-put w S k bytes contents h e q = parts-put w S k bytes contents h e q
+
+-- ---- one step
+
+module _ (w S : ℕ) (f : Flash) (size : Sized w S f) (k : ℕ) (inside : k < S) where
+  module _ (r : Record) (bytes : List ℕ) (whole : length bytes ≡ w) where
+    -- each buffer keeps its length
+    pub put-sized : Sized w S (putSlot w f k r bytes)
+    unfolding putSlot
+    put-sized = record {
+      words-sized = length-putPart 5 S k (wordsOf r) (f .words) inside (words-length r) (size .words-sized) ∙ size .words-sized;
+      contents-sized = length-putPart w S k bytes (f .contents) inside whole (size .contents-sized) ∙ size .contents-sized;
+    }
+
+    pub store-sized : Sized w S (apply w f (Step.Store k r bytes))
+    unfolding apply
+    store-sized = put-sized
+
+    -- slot k holds the stored record, with the stored bytes; every other slot is as it was
+    pub store-slots : r .v ≤ highestVersion → slotAt (apply w f (Step.Store k r bytes) .words) ≡ update (slotAt (f .words)) k (Holds r)
+    unfolding apply putSlot
+    store-slots h =
+        slots-put S k r (f .words) inside (size .words-sized) ∙ ap (update (slotAt (f .words)) k) (slot-of-words r h)
+
+    pub store-bytes : bytesAt w (apply w f (Step.Store k r bytes) .contents) ≡ update (bytesAt w (f .contents)) k bytes
+    unfolding apply putSlot
+    store-bytes = bytes-put w S k bytes (f .contents) inside whole (size .contents-sized)
+
+  pub blank-sized : Sized w S (apply w f (Step.Blank k))
+  unfolding apply
+  blank-sized = put-sized blankRecord (replicate w 255) (length-replicate w 255)
+
+  -- slot k is blank with bytes 255; every other slot is as it was
+  pub blank-slots : slotAt (apply w f (Step.Blank k) .words) ≡ update (slotAt (f .words)) k Blank
+  unfolding apply putSlot
+  blank-slots =
+      slots-put S k blankRecord (f .words) inside (size .words-sized) ∙ ap (update (slotAt (f .words)) k) slot-of-blank
+
+  pub blank-bytes : bytesAt w (apply w f (Step.Blank k) .contents) ≡ update (bytesAt w (f .contents)) k (replicate w 255)
+  unfolding apply putSlot
+  blank-bytes = bytes-put w S k (replicate w 255) (f .contents) inside (length-replicate w 255) (size .contents-sized)
+
+-- equal tables have equal slots
+at-slot : {A : Type 0} {f g : ℕ → A} → f ≡ g → (i : ℕ) → f i ≡ g i
+at-slot {A} e i = ap (λ (t : ℕ → A). t i) e
+
+-- ---- a list of steps
+
+pub apply-append : (w : ℕ) (f : Flash) (first then : List Step) → applyAll w f (first ++ then) ≡ applyAll w (applyAll w f first) then
+unfolding applyAll
+apply-append w f [] then = refl
+apply-append w f (s ∷ first) then = apply-append w (apply w f s) first then
+
+-- slot i is "blank with bytes 255"
+pub record Blanked (w : ℕ) (f : Flash) (i : ℕ) : Type 0 where
+  pub slot-blank : slotAt (f .words) i ≡ Blank
+  pub bytes-blank : bytesAt w (f .contents) i ≡ replicate w 255
+
+-- slot i of g is as it is in f
+pub record SameSlot (w : ℕ) (f g : Flash) (i : ℕ) : Type 0 where
+  pub same-slot : slotAt (g .words) i ≡ slotAt (f .words) i
+  pub same-bytes : bytesAt w (g .contents) i ≡ bytesAt w (f .contents) i
+
+-- the members of a list are its entries by index
+pub members-below : (S : ℕ) (l : List ℕ) → ((i : ℕ) → i < length l → getD l i 0 < S) → (k : ℕ) → List·Memᴰ k l → k < S
+members-below S [] h k m = absurd (List·Memᴰ·not-nil m)
+members-below S (x ∷ l) h k m =
+    ⊎-elim
+    (λ e. let b : x < S = h 0 (omega arith) in omega arith)
+    (λ n. members-below S l (λ i b. h (suc i) (omega arith)) k n)
+    (List·Memᴰ·cases-cons m)
+
+module _ (w S : ℕ) where
+  -- one slot blanked: it is blanked, and every other is as it was
+  pub blank-here : (f : Flash) (k : ℕ) → Sized w S f → k < S → Blanked w (apply w f (Step.Blank k)) k
+  blank-here f k size h = record {
+    slot-blank = at-slot (blank-slots w S f size k h) k ∙ update-same (slotAt (f .words)) k Blank;
+    bytes-blank = at-slot (blank-bytes w S f size k h) k ∙ update-same (bytesAt w (f .contents)) k (replicate w 255);
+  }
+
+  pub blank-elsewhere : (f : Flash) (k i : ℕ) → Sized w S f → k < S → ¬ (i ≡ k) → SameSlot w f (apply w f (Step.Blank k)) i
+  blank-elsewhere f k i size h d = record {
+    same-slot = at-slot (blank-slots w S f size k h) i ∙ update-other (slotAt (f .words)) k Blank i d;
+    same-bytes = at-slot (blank-bytes w S f size k h) i ∙ update-other (bytesAt w (f .contents)) k (replicate w 255) i d;
+  }
+
+  -- a blanked slot stays so
+  blank-stays : (f : Flash) (k i : ℕ) → Sized w S f → k < S → Blanked w f i → Blanked w (apply w f (Step.Blank k)) i
+  blank-stays f k i size h b =
+      on-eq i k
+      (λ e. subst (Blanked w (apply w f (Step.Blank k))) (sym e) (blank-here f k size h))
+      (λ d. let s = blank-elsewhere f k i size h d in record { slot-blank = s .same-slot ∙ b .slot-blank; bytes-blank = s .same-bytes ∙ b .bytes-blank })
+
+  blanks-stay : (slots : List ℕ) (f : Flash) (i : ℕ) → Sized w S f → ((k : ℕ) → List·Memᴰ k slots → k < S) → Blanked w f i → Blanked w (applyAll w f (map Step.Blank slots)) i
+  unfolding applyAll
+  blanks-stay [] f i size inside b = b
+  blanks-stay (k ∷ slots) f i size inside b =
+      let h = inside k (List·Memᴰ·head refl) in
+      blanks-stay slots (apply w f (Step.Blank k)) i (blank-sized w S f size k h) (λ j m. inside j (List·Memᴰ·tail m)) (blank-stays f k i size h b)
+
+  -- a list of slots blanked: each buffer keeps its length
+  pub blanks-sized : (slots : List ℕ) (f : Flash) → Sized w S f → ((k : ℕ) → List·Memᴰ k slots → k < S) → Sized w S (applyAll w f (map Step.Blank slots))
+  unfolding applyAll
+  blanks-sized [] f size inside = size
+  blanks-sized (k ∷ slots) f size inside =
+      blanks-sized slots (apply w f (Step.Blank k)) (blank-sized w S f size k (inside k (List·Memᴰ·head refl))) (λ j m. inside j (List·Memᴰ·tail m))
+
+  -- a listed slot is blank with bytes 255
+  pub blanks-listed : (slots : List ℕ) (f : Flash) (i : ℕ) → Sized w S f → ((k : ℕ) → List·Memᴰ k slots → k < S) → List·Memᴰ i slots → Blanked w (applyAll w f (map Step.Blank slots)) i
+  unfolding applyAll
+  blanks-listed [] f i size inside m = absurd (List·Memᴰ·not-nil m)
+  blanks-listed (k ∷ slots) f i size inside m =
+      let h = inside k (List·Memᴰ·head refl) in
+      let size′ = blank-sized w S f size k h in
+      let inside′ : (j : ℕ) → List·Memᴰ j slots → j < S = λ j n. inside j (List·Memᴰ·tail n) in
+      ⊎-elim
+      (λ e. blanks-stay slots (apply w f (Step.Blank k)) i size′ inside′ (subst (Blanked w (apply w f (Step.Blank k))) (sym e) (blank-here f k size h)))
+      (λ n. blanks-listed slots (apply w f (Step.Blank k)) i size′ inside′ n)
+      (List·Memᴰ·cases-cons m)
+
+  -- a slot that is not listed is as it was
+  pub blanks-unlisted : (slots : List ℕ) (f : Flash) (i : ℕ) → Sized w S f → ((k : ℕ) → List·Memᴰ k slots → k < S) → ¬ List·Memᴰ i slots → SameSlot w f (applyAll w f (map Step.Blank slots)) i
+  unfolding applyAll
+  blanks-unlisted [] f i size inside m = record { same-slot = refl; same-bytes = refl }
+  blanks-unlisted (k ∷ slots) f i size inside m =
+      let h = inside k (List·Memᴰ·head refl) in
+      let one = blank-elsewhere f k i size h (λ e. m (List·Memᴰ·head e)) in
+      let rest = blanks-unlisted slots (apply w f (Step.Blank k)) i (blank-sized w S f size k h) (λ j n. inside j (List·Memᴰ·tail n)) (λ n. m (List·Memᴰ·tail n)) in
+      record { same-slot = rest .same-slot ∙ one .same-slot; same-bytes = rest .same-bytes ∙ one .same-bytes }

@@ -1,0 +1,224 @@
+-- What the tests of records and slots say, as facts; and that a slot's words and what it holds determine each other.
+use Prim.Native.Nat.{ℕ, _≤_, _<_}
+use native.Mathlib.Omega.{arith}
+use mathlib.Core.Path.{_≡_, refl, sym, ap, _∙_}
+use mathlib.Core.Logic.{_⊎_, inl, inr, _↔_}
+use mathlib.Core.List.{List, [], _∷_}
+use mathlib.Core.Bool.{Bool, true, false, not, _&&_, _||_, false≢true}
+use lib.Dec.{ltb, leb, eqb}
+use lib.ListN.{length, getD}
+use borrow.Author.Tests.{ltb-true, leb-true, eqb-true, lt-ltb, le-leb, eq-eqb, ne-eqb}
+use Rattle.bounded.specs.Limits.{noNumber, highestVersion}
+use Rattle.bounded.specs.Choice.{on-eq, on-test, never, both, both-left, both-right, either, either-left, either-right, not-no}
+use Rattle.bounded.specs.Below.{allBelow}
+use Rattle.bounded.specs.BelowLaws.{all-at, all-of, all-fails, some-of, some-at}
+use Rattle.record.specs.declared.Record.{Record}
+use Rattle.record.specs.declared.Slot.{Slot}
+use Rattle.record.specs.declared.Slot.the-variants.{Blank, Holds}
+use Rattle.record.specs.Slot.{wordsOf, recordOf, allBlank, slotOf, blankRecord, recordSound, holds, someRecord, straddles}
+
+-- ---- soundness
+
+-- "It is sound if p and np are below P, v, c and nv are at most 4,294,967,294, c is below v (or both are 0), and nv equals v where np equals p."
+pub record SoundRecord (P : ℕ) (r : Record) : Type 0 where
+  pub page-below : r .p < P
+  pub next-below : r .np < P
+  pub v-most : r .v ≤ highestVersion
+  pub c-most : r .c ≤ highestVersion
+  pub nv-most : r .nv ≤ highestVersion
+  pub c-before-v : (r .c < r .v) ⊎ ((r .c ≡ 0) × (r .v ≡ 0))
+  pub own-link : r .np ≡ r .p → r .nv ≡ r .v
+
+-- "c is below v (or both are 0)"
+backTest : ℕ → ℕ → Bool
+backTest c v = ltb c v || (eqb c 0 && eqb v 0)
+
+back-fact : (c v : ℕ) → backTest c v ≡ true → (c < v) ⊎ ((c ≡ 0) × (v ≡ 0))
+unfolding backTest
+back-fact c v e = pick (either (ltb c v) (eqb c 0 && eqb v 0) e)
+  where
+    pick : (ltb c v ≡ true) ⊎ ((eqb c 0 && eqb v 0) ≡ true) → (c < v) ⊎ ((c ≡ 0) × (v ≡ 0))
+    pick (inl h) = inl (ltb-true c v h)
+    pick (inr h) = inr (eqb-true c 0 (both-left (eqb c 0) (eqb v 0) h), eqb-true v 0 (both-right (eqb c 0) (eqb v 0) h))
+
+back-test : (c v : ℕ) → (c < v) ⊎ ((c ≡ 0) × (v ≡ 0)) → backTest c v ≡ true
+unfolding backTest
+back-test c v (inl h) = either-left (eqb c 0 && eqb v 0) (lt-ltb c v h)
+back-test c v (inr h) = either-right (ltb c v) (both (eq-eqb c 0 (h .0)) (eq-eqb v 0 (h .1)))
+
+-- "nv equals v where np equals p"
+ownTest : (np p nv v : ℕ) → Bool
+ownTest np p nv v = not (eqb np p) || eqb nv v
+
+own-fact : (np p nv v : ℕ) → ownTest np p nv v ≡ true → np ≡ p → nv ≡ v
+unfolding ownTest
+own-fact np p nv v e q = eqb-true nv v (rw (eq-eqb np p q) at e)
+
+own-test : (np p nv v : ℕ) → (np ≡ p → nv ≡ v) → ownTest np p nv v ≡ true
+unfolding ownTest
+own-test np p nv v f =
+    on-eq np p (λ q. either-right (not (eqb np p)) (eq-eqb nv v (f q))) (λ d. either-left (eqb nv v) (not-no (ne-eqb np p d)))
+
+module _ (P : ℕ) (r : Record) where
+  pub sound-facts : recordSound P r ≡ true → SoundRecord P r
+  unfolding recordSound backTest ownTest
+  sound-facts e0 =
+      let e1 = both-right (ltb (r .p) P) _ e0 in
+      let e2 = both-right (ltb (r .np) P) _ e1 in
+      let e3 = both-right (leb (r .v) highestVersion) _ e2 in
+      let e4 = both-right (leb (r .c) highestVersion) _ e3 in
+      let e5 = both-right (leb (r .nv) highestVersion) _ e4 in
+      record {
+        page-below = ltb-true _ _ (both-left (ltb (r .p) P) _ e0);
+        next-below = ltb-true _ _ (both-left (ltb (r .np) P) _ e1);
+        v-most = leb-true _ _ (both-left (leb (r .v) highestVersion) _ e2);
+        c-most = leb-true _ _ (both-left (leb (r .c) highestVersion) _ e3);
+        nv-most = leb-true _ _ (both-left (leb (r .nv) highestVersion) _ e4);
+        c-before-v = back-fact (r .c) (r .v) (both-left (backTest (r .c) (r .v)) (ownTest (r .np) (r .p) (r .nv) (r .v)) e5);
+        own-link = own-fact (r .np) (r .p) (r .nv) (r .v) (both-right (backTest (r .c) (r .v)) (ownTest (r .np) (r .p) (r .nv) (r .v)) e5);
+      }
+
+  pub sound-test : SoundRecord P r → recordSound P r ≡ true
+  unfolding recordSound backTest ownTest
+  sound-test s =
+      both (lt-ltb _ _ (s .page-below))
+      (both (lt-ltb _ _ (s .next-below))
+      (both (le-leb _ _ (s .v-most))
+      (both (le-leb _ _ (s .c-most))
+      (both (le-leb _ _ (s .nv-most))
+      (both (back-test (r .c) (r .v) (s .c-before-v)) (own-test (r .np) (r .p) (r .nv) (r .v) (s .own-link)))))))
+
+  -- the test is exactly document 01's sentence
+  pub sound-exactly : (recordSound P r ≡ true) ↔ SoundRecord P r
+  sound-exactly = (sound-facts, sound-test)
+
+-- ---- straddling
+
+-- "K straddles I's link if K.p = I.np and K.c < I.nv < K.v."
+pub record Straddles (K I : Record) : Type 0 where
+  pub at-next : K .p ≡ I .np
+  pub above-c : K .c < I .nv
+  pub below-v : I .nv < K .v
+
+module _ (K I : Record) where
+  pub straddles-facts : straddles K I ≡ true → Straddles K I
+  unfolding straddles
+  straddles-facts e =
+      let e1 = both-right (eqb (K .p) (I .np)) _ e in
+      record {
+        at-next = eqb-true _ _ (both-left (eqb (K .p) (I .np)) _ e);
+        above-c = ltb-true _ _ (both-left (ltb (K .c) (I .nv)) (ltb (I .nv) (K .v)) e1);
+        below-v = ltb-true _ _ (both-right (ltb (K .c) (I .nv)) (ltb (I .nv) (K .v)) e1);
+      }
+
+  pub straddles-test : Straddles K I → straddles K I ≡ true
+  unfolding straddles
+  straddles-test s = both (eq-eqb _ _ (s .at-next)) (both (lt-ltb _ _ (s .above-c)) (lt-ltb _ _ (s .below-v)))
+
+  pub straddles-exactly : (straddles K I ≡ true) ↔ Straddles K I
+  straddles-exactly = (straddles-facts, straddles-test)
+
+-- A sound record never straddles its own link: where np is p, nv is v.
+pub own-link-unstraddled : (P : ℕ) (r : Record) → recordSound P r ≡ true → straddles r r ≡ false
+own-link-unstraddled P r e =
+    on-test (straddles r r)
+    (λ t. let s = straddles-facts r r t in absurd (let q = sound-facts P r e .own-link (sym (s .at-next)) in omega arith))
+    (λ t. t)
+
+-- ---- the five words
+
+pub words-length : (r : Record) → length (wordsOf r) ≡ 5
+unfolding wordsOf
+words-length r = refl
+
+pub record-of-words : (r : Record) → recordOf (wordsOf r) ≡ r
+unfolding recordOf wordsOf
+record-of-words r = refl
+
+-- five words are those of the record that they are
+pub words-of-record : (ws : List ℕ) → length ws ≡ 5 → wordsOf (recordOf ws) ≡ ws
+unfolding wordsOf recordOf
+words-of-record [] e = absurd (omega arith)
+words-of-record (a ∷ []) e = absurd (omega arith)
+words-of-record (a ∷ b ∷ []) e = absurd (omega arith)
+words-of-record (a ∷ b ∷ c ∷ []) e = absurd (omega arith)
+words-of-record (a ∷ b ∷ c ∷ d ∷ []) e = absurd (omega arith)
+words-of-record (a ∷ b ∷ c ∷ d ∷ x ∷ []) e = refl
+words-of-record (a ∷ b ∷ c ∷ d ∷ x ∷ y ∷ ws) e = absurd (omega arith)
+
+-- ---- slots
+
+-- "A blank slot has 4,294,967,295 in all five words. Any other slot is a record."
+abbrev pub BlankWords : List ℕ → Type 0
+BlankWords ws = (i : ℕ) → i < 5 → getD ws i 0 ≡ noNumber
+
+module _ (ws : List ℕ) where
+  pub all-blank-exactly : (allBlank ws ≡ true) ↔ BlankWords ws
+  unfolding allBlank
+  all-blank-exactly = (
+    λ e i h. eqb-true _ _ (all-at (λ i. eqb (getD ws i 0) noNumber) 5 i e h),
+    λ f. all-of (λ i. eqb (getD ws i 0) noNumber) 5 (λ i h. eq-eqb _ _ (f i h)),
+  )
+
+  pub slot-blank : allBlank ws ≡ true → slotOf ws ≡ Blank
+  unfolding slotOf
+  slot-blank e = rw e
+
+  pub slot-holds : allBlank ws ≡ false → slotOf ws ≡ Holds (recordOf ws)
+  unfolding slotOf
+  slot-holds e = rw e
+
+  -- one word that is not 4,294,967,295 makes a slot a record
+  pub word-not-blank : (i : ℕ) → i < 5 → ¬ (getD ws i 0 ≡ noNumber) → allBlank ws ≡ false
+  unfolding allBlank
+  word-not-blank i h d = all-fails (λ i. eqb (getD ws i 0) noNumber) 5 i h (ne-eqb _ _ d)
+
+  pub slot-blank-exactly : (slotOf ws ≡ Blank) ↔ BlankWords ws
+  slot-blank-exactly = (
+    λ e. on-test (allBlank ws) (λ t. all-blank-exactly .0 t) (λ t. absurd (clash e (slot-holds t))),
+    λ f. slot-blank (all-blank-exactly .1 f),
+  )
+    where
+      clash : {s : Slot} {r : Record} → s ≡ Blank → s ≡ Holds r → ⊥
+      clash e h = let z : _≡_ {A = ℕ} 0 1 = cc in omega arith
+
+-- A record that is not blank in v is decoded from its words.
+pub slot-of-words : (r : Record) → r .v ≤ highestVersion → slotOf (wordsOf r) ≡ Holds r
+unfolding wordsOf
+slot-of-words r h =
+    slot-holds (wordsOf r) (word-not-blank (wordsOf r) 1 (omega arith) (λ e. omega arith)) ∙ ap Holds (record-of-words r)
+
+pub slot-of-blank : slotOf (wordsOf blankRecord) ≡ Blank
+unfolding slotOf wordsOf blankRecord allBlank allBelow
+slot-of-blank = refl
+
+-- ---- records in a table
+
+-- the slot holds a record that passes
+pub holds-exactly : (f : Record → Bool) (s : Slot) → (holds f s ≡ true) ↔ ((r : Record) × (s ≡ Holds r) × (f r ≡ true))
+unfolding holds
+holds-exactly f Blank = (λ e. absurd (false≢true e), λ w. absurd (let e = w .1 in let z : _≡_ {A = ℕ} 0 1 = cc in omega arith))
+holds-exactly f (Holds r) = (λ e. (r, refl, e), λ w. ap f (let e = w .1 in same e) ∙ w .2)
+  where
+    same : {a b : Record} → Holds a ≡ Holds b → a ≡ b
+    same e = cc
+
+-- some slot below S of the table t holds a record that passes
+abbrev pub SomeRecord : ℕ → (ℕ → Slot) → (Record → Bool) → Type 0
+SomeRecord S t f = (k : ℕ) × (r : Record) × (k < S) × (t k ≡ Holds r) × (f r ≡ true)
+
+module _ (S : ℕ) (t : ℕ → Slot) (f : Record → Bool) where
+  pub some-record-at : someRecord S t f ≡ true → SomeRecord S t f
+  unfolding someRecord
+  some-record-at e =
+      let w = some-at (λ k. holds f (t k)) S e in
+      let h = holds-exactly f (t (w .0)) .0 (w .2) in
+      (w .0, h .0, w .1, h .1, h .2)
+
+  pub some-record-of : SomeRecord S t f → someRecord S t f ≡ true
+  unfolding someRecord
+  some-record-of w = some-of (λ k. holds f (t k)) S (w .0) (w .2) (holds-exactly f (t (w .0)) .1 (w .1, w .3, w .4))
+
+  -- "some record …"
+  pub some-record-exactly : (someRecord S t f ≡ true) ↔ SomeRecord S t f
+  some-record-exactly = (some-record-at, some-record-of)
