@@ -4,14 +4,9 @@ use mathlib.Core.Path.{_≡_}
 use mathlib.Core.List.{List}
 use mathlib.Core.Logic.{_⊎_}
 use Rattle.record.specs.declared.Record.{Record}
+use Rattle.record.specs.SlotLaws.{Straddles}
 use Rattle.protocol.specs.View.{View, Exposed, IsCommitted, recordView}
 use Rattle.protocol.specs.Shared.{SharedCore, SharedLive}
-
--- K straddles I's link, as facts
-pub record Straddles (K I : Record) : Type 0 where
-  pub of-page : K .p ≡ I .np
-  pub from-below : K .c < I .nv
-  pub to-above : I .nv < K .v
 
 module _ (R : Record → List ℕ → Type 0) (comm : ℕ → ℕ) where
   pub record BackPointerCore : Type 0 where

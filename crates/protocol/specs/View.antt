@@ -53,8 +53,23 @@ Finds {X} R = (Q : X → Type 0) → ((r : X) → Dec (Q r)) → Search R Q
 
 -- ---- five-word records, in slots
 
-abbrev pub recordView : View Record
+pub planned-record-page : (p u c q n : ℕ) → plannedRecord p u c q n .p ≡ p
 unfolding plannedRecord
+planned-record-page p u c q n = refl
+
+pub planned-record-version : (p u c q n : ℕ) → plannedRecord p u c q n .v ≡ u
+unfolding plannedRecord
+planned-record-version p u c q n = refl
+
+pub planned-record-next : (p u c q n : ℕ) → plannedRecord p u c q n .np ≡ q
+unfolding plannedRecord
+planned-record-next p u c q n = refl
+
+pub planned-record-next-version : (p u c q n : ℕ) → plannedRecord p u c q n .nv ≡ n
+unfolding plannedRecord
+planned-record-next-version p u c q n = refl
+
+abbrev pub recordView : View Record
 recordView =
     record {
       page = λ r. r .p;
@@ -63,10 +78,10 @@ recordView =
       nextVersion = λ r. r .nv;
       sound = recordSound;
       planned = plannedRecord;
-      planned-page = λ p u c q n. refl;
-      planned-version = λ p u c q n. refl;
-      planned-nextPage = λ p u c q n. refl;
-      planned-nextVersion = λ p u c q n. refl;
+      planned-page = planned-record-page;
+      planned-version = planned-record-version;
+      planned-nextPage = planned-record-next;
+      planned-nextVersion = planned-record-next-version;
     }
 
 -- the pairs in the S slots of the table t: some slot holds the record and has those bytes
