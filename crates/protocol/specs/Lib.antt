@@ -5,3 +5,5 @@ pub mod BackPointer
 pub mod Colours
 pub mod Highest
 pub mod Recovers
+pub mod RecoverAnswers
+pub mod ReadsKept

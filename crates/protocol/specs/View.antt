@@ -88,6 +88,11 @@ recordView =
 abbrev pub InSlots : (S : ℕ) (t : ℕ → Slot) (bytes : ℕ → List ℕ) → Record → List ℕ → Type 0
 InSlots S t bytes r b = (k : ℕ) × (k < S) × (t k ≡ Holds r) × (bytes k ≡ b)
 
+-- no two slots hold records of equal page and version
+abbrev pub NoTwins : (S : ℕ) (t : ℕ → Slot) → Type 0
+NoTwins S t =
+    (j k : ℕ) (a b : Record) → j < S → k < S → t j ≡ Holds a → t k ≡ Holds b → a .p ≡ b .p → a .v ≡ b .v → j ≡ k
+
 module _ (t : ℕ → Slot) (bytes : ℕ → List ℕ) (Q : Record → Type 0) (decide : (r : Record) → Dec (Q r)) where
   SlotSearch : Slot → Type 0
   SlotSearch s = ((r : Record) × (s ≡ Holds r) × Q r) ⊎ ((r : Record) → s ≡ Holds r → Q r → ⊥)
