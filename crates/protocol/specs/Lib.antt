@@ -7,3 +7,4 @@ pub mod Highest
 pub mod Recovers
 pub mod RecoverAnswers
 pub mod ReadsKept
+pub mod SameSet

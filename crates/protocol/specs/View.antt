@@ -4,14 +4,15 @@ use native.Mathlib.Omega.{arith}
 use mathlib.Core.Path.{_≡_, refl, sym, ap, _∙_, subst}
 use mathlib.Core.List.{List}
 use mathlib.Core.Logic.{_⊎_, inl, inr}
-use mathlib.Core.Bool.{Bool}
+use mathlib.Core.Bool.{Bool, true}
 use Rattle.bounded.specs.BelowLaws.{below-suc}
 use Rattle.record.specs.declared.Record.{Record}
 use Rattle.record.specs.declared.Slot.{Slot}
 use Rattle.record.specs.declared.Slot.the-variants.{Blank, Holds}
 use Rattle.record.specs.Slot.{recordSound, plannedRecord}
+use Rattle.record.specs.SlotLaws.{sound-facts}
 
--- A family's view of its records: each has a page and version, and links to a page and version; when a record is sound among P pages;
+-- A family's view of its records: each has a page and version, and links to a page and version; when a record is sound among P pages, which both pages are then;
 -- and the record planned for a page in flight, which is of that page at its used version and links to the next page's.
 pub record View (X : Type 0) : Type 0 where
   pub page : X → ℕ
@@ -19,6 +20,8 @@ pub record View (X : Type 0) : Type 0 where
   pub nextPage : X → ℕ
   pub nextVersion : X → ℕ
   pub sound : ℕ → X → Bool
+  pub sound-page : (P : ℕ) (r : X) → sound P r ≡ true → page r < P
+  pub sound-next : (P : ℕ) (r : X) → sound P r ≡ true → nextPage r < P
   pub planned : (page used committed next usedOfNext : ℕ) → X
   pub planned-page : (p u c q n : ℕ) → page (planned p u c q n) ≡ p
   pub planned-version : (p u c q n : ℕ) → version (planned p u c q n) ≡ u
@@ -77,6 +80,8 @@ recordView =
       nextPage = λ r. r .np;
       nextVersion = λ r. r .nv;
       sound = recordSound;
+      sound-page = λ P r e. sound-facts P r e .page-below;
+      sound-next = λ P r e. sound-facts P r e .next-below;
       planned = plannedRecord;
       planned-page = planned-record-page;
       planned-version = planned-record-version;
