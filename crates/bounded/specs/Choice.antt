@@ -3,9 +3,10 @@ use Prim.Native.Nat.{ℕ, _≤_, _<_}
 use native.Mathlib.Omega.{arith}
 use native.Mathlib.Decide.{decLt, ℕ-discrete}
 use mathlib.Core.Path.{_≡_, refl, sym, _∙_}
-use mathlib.Core.Logic.{_⊎_, inl, inr}
+use mathlib.Core.Logic.{_⊎_, inl, inr, _↔_}
 use mathlib.Core.Bool.{Bool, true, false, not, _&&_, _||_, false≢true}
-use borrow.Author.Tests.{not-true, not-false}
+use lib.Dec.{ltb, eqb}
+use borrow.Author.Tests.{not-true, not-false, ltb-true, lt-ltb, eqb-true, eq-eqb}
 
 -- Case analysis: on a < b, on a ≡ b, and on a test.
 pub on-lt {ℓ} : {C : Type ℓ} (a b : ℕ) → (a < b → C) → (b ≤ a → C) → C
@@ -71,3 +72,28 @@ said-no {b} e h = sym e ∙ not-true b h
 
 pub said-yes : {b s : Bool} → b ≡ s → not b ≡ false → s ≡ true
 said-yes {b} e h = sym e ∙ not-false b h
+
+-- ---- tests that are exactly a proposition, put together
+pub negated : {A : Type 0} (b : Bool) → (b ≡ true) ↔ A → (not b ≡ true) ↔ (¬ A)
+negated b i =
+    (λ e a. never (i .1 a) (not-true b e), λ n. on-test b (λ e. absurd (n (i .0 e))) (λ e. not-no e))
+
+pub conjoined : {A B : Type 0} (a b : Bool) → (a ≡ true) ↔ A → (b ≡ true) ↔ B → ((a && b) ≡ true) ↔ (A × B)
+conjoined a b i j = (λ e. (i .0 (both-left a b e), j .0 (both-right a b e)), λ w. both (i .1 (w .0)) (j .1 (w .1)))
+
+pub disjoined : {A B : Type 0} (a b : Bool) → (a ≡ true) ↔ A → (b ≡ true) ↔ B → ((a || b) ≡ true) ↔ (A ⊎ B)
+disjoined {A} {B} a b i j = (λ e. by (either a b e), by2)
+  where
+    by : (a ≡ true) ⊎ (b ≡ true) → A ⊎ B
+    by (inl e) = inl (i .0 e)
+    by (inr e) = inr (j .0 e)
+
+    by2 : A ⊎ B → (a || b) ≡ true
+    by2 (inl x) = either-left b (i .1 x)
+    by2 (inr x) = either-right a (j .1 x)
+
+pub below-test : (a b : ℕ) → (ltb a b ≡ true) ↔ (a < b)
+below-test a b = (ltb-true a b, lt-ltb a b)
+
+pub equal-test : (a b : ℕ) → (eqb a b ≡ true) ↔ (a ≡ b)
+equal-test a b = (eqb-true a b, eq-eqb a b)

@@ -5,3 +5,4 @@ pub mod BelowLaws
 pub mod Parts
 pub mod PartsLaws
 pub mod Pigeonhole
+pub mod Computing

@@ -14,7 +14,7 @@ use Rattle.record.specs.declared.Slot.the-variants.{Blank, Holds}
 use Rattle.record.specs.Slot.{straddles, someRecord}
 use Rattle.record.specs.SlotLaws.{Straddles, straddles-facts, straddles-test, some-record-at, some-record-of}
 use Rattle.table.specs.Table.{highest, highestVersionOf, versionIn}
-use Rattle.protocol.specs.Needed.{highest-is, highest-held, highest-page, highest-above, highest-exists, has-record}
+use Rattle.table.specs.TableLaws.{highest-is, highest-held, highest-page, highest-above, highest-exists, has-record}
 use Rattle.recovery.specs.declared.Verdict.{Verdict}
 use Rattle.recovery.specs.declared.Verdict.the-variants as says
 use Rattle.recovery.specs.Verdict.{isStraddled, linkVerdict, slotVerdict, verdict}

@@ -26,7 +26,8 @@ use Rattle.protocol.specs.View.{InSlots, recordView}
 use Rattle.protocol.specs.Shared.{SharedCore, WithinUsed}
 use Rattle.protocol.specs.BackPointer.{Core}
 use Rattle.protocol.specs.RecoverAnswers.{table-sound, committed-there, recovered-is, found-within-used}
-use Rattle.protocol.specs.Needed.{lowest-holds, used-most}
+use Rattle.table.specs.TableLaws.{lowest-holds}
+use Rattle.protocol.specs.Needed.{used-most}
 
 -- a page at rest is not in flight
 at-rest : (c u : ℕ) → inFlight (atRest c u) ≡ false

@@ -24,7 +24,8 @@ use Rattle.protocol.specs.View.{InSlots, NoTwins, recordView}
 use Rattle.protocol.specs.Shared.{SharedCore, WithinUsed}
 use Rattle.protocol.specs.BackPointer.{Core}
 use Rattle.protocol.specs.Recovers.{Green, Red, coloured, walk-green, walk-red, committed-found}
-use Rattle.protocol.specs.Needed.{some-clash, has-record, has-version, used-above-version, used-above-next}
+use Rattle.table.specs.TableLaws.{some-clash, has-record, has-version}
+use Rattle.recovery.specs.RecoverLaws.{used-above-version, used-above-next}
 
 -- every record found is at most the used version that recovery finds
 pub found-within-used : (S : ℕ) (t : ℕ → Slot) (bytes : ℕ → List ℕ) → WithinUsed recordView (InSlots S t bytes) (usedOf S t)

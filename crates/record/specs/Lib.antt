@@ -2,3 +2,4 @@ pub mod Slot
 pub mod SlotLaws
 pub mod Flash
 pub mod FlashLaws
+pub mod Computing

@@ -1,5 +1,6 @@
 pub mod State
 pub mod Cycle
 pub mod Change
+pub mod Computing
 pub mod StateLaws
 pub mod CycleLaws

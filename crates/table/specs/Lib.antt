@@ -1,1 +1,4 @@
 pub mod Table
+pub mod TableLaws
+pub mod Given
+pub mod Computing

@@ -1,3 +1,6 @@
 pub mod Launch
 pub mod Write
 pub mod Withdraw
+pub mod CallLaws
+pub mod Computing
+pub mod Cases

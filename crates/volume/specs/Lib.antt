@@ -1,3 +1,6 @@
 pub mod Volume
 pub mod Format
 pub mod Read
+pub mod CallLaws
+pub mod Computing
+pub mod Cases

@@ -1,0 +1,1 @@
+// No code: the ★ cases as one table (specs/).

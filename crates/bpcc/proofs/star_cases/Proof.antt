@@ -1,0 +1,11 @@
+-- `bpcc::star_cases` meets its contract: the theorems are cited. Assumes nothing.
+use Rattle.volume.specs.Cases.{bound-rows}
+use Rattle.atomicity.specs.StarCases.{star-cases}
+use Rattle.bpcc.proofs.star_cases.Statement.{statement}
+use Rattle.bpcc.proofs.star_cases.Tie as tie
+
+returns : tie.Need-returns
+returns c = (star-cases, bound-rows)
+
+pub star-cases-spec : {M : Type 1} → statement M
+star-cases-spec = tie.close (tie.spec returns)
