@@ -8,3 +8,5 @@ pub mod Recovers
 pub mod RecoverAnswers
 pub mod ReadsKept
 pub mod SameSet
+pub mod Permitted
+pub mod Fewer

@@ -1,6 +1,7 @@
 -- What the invariant sees of the flash: the set of (record, contents) pairs that the slots hold, and of a record its page, version and link.
-use Prim.Native.Nat.{ℕ, zero, suc, _<_}
+use Prim.Native.Nat.{ℕ, zero, suc, _+_, _≤_, _<_}
 use native.Mathlib.Omega.{arith}
+use native.Mathlib.Decide.{decLt, ℕ-discrete}
 use mathlib.Core.Path.{_≡_, refl, sym, ap, _∙_, subst}
 use mathlib.Core.List.{List}
 use mathlib.Core.Logic.{_⊎_, inl, inr}
@@ -53,6 +54,33 @@ Search {X} R Q = ((r : X) × (b : List ℕ) × R r b × Q r) ⊎ ((r : X) (b : L
 -- the set can be searched for any decidable property of a record
 abbrev pub Finds : {X : Type 0} → (X → List ℕ → Type 0) → Type 1
 Finds {X} R = (Q : X → Type 0) → ((r : X) → Dec (Q r)) → Search R Q
+
+-- in a set that can be searched, among the records that pass and whose size is bounded one has the greatest
+module _ {X : Type 0} {R : X → List ℕ → Type 0} (finds : Finds R) (Q : X → Type 0) (decide : (r : X) → Dec (Q r)) (size : X → ℕ) (bound : ℕ) (bounded : (r : X) (b : List ℕ) → R r b → size r ≤ bound) where
+  abbrev pub Greatest : X → Type 0
+  Greatest r = (m : X) × (d : List ℕ) × R m d × Q m × (size r ≤ size m) × ((s : X) (b : List ℕ) → R s b → Q s → size m < size s → ⊥)
+
+  both-decided : (n : ℕ) (s : X) → Dec (Q s × (n < size s))
+  both-decided n s =
+      elim (decide s) [
+        | yes q ↦ elim (decLt n (size s)) [ yes l ↦ yes (q, l) | no l ↦ no (λ w. l (w .1)) ]
+        | no q ↦ no (λ w. q (w .0))
+      ]
+
+  greatest-within : (fuel : ℕ) (r : X) (b : List ℕ) → R r b → Q r → bound ≤ size r + fuel → Greatest r
+  greatest-within zero r b w q l =
+      (r, b, w, q, omega arith, λ s d u z g. let m = bounded s d u in omega arith)
+  greatest-within (suc n) r b w q l = go (finds (λ s. Q s × (size r < size s)) (both-decided (size r))) (λ s d. greatest-within n s d)
+    where
+      go : Search R (λ s. Q s × (size r < size s)) → ((s : X) (d : List ℕ) → R s d → Q s → bound ≤ size s + n → Greatest s) → Greatest r
+      go (inl f) rest =
+          let more = f .3 .1 in
+          let g = rest (f .0) (f .1) (f .2) (f .3 .0) (omega arith) in
+          (g .0, g .1, g .2, g .3, (let h = g .4 in omega arith), g .5)
+      go (inr none) rest = (r, b, w, q, omega arith, λ s d u z g. none s d u (z, g))
+
+  pub greatest : (r : X) (b : List ℕ) → R r b → Q r → Greatest r
+  greatest r b w q = greatest-within bound r b w q (omega arith)
 
 -- ---- five-word records, in slots
 
