@@ -1,0 +1,12 @@
+pub mod Needed
+pub mod View
+pub mod Shared
+pub mod BackPointer
+pub mod Colours
+pub mod Highest
+pub mod Recovers
+pub mod RecoverAnswers
+pub mod ReadsKept
+pub mod SameSet
+pub mod Permitted
+pub mod Fewer
