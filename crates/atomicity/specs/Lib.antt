@@ -6,3 +6,6 @@ pub mod Promise
 pub mod NotEmpty
 pub mod Computing
 pub mod Runs
+pub mod Rings
+pub mod Invariant
+pub mod Blanking
