@@ -3,3 +3,5 @@ pub mod Cycle
 pub mod Change
 pub mod StateLaws
 pub mod CycleLaws
+pub mod Walk
+pub mod WalkLaws
