@@ -2,6 +2,8 @@ pub mod State
 pub mod Cycle
 pub mod Change
 pub mod StateLaws
-pub mod CycleLaws
 pub mod Walk
+pub mod CycleLaws
 pub mod WalkLaws
+pub mod CompletionLaws
+pub mod LaunchLaws
