@@ -21,7 +21,7 @@ use Rattle.state.specs.Cycle.{along, onCycle, cycleWritten}
 use Rattle.state.specs.Change.{placeOf, following, launchedPage, launched, writtenPage, marked, completes, committedPage, completed, withdrawnPage, withdrawn, afterWrite}
 use Rattle.state.specs.CycleLaws.{Flies, along-zero, along-suc, along-front, along-flies, along-marked, next-apart, next-flies, lap-positive, lap-le, lap-home, lap-first, lap-apart, in-lap, on-cycle-of, on-cycle-at, on-cycle-lap, on-cycle-flies, on-cycle-refl, on-cycle-next, on-cycle-sym, on-cycle-same, on-cycle-marked}
 use Rattle.state.specs.WalkLaws.{steps-start, steps-next, steps-last, steps-below, steps-there, walkable-facts, walkable-flies, pages-in}
-use Rattle.state.specs.Walk.{pagesIn, lap, steps, walked, writtenTo, endedPage, launchedFirst, left, Walkable, Walking, Searching, Launchable}
+use Rattle.state.specs.Walk.{pagesIn, lap, steps, walked, writtenTo, endedPage, cycleEnded, launchedFirst, left, Walkable, Walking, Searching, Launchable}
 
 -- "If its whole ring is then written": each page but p is
 module _ (P : ℕ) (st : ℕ → PageState) (sound : StateFacts P st) (p : ℕ) (f : Flies P st p) where
@@ -163,3 +163,20 @@ module _ (P : ℕ) (words : List ℕ) (page : ℕ) (w : Walkable P words page) w
           let n = ap (steps P st (st page .next)) e ∙ steps-next P st facts (st page .next) next-flying at (h .on-cycle) (λ q. away (next-apart P st facts at page f flying q)) in
           let b = steps-below P st facts (st page .next) next-flying at (h .on-cycle) in
           omega arith
+
+  -- ---- the words after an accepted write
+
+  pub written-done : completes P (stateAt words) page ≡ true → (stored : List ℕ) → stored ≡ stateWords P (cycleEnded true P (stateAt words) page) → stored ≡ stateWords P (afterWrite P (stateAt words) page)
+  unfolding cycleEnded endedPage completed
+  written-done c stored e =
+      e
+      ∙ stateWords-cong P (completed P (stateAt words) page) (afterWrite P (stateAt words) page) (λ q l. sym (after-write-done P (stateAt words) facts page flying c q))
+
+  pub written-not : completes P (stateAt words) page ≡ false → (s t : PageState) (stored : List ℕ) → s ≡ stateAt words page → t ≡ writtenPage s → stored ≡ putPart 4 page (pageWords t) words → stored ≡ stateWords P (afterWrite P (stateAt words) page)
+  unfolding marked
+  written-not c s t stored read made put =
+      put
+      ∙ ap (λ (x : PageState). putPart 4 page (pageWords x) words) (made ∙ ap writtenPage read)
+      ∙ ap (putPart 4 page (pageWords (writtenPage (stateAt words page)))) (sym (stateWords-at P words (w .fits)))
+      ∙ put-stateWords P page (writtenPage (stateAt words page)) (stateAt words) (w .below)
+      ∙ stateWords-cong P (marked (stateAt words) page) (afterWrite P (stateAt words) page) (λ q l. sym (after-write-not P (stateAt words) facts page flying c q))
