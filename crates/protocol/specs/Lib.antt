@@ -10,3 +10,5 @@ pub mod ReadsKept
 pub mod SameSet
 pub mod Permitted
 pub mod Fewer
+pub mod Stored
+pub mod OneMore

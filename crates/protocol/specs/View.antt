@@ -100,6 +100,10 @@ pub planned-record-next-version : (p u c q n : ℕ) → plannedRecord p u c q n 
 unfolding plannedRecord
 planned-record-next-version p u c q n = refl
 
+pub planned-record-back : (p u c q n : ℕ) → plannedRecord p u c q n .c ≡ c
+unfolding plannedRecord
+planned-record-back p u c q n = refl
+
 abbrev pub recordView : View Record
 recordView =
     record {
