@@ -9,3 +9,6 @@ pub mod Runs
 pub mod Rings
 pub mod Invariant
 pub mod Blanking
+pub mod Rings
+pub mod RingLaws
+pub mod RingCycle
