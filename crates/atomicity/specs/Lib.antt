@@ -9,6 +9,5 @@ pub mod Runs
 pub mod Rings
 pub mod Invariant
 pub mod Blanking
-pub mod Rings
 pub mod RingLaws
 pub mod RingCycle
