@@ -11,3 +11,7 @@ pub mod Invariant
 pub mod Blanking
 pub mod RingLaws
 pub mod RingCycle
+pub mod Accepted
+pub mod EraseStep
+pub mod RecoverStep
+pub mod Storing
