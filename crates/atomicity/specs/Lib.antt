@@ -1,1 +1,13 @@
 pub mod StarCases
+pub mod Call
+pub mod Run
+pub mod Model
+pub mod Promise
+pub mod NotEmpty
+pub mod Computing
+pub mod Runs
+pub mod Rings
+pub mod Invariant
+pub mod Blanking
+pub mod RingLaws
+pub mod RingCycle

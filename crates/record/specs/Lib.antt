@@ -3,3 +3,4 @@ pub mod SlotLaws
 pub mod Flash
 pub mod FlashLaws
 pub mod Computing
+pub mod CopyLaws

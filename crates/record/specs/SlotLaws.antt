@@ -30,19 +30,19 @@ pub record SoundRecord (P : ℕ) (r : Record) : Type 0 where
   pub own-link : r .np ≡ r .p → r .nv ≡ r .v
 
 -- "c is below v (or both are 0)"
-backTest : ℕ → ℕ → Bool
-backTest c v = ltb c v || (eqb c 0 && eqb v 0)
+unfoldable pub cBeforeV : ℕ → ℕ → Bool
+cBeforeV c v = ltb c v || (eqb c 0 && eqb v 0)
 
-back-fact : (c v : ℕ) → backTest c v ≡ true → (c < v) ⊎ ((c ≡ 0) × (v ≡ 0))
-unfolding backTest
+back-fact : (c v : ℕ) → cBeforeV c v ≡ true → (c < v) ⊎ ((c ≡ 0) × (v ≡ 0))
+unfolding cBeforeV
 back-fact c v e = pick (either (ltb c v) (eqb c 0 && eqb v 0) e)
   where
     pick : (ltb c v ≡ true) ⊎ ((eqb c 0 && eqb v 0) ≡ true) → (c < v) ⊎ ((c ≡ 0) × (v ≡ 0))
     pick (inl h) = inl (ltb-true c v h)
     pick (inr h) = inr (eqb-true c 0 (both-left (eqb c 0) (eqb v 0) h), eqb-true v 0 (both-right (eqb c 0) (eqb v 0) h))
 
-back-test : (c v : ℕ) → (c < v) ⊎ ((c ≡ 0) × (v ≡ 0)) → backTest c v ≡ true
-unfolding backTest
+back-test : (c v : ℕ) → (c < v) ⊎ ((c ≡ 0) × (v ≡ 0)) → cBeforeV c v ≡ true
+unfolding cBeforeV
 back-test c v (inl h) = either-left (eqb c 0 && eqb v 0) (lt-ltb c v h)
 back-test c v (inr h) = either-right (ltb c v) (both (eq-eqb c 0 (h .0)) (eq-eqb v 0 (h .1)))
 
@@ -61,7 +61,7 @@ own-test np p nv v f =
 
 module _ (P : ℕ) (r : Record) where
   pub sound-facts : recordSound P r ≡ true → SoundRecord P r
-  unfolding recordSound backTest ownTest
+  unfolding recordSound cBeforeV ownTest
   sound-facts e0 =
       let e1 = both-right (ltb (r .p) P) _ e0 in
       let e2 = both-right (ltb (r .np) P) _ e1 in
@@ -74,12 +74,12 @@ module _ (P : ℕ) (r : Record) where
         v-most = leb-true _ _ (both-left (leb (r .v) highestVersion) _ e2);
         c-most = leb-true _ _ (both-left (leb (r .c) highestVersion) _ e3);
         nv-most = leb-true _ _ (both-left (leb (r .nv) highestVersion) _ e4);
-        c-before-v = back-fact (r .c) (r .v) (both-left (backTest (r .c) (r .v)) (ownTest (r .np) (r .p) (r .nv) (r .v)) e5);
-        own-link = own-fact (r .np) (r .p) (r .nv) (r .v) (both-right (backTest (r .c) (r .v)) (ownTest (r .np) (r .p) (r .nv) (r .v)) e5);
+        c-before-v = back-fact (r .c) (r .v) (both-left (cBeforeV (r .c) (r .v)) (ownTest (r .np) (r .p) (r .nv) (r .v)) e5);
+        own-link = own-fact (r .np) (r .p) (r .nv) (r .v) (both-right (cBeforeV (r .c) (r .v)) (ownTest (r .np) (r .p) (r .nv) (r .v)) e5);
       }
 
   pub sound-test : SoundRecord P r → recordSound P r ≡ true
-  unfolding recordSound backTest ownTest
+  unfolding recordSound cBeforeV ownTest
   sound-test s =
       both (lt-ltb _ _ (s .page-below))
       (both (lt-ltb _ _ (s .next-below))

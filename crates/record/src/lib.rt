@@ -1,4 +1,12 @@
-// Records and slots: the five words of a slot, and what stands in one. The definitions are in specs/.
+// Records and slots: the five words of a slot, what stands in one, and the one function that alters a slot.
+// The definitions are in specs/.
+ghost use mathlib.Core.Path.{_≡_};
+ghost use Prim.Native.Nat.{_+_, _*_, _≤_};
+ghost use lib.ListN.{length, replicate};
+ghost use Rattle.bounded.specs.Limits.{width};
+ghost use Rattle.bounded.specs.Parts.{putPart};
+ghost use Rattle.record.specs.SlotLaws.{cBeforeV};
+ghost use Rattle.record.specs.Slot.{wordsOf, allBlank, slotOf, slotAt, bytesAt, blankRecord, formattedRecord, plannedRecord, recordSound, slotSound, isBlank, straddles};
 
 // "The five words are the page p, its version v, its back pointer c (the page's last committed version at launch), the
 // next page np and its version nv."
@@ -14,4 +22,221 @@ pub struct Record {
 pub enum Slot {
     Blank,
     Holds(Record),
+}
+
+// "c is below v (or both are 0)"
+fn c_before_v(c: u32, v: u32) -> bool
+    ensures { λ r. ⌜ r ≡ cBeforeV c v ⌝ }
+{
+    if c < v {
+        return true;
+    }
+    if c != 0 {
+        return false;
+    }
+    v == 0
+}
+
+impl Record {
+    // "A blank slot has 4,294,967,295 in all five words."
+    pub const BLANK: Record = Record {
+        p: 4294967295,
+        v: 4294967295,
+        c: 4294967295,
+        np: 4294967295,
+        nv: 4294967295,
+    };
+
+    // The record of a page at format.
+    pub fn formatted(page: u32) -> Record
+        ensures { λ r. ⌜ r ≡ formattedRecord page ⌝ }
+    {
+        Record {
+            p: page,
+            v: 0,
+            c: 0,
+            np: page,
+            nv: 0,
+        }
+    }
+
+    // The record that a write stores: v is used, c committed, nv the next page's used.
+    pub fn planned(page: u32, used: u32, committed: u32, next: u32, next_used: u32) -> Record
+        ensures { λ r. ⌜ r ≡ plannedRecord page used committed next «next_used» ⌝ }
+    {
+        Record {
+            p: page,
+            v: used,
+            c: committed,
+            np: next,
+            nv: next_used,
+        }
+    }
+
+    // The five words are those of a blank slot.
+    pub fn is_blank(self) -> bool
+        ensures { λ r. ⌜ r ≡ allBlank (wordsOf self) ⌝ }
+    {
+        let blank = Record::BLANK;
+        if self.p != blank.p {
+            return false;
+        }
+        if self.v != blank.v {
+            return false;
+        }
+        if self.c != blank.c {
+            return false;
+        }
+        if self.np != blank.np {
+            return false;
+        }
+        self.nv == blank.nv
+    }
+
+    pub fn is_sound(self, pages: u32) -> bool
+        ensures { λ r. ⌜ r ≡ recordSound pages self ⌝ }
+    {
+        if self.p >= pages {
+            return false;
+        }
+        if self.np >= pages {
+            return false;
+        }
+        if self.v > 4294967294 {
+            return false;
+        }
+        if self.c > 4294967294 {
+            return false;
+        }
+        if self.nv > 4294967294 {
+            return false;
+        }
+        if !c_before_v(self.c, self.v) {
+            return false;
+        }
+        if self.np != self.p {
+            return true;
+        }
+        self.nv == self.v
+    }
+
+    // This record straddles the other's link.
+    pub fn straddles(self, other: Record) -> bool
+        ensures { λ r. ⌜ r ≡ straddles self other ⌝ }
+    {
+        if self.p != other.np {
+            return false;
+        }
+        if self.c >= other.nv {
+            return false;
+        }
+        other.nv < self.v
+    }
+}
+
+impl Slot {
+    // A slot's five words, decoded.
+    pub fn decode(words: &[u32]) -> Slot
+        requires { ⌜ length (now words) ≡ 5 ⌝ }
+        ensures { λ r. ⌜ r ≡ slotOf (now (words .entry)) ⌝ }
+    {
+        let record = Record {
+            p: words[0],
+            v: words[1],
+            c: words[2],
+            np: words[3],
+            nv: words[4],
+        };
+        if record.is_blank() {
+            return Slot::Blank;
+        }
+        Slot::Holds(record)
+    }
+
+    // The slot is blank or holds a sound record.
+    pub fn is_sound(self, pages: u32) -> bool
+        ensures { λ r. ⌜ r ≡ slotSound pages self ⌝ }
+    {
+        let Slot::Holds(record) = self else {
+            return true;
+        };
+        record.is_sound(pages)
+    }
+
+    pub fn is_blank(self) -> bool
+        ensures { λ r. ⌜ r ≡ isBlank self ⌝ }
+    {
+        match self {
+            Slot::Blank => true,
+            Slot::Holds(_) => false,
+        }
+    }
+}
+
+// What stands in a slot of the table: "Slot k has words 5k to 5k+4".
+pub fn slot_at(words: &[u32], slot: u32) -> Slot
+    requires { ⌜ 5 * slot + 5 ≤ length (now words) ⌝ }
+    ensures { λ r. ⌜ r ≡ slotAt (now (words .entry)) slot ⌝ }
+{
+    let a = 5 * (slot as usize);
+    Slot::decode(&words[a..a + 5])
+}
+
+// The record writer: the record's words into a slot's five.
+fn store_record(part: &mut [u32], record: Record)
+    requires { ⌜ length (now part) ≡ 5 ⌝ }
+    ensures { λ _. ⌜ now (part .exit) ≡ wordsOf «record» ⌝ }
+{
+    part[0] = record.p;
+    part[1] = record.v;
+    part[2] = record.c;
+    part[3] = record.np;
+    part[4] = record.nv;
+}
+
+// The contents copier: one slot's bytes, from one slice into another of the same length.
+fn copy_contents(to: &mut [u8], from: &[u8])
+    requires { ⌜ length (now to) ≡ length (now from) ⌝ }
+    ensures { λ _. ⌜ now (to .exit) ≡ now (from .entry) ⌝ }
+{
+    let mut i = 0;
+    while i < from.len() {
+        to[i] = from[i];
+        i += 1;
+    }
+}
+
+// One flash step: the slot's five words become the record's, and its bytes those given. Nothing else alters flash after format.
+pub fn put_slot(words: &mut [u32], contents: &mut [u8], slot: u32, record: Record, bytes: &[u8])
+    requires { ⌜ 5 * slot + 5 ≤ length (now words) ⌝ }
+    requires { ⌜ length (now bytes) * slot + length (now bytes) ≤ length (now contents) ⌝ }
+    ensures { λ _. ⌜ now (words .exit) ≡ putPart 5 slot (wordsOf «record») (now (words .entry)) ⌝ }
+    ensures { λ _. ⌜ now (contents .exit) ≡ putPart (length (now (bytes .entry))) slot (now (bytes .entry)) (now (contents .entry)) ⌝ }
+{
+    let a = 5 * (slot as usize);
+    let w = bytes.len();
+    let b = w * (slot as usize);
+    store_record(&mut words[a..a + 5], record);
+    copy_contents(&mut contents[b..b + w], bytes);
+}
+
+// A slot blanked: all five words 4,294,967,295, "with bytes 255".
+pub fn blank_slot(words: &mut [u32], contents: &mut [u8], slot: u32)
+    requires { ⌜ 5 * slot + 5 ≤ length (now words) ⌝ }
+    requires { ⌜ width * slot + width ≤ length (now contents) ⌝ }
+    ensures { λ _. ⌜ now (words .exit) ≡ putPart 5 slot (wordsOf blankRecord) (now (words .entry)) ⌝ }
+    ensures { λ _. ⌜ now (contents .exit) ≡ putPart width slot (replicate width 255) (now (contents .entry)) ⌝ }
+{
+    let bytes = [255u8; 32];
+    put_slot(words, contents, slot, Record::BLANK, &bytes);
+}
+
+// A slot's bytes, copied out: bytes wk to wk+w-1, where w is the length of `out`.
+pub fn read_slot(contents: &[u8], slot: u32, out: &mut [u8])
+    requires { ⌜ length (now out) * slot + length (now out) ≤ length (now contents) ⌝ }
+    ensures { λ _. ⌜ now (out .exit) ≡ bytesAt (length (now (out .entry))) (now (contents .entry)) slot ⌝ }
+{
+    let w = out.len();
+    let b = w * (slot as usize);
+    copy_contents(&mut *out, &contents[b..b + w]);
 }

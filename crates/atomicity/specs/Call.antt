@@ -1,0 +1,49 @@
+-- A call of a run with its arguments, and what it gives and leaves: by the outcome definitions that the calls' contracts cite.
+use Prim.Native.Nat.{ℕ, zero, suc}
+use mathlib.Core.List.{List, [], _∷_}
+use mathlib.Core.Bool.{Bool, true, false, cond}
+use lib.Dec.{eqb}
+use Rattle.outcome.specs.Outcome.{Outcome}
+use Rattle.record.specs.Flash.{Flash, Step}
+use Rattle.state.specs.State.{stateAt}
+use Rattle.volume.specs.Volume.{Volume}
+use Rattle.transact.specs.Launch.{launchOutcome}
+use Rattle.transact.specs.Write.{writeStep, writeOutcome}
+use Rattle.transact.specs.Withdraw.{withdrawOutcome}
+use Rattle.collect.specs.Erase.{eraseSteps, eraseOutcome}
+use Rattle.recovery.specs.Recover.{recoverOutcome}
+
+-- "It holds launch, write, withdraw, erase and recover, with any pages, slots, lists and bytes"
+pub data Call : Type 0 where
+  Launch : (pages : List ℕ) → Call
+  Write : (page slot : ℕ) (bytes : List ℕ) → Call
+  Withdraw : (page : ℕ) → Call
+  Erase : (slots : List ℕ) → Call
+  Recover : Call
+
+-- the volume's outcome where a call alters the state alone; and where it alters the flash alone
+unfoldable pub withState : Volume → Outcome (List ℕ) → Outcome Volume
+withState v o = record { answer = o .answer; second = o .second; left = record { flash = v .flash; state = o .left } }
+
+unfoldable pub withFlash : Volume → Outcome Flash → Outcome Volume
+withFlash v o = record { answer = o .answer; second = o .second; left = record { flash = o .left; state = v .state } }
+
+-- what the call gives and leaves of the volume
+unfoldable pub perform : (w P S : ℕ) → Volume → Call → Outcome Volume
+perform w P S v (Launch pages) = withState v (launchOutcome P S (v .state) pages)
+perform w P S v (Write page slot bytes) = writeOutcome w P S v page slot bytes
+perform w P S v (Withdraw page) = withState v (withdrawOutcome P S (v .state) page)
+perform w P S v (Erase slots) = withFlash v (eraseOutcome w P S v slots)
+perform w P S v Recover = withState v (recoverOutcome P S (v .flash .words) (v .state))
+
+-- the single flash steps of the call, were it accepted
+unfoldable pub plannedSteps : Volume → Call → List Step
+plannedSteps v (Launch pages) = []
+plannedSteps v (Write page slot bytes) = writeStep (stateAt (v .state)) page slot bytes ∷ []
+plannedSteps v (Withdraw page) = []
+plannedSteps v (Erase slots) = eraseSteps slots
+plannedSteps v Recover = []
+
+-- the flash steps that the call does: none where it is refused
+unfoldable pub flashSteps : (w P S : ℕ) → Volume → Call → List Step
+flashSteps w P S v call = cond (eqb (perform w P S v call .answer) 0) (plannedSteps v call) []

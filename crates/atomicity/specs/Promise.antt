@@ -1,0 +1,63 @@
+-- Promise 3, stated.
+use Prim.Native.Nat.{ℕ, zero, suc, _*_, _<_}
+use mathlib.Core.Path.{_≡_}
+use mathlib.Core.List.{List, [], _∷_}
+use mathlib.Core.Bool.{Bool, true, false, _&&_}
+use lib.Dec.{eqb}
+use lib.ListN.{length}
+use Rattle.outcome.specs.Outcome.{Outcome}
+use Rattle.record.specs.Flash.{Flash}
+use Rattle.volume.specs.Volume.{Volume}
+use Rattle.volume.specs.Format.{formatOutcome}
+use Rattle.volume.specs.Read.{readOutcome}
+use Rattle.recovery.specs.Recover.{recoverOutcome}
+use Rattle.atomicity.specs.Call.{Call, perform}
+use Rattle.atomicity.specs.Run.{Event, World, happens, started, after, keepsPremises}
+use Rattle.atomicity.specs.Model.{Told, Model, freshModel, learns}
+
+-- what the model is told of a crash in a call: of a write, whether its slot was stored (it would be accepted, and its one step was done)
+unfoldable pub toldOfCrash : Call → (answer : ℕ) → (ℕ → Bool) → Told
+toldOfCrash (Call.Launch pages) answer done = Told.Crashed
+toldOfCrash (Call.Write page slot bytes) answer done = Told.CrashedWrite page bytes (eqb answer 0 && done 0)
+toldOfCrash (Call.Withdraw page) answer done = Told.Crashed
+toldOfCrash (Call.Erase slots) answer done = Told.Crashed
+toldOfCrash Call.Recover answer done = Told.Crashed
+
+-- what the model is told of an event
+unfoldable pub told : (w P S : ℕ) → World → Event → Told
+told w P S x (Event.Returns call) = Told.Answered call (perform w P S (x .volume) call .answer)
+told w P S x (Event.CrashIn call done state) = toldOfCrash call (perform w P S (x .volume) call .answer) done
+told w P S x (Event.Crash state) = Told.Crashed
+
+-- the model after a list of events
+unfoldable pub modelAfter : (w P S : ℕ) → World → Model → List Event → Model
+modelAfter w P S x m [] = m
+modelAfter w P S x m (e ∷ events) = modelAfter w P S (happens w P S x e) (learns m (told w P S x e)) events
+
+-- "After the list recover answers 0, and Read of each page, on the sheet so filled, answers 0 and copies exactly the ledger's kept contents of
+-- that page": on any state words of the right number, and into any slice of the right length.
+pub record Recovers (w P S : ℕ) (f : Flash) (kept : ℕ → List ℕ) (state : List ℕ) : Type 0 where
+  pub recover-answers : recoverOutcome P S (f .words) state .answer ≡ 0
+  pub reads-kept :
+      (page : ℕ) (out : List ℕ)
+      → page < P
+      → length out ≡ w
+      → readOutcome w P S (record { flash = f; state = recoverOutcome P S (f .words) state .left }) page out
+      ≡ record { answer = 0; second = 0; left = kept page }
+
+-- What a list of events is held to: these are all the premises of promise 3. (That the volume's size stays, that every call is lent this volume's
+-- own flash and state as the last call or crash left them, that only these calls alter them, and what a crash may leave, is how `after` runs a list.)
+pub record Premises (w P S : ℕ) (v : Volume) (events : List Event) : Type 0 where
+  -- "The list starts from the flash and sheet that an accepted format leaves", whatever the lent buffers held.
+  pub formatted : formatOutcome w P S v .answer ≡ 0
+  -- "after a cut no call but recovery comes until one has answered 0", and the state has its 4×P words after a crash.
+  pub keeps : keepsPremises w P S (started w P S v) events ≡ true
+
+-- Promise 3: for every width, every P and S, and every list of events under the premises, and on any state words of the right number.
+abbrev pub Promise3 : Type 0
+Promise3 =
+    (w P S : ℕ) (v : Volume) (events : List Event)
+    → Premises w P S v events
+    → (state : List ℕ)
+    → length state ≡ 4 * P
+    → Recovers w P S (after w P S (started w P S v) events .volume .flash) (modelAfter w P S (started w P S v) (freshModel w) events .kept) state

@@ -1,0 +1,156 @@
+-- Where the open rings match the state: a page's ring is its cycle, and what is entered for a page.
+use Prim.Native.Nat.{ℕ, zero, suc, _+_, _≤_, _<_}
+use native.Mathlib.Omega.{arith}
+use native.Mathlib.Numerals.{add-one}
+use mathlib.Core.Path.{_≡_, refl, sym, ap, _∙_, subst}
+use mathlib.Core.Logic.{_↔_}
+use mathlib.Core.List.{List, [], _∷_, List·Memᴰ, List·Memᴰ·head, List·Memᴰ·tail}
+use mathlib.Core.Bool.{Bool, true, false, cond}
+use lib.Dec.{ltb}
+use lib.ListN.{length, getD}
+use borrow.Author.Tests.{lt-ltb, le-ltb}
+use Rattle.bounded.specs.Choice.{on-lt, never, same-test}
+use Rattle.state.specs.declared.PageState.{PageState}
+use Rattle.state.specs.State.{inFlight, isWritten}
+use Rattle.state.specs.StateLaws.{StateFacts}
+use Rattle.state.specs.Cycle.{along, onCycle, cycleWritten}
+use Rattle.state.specs.Change.{following}
+use Rattle.state.specs.CycleLaws.{Flies, along-zero, along-suc, on-cycle-of, on-cycle-at, on-cycle-sym, on-cycle-trans, on-cycle-flies, cycle-written-at, cycle-written-of}
+use Rattle.atomicity.specs.Model.{Entry, pageOf, hasBytes, inRing, allEntered}
+use Rattle.atomicity.specs.Rings.{pagesOf, inRings, ringOf, IsEntered, RunsRound, RingMatches, RingsMatch}
+use Rattle.atomicity.specs.RingLaws.{in-ring-place, place-in-ring, in-ring-entry, entry-in-ring, one-entry, all-entered-at, all-entered-of, ring-in-rings, ring-of-page, ring-of-only, entered-in-ring}
+
+-- ---- the following page of a list
+
+pub following-inner : (pages : List ℕ) (i : ℕ) → suc i < length pages → following pages i ≡ getD pages (suc i) 0
+unfolding following
+following-inner pages i l = rw (add-one, lt-ltb (suc i) (length pages) l)
+
+-- it is listed
+pub following-place : (pages : List ℕ) (i : ℕ) → i < length pages → (j : ℕ) × (j < length pages) × (getD pages j 0 ≡ following pages i)
+unfolding following
+following-place pages i l =
+    on-lt (i + 1) (length pages)
+    (λ h. (i + 1, h, rw (lt-ltb (i + 1) (length pages) h)))
+    (λ h. (0, omega arith, rw (le-ltb (i + 1) (length pages) h)))
+
+-- ---- a ring that matches is the cycle of each of its pages
+
+module _ (P : ℕ) (st : ℕ → PageState) (ring : List Entry) (runs : RunsRound P st (pagesOf ring)) where
+  pub ring-flies : (p : ℕ) → inRing p ring ≡ true → Flies P st p
+  ring-flies p e =
+      let w = in-ring-place p ring e in
+      subst (λ (x : ℕ). Flies P st x) (w .2) (runs .flying (w .0) (w .1))
+
+  -- closed under next
+  pub ring-next : (p : ℕ) → inRing p ring ≡ true → inRing (st p .next) ring ≡ true
+  ring-next p e =
+      let w = in-ring-place p ring e in
+      let f = following-place (pagesOf ring) (w .0) (w .1) in
+      place-in-ring (st p .next) ring (f .0) (f .1)
+      (f .2 ∙ sym (runs .linked (w .0) (w .1)) ∙ ap (λ (x : ℕ). st x .next) (w .2))
+
+  pub ring-along : (p k : ℕ) → inRing p ring ≡ true → inRing (along st p k) ring ≡ true
+  unfolding along
+  ring-along p zero e = e
+  ring-along p (suc k) e = ring-next (along st p k) (ring-along p k e)
+
+  -- the first page's walk is the list
+  pub along-list : (i : ℕ) → i < length (pagesOf ring) → along st (getD (pagesOf ring) 0 0) i ≡ getD (pagesOf ring) i 0
+  unfolding along
+  along-list zero l = refl
+  along-list (suc i) l =
+      ap (λ (x : ℕ). st x .next) (along-list i (omega arith))
+      ∙ runs .linked i (omega arith)
+      ∙ following-inner (pagesOf ring) i l
+
+  pub ring-cycle : StateFacts P st → (p : ℕ) → inRing p ring ≡ true → (q : ℕ) → inRing q ring ≡ onCycle P st p q
+  ring-cycle sound p e q =
+      same-test (inRing q ring) (onCycle P st p q)
+      (λ h. on-cycle-trans P st sound p first q (ring-flies p e) (on-cycle-sym P st sound first p flies (from-first p e)) (from-first q h))
+      (λ h. let w = on-cycle-at P st sound p (ring-flies p e) q h in
+      subst (λ (x : ℕ). inRing x ring ≡ true) (w .1) (ring-along p (w .0) e))
+    where
+      first : ℕ
+      first = getD (pagesOf ring) 0 0
+
+      flies : Flies P st first
+      flies = runs .flying 0 (runs .not-empty)
+
+      from-first : (r : ℕ) → inRing r ring ≡ true → onCycle P st first r ≡ true
+      from-first r h =
+          let w = in-ring-place r ring h in
+          on-cycle-of P st sound first flies (w .0) r (along-list (w .0) (w .1) ∙ w .2)
+
+-- "all pages of that ring have bytes" is "its whole ring is written"
+pub all-entered-written : (P : ℕ) (st : ℕ → PageState) (ring : List Entry) → RingMatches P st ring → StateFacts P st → (p : ℕ) → inRing p ring ≡ true → allEntered ring ≡ cycleWritten P st p
+all-entered-written P st ring m sound p e =
+    same-test (allEntered ring) (cycleWritten P st p)
+    (λ a. cycle-written-of P st sound p flies
+    (λ q l on. let w = in-ring-entry q ring (ring-cycle P st ring (m .runs) sound p e q ∙ on) in
+    ap (λ (x : ℕ). isWritten (st x)) (sym (w .2)) ∙ m .written (w .0) (w .1) ∙ all-entered-at ring a (w .0) (w .1)))
+    (λ c. all-entered-of ring
+    (λ x s. sym (m .written x s) ∙ cycle-written-at P st sound p (pageOf x) flies c (sym (ring-cycle P st ring (m .runs) sound p e (pageOf x)) ∙ entry-in-ring x ring s)))
+  where
+    flies : Flies P st p
+    flies = ring-flies P st ring (m .runs) p e
+
+-- ---- the open rings
+
+module _ (P : ℕ) (st : ℕ → PageState) (rings : List (List Entry)) (match : RingsMatch P st rings) where
+  -- every page of an open ring is in flight
+  pub rings-fly : (p : ℕ) → inRings p rings ≡ true → Flies P st p
+  rings-fly p e =
+      let w = ring-of-page p rings e in
+      ring-flies P st (ringOf p rings) (match .each (ringOf p rings) (w .0) .runs) p (w .1)
+
+  pub ring-of-matches : (p : ℕ) → Flies P st p → RingMatches P st (ringOf p rings)
+  ring-of-matches p f = match .each (ringOf p rings) (ring-of-page p rings (match .covered p f) .0)
+
+  pub ring-of-has : (p : ℕ) → Flies P st p → inRing p (ringOf p rings) ≡ true
+  ring-of-has p f = ring-of-page p rings (match .covered p f) .1
+
+  -- the ring of a page in flight has exactly the pages on its cycle
+  pub ring-of-cycle : StateFacts P st → (p : ℕ) → Flies P st p → (q : ℕ) → inRing q (ringOf p rings) ≡ onCycle P st p q
+  ring-of-cycle sound p f q = ring-cycle P st (ringOf p rings) (ring-of-matches p f .runs) sound p (ring-of-has p f) q
+
+  -- ---- what is entered for a page
+
+  pub entered-in-rings : (p : ℕ) (b : List ℕ) → IsEntered rings p b → inRings p rings ≡ true
+  unfolding pageOf
+  entered-in-rings p b w = ring-in-rings p (w .0) rings (w .1) (entry-in-ring (Entry.Entered p b) (w .0) (w .2))
+
+  pub entered-flies : (p : ℕ) (b : List ℕ) → IsEntered rings p b → Flies P st p
+  entered-flies p b w = rings-fly p (entered-in-rings p b w)
+
+  pub entered-written : (p : ℕ) (b : List ℕ) → IsEntered rings p b → isWritten (st p) ≡ true
+  unfolding pageOf hasBytes
+  entered-written p b w = match .each (w .0) (w .1) .written (Entry.Entered p b) (w .2)
+
+  pub unwritten-not-entered : (p : ℕ) → isWritten (st p) ≡ false → (b : List ℕ) → ¬ IsEntered rings p b
+  unwritten-not-entered p e b w = never (entered-written p b w) e
+
+  pub written-entered : (p : ℕ) → Flies P st p → isWritten (st p) ≡ true → (b : List ℕ) × IsEntered rings p b
+  unfolding pageOf hasBytes
+  written-entered p f e =
+      let r = ring-of-page p rings (match .covered p f) in
+      let w = in-ring-entry p (ringOf p rings) (r .1) in
+      go (w .0) (w .1) (w .2)
+    where
+      go : (x : Entry) → List·Memᴰ x (ringOf p rings) → pageOf x ≡ p → (b : List ℕ) × IsEntered rings p b
+      go (Entry.Empty q) m h =
+          absurd (never (ap (λ (x : ℕ). isWritten (st x)) h ∙ e) (ring-of-matches p f .written (Entry.Empty q) m))
+      go (Entry.Entered q b) m h =
+          (b, (ringOf p rings, ring-of-page p rings (match .covered p f) .0, subst (λ (x : ℕ). List·Memᴰ (Entry.Entered x b) (ringOf p rings)) h m))
+
+  -- one entry at most
+  pub entered-once : (p : ℕ) (b d : List ℕ) → IsEntered rings p b → IsEntered rings p d → b ≡ d
+  unfolding pageOf
+  entered-once p b d v w =
+      let f = entered-flies p b v in
+      let i = match .covered p f in
+      let e : Entry.Entered p b ≡ Entry.Entered p d = one-entry (Entry.Entered p b) (Entry.Entered p d) (ringOf p rings) (ring-of-matches p f .runs .no-repeats)
+      (entered-in-ring p p b rings (match .apart) i (ring-of-has p f) v)
+      (entered-in-ring p p d rings (match .apart) i (ring-of-has p f) w)
+      refl in
+      cc

@@ -1,0 +1,74 @@
+-- Runs with crashes: document 01, "Runs, cuts and the ledger".
+use Prim.Native.Nat.{ℕ, zero, suc, _*_}
+use mathlib.Core.Path.{_≡_}
+use mathlib.Core.List.{List, [], _∷_, _++_}
+use mathlib.Core.Bool.{Bool, true, false, cond, not, _&&_}
+use lib.Dec.{eqb}
+use lib.ListN.{length}
+use Rattle.outcome.specs.Outcome.{Outcome}
+use Rattle.record.specs.Flash.{Flash, Step, applyAll}
+use Rattle.volume.specs.Volume.{Volume}
+use Rattle.volume.specs.Format.{formatOutcome}
+use Rattle.atomicity.specs.Call.{Call, perform, flashSteps}
+
+-- "A cut falls between two calls or in one." A crash in a call carries one choice: for each flash step of the call, whether it was done.
+-- After a crash "the sheet then holds any words".
+pub data Event : Type 0 where
+  Returns : Call → Event
+  CrashIn : Call → (done : ℕ → Bool) → (state : List ℕ) → Event
+  Crash : (state : List ℕ) → Event
+
+-- the steps of a list that were done; the first of them has number i
+unfoldable pub doneOf : (ℕ → Bool) → ℕ → List Step → List Step
+doneOf done i [] = []
+doneOf done i (s ∷ steps) = cond (done i) (s ∷ doneOf done (suc i) steps) (doneOf done (suc i) steps)
+
+-- a volume, and whether its state is lost: there was a crash, and no recover has answered 0 since
+pub record World : Type 0 where
+  pub volume : Volume
+  pub lost : Bool
+
+unfoldable pub isRecover : Call → Bool
+isRecover (Call.Launch pages) = false
+isRecover (Call.Write page slot bytes) = false
+isRecover (Call.Withdraw page) = false
+isRecover (Call.Erase slots) = false
+isRecover Call.Recover = true
+
+-- a recover that answers 0 finds a lost state again
+unfoldable pub stillLost : Bool → Call → ℕ → Bool
+stillLost lost call answer = lost && not (isRecover call && eqb answer 0)
+
+-- One event. A crash has one clause for the flash: those of the call's steps that were done. "A cut write leaves its slot as it was, or stored
+-- whole, words and bytes. A cut erasure leaves each listed slot as it was or blanked, in any mixture. A cut launch, withdrawal or recovery, or a
+-- cut call that would be refused, leaves the flash as it was. No other slot changes."
+unfoldable pub happens : (w P S : ℕ) → World → Event → World
+happens w P S x (Event.Returns call) =
+    let o = perform w P S (x .volume) call in
+    record { volume = o .left; lost = stillLost (x .lost) call (o .answer) }
+happens w P S x (Event.CrashIn call done state) =
+    record {
+      volume = record { flash = applyAll w (x .volume .flash) (doneOf done 0 (flashSteps w P S (x .volume) call)); state = state };
+      lost = true;
+    }
+happens w P S x (Event.Crash state) = record { volume = record { flash = x .volume .flash; state = state }; lost = true }
+
+-- "The list starts from the flash and sheet that an accepted format leaves."
+unfoldable pub started : (w P S : ℕ) → Volume → World
+started w P S v = record { volume = formatOutcome w P S v .left; lost = false }
+
+-- the world after a list of events
+unfoldable pub after : (w P S : ℕ) → World → List Event → World
+after w P S x [] = x
+after w P S x (e ∷ events) = after w P S (happens w P S x e) events
+
+-- What a run keeps to, event by event. These are all the premises on a list:
+-- "no call but recover follows until one has answered 0" after a crash; and the state, after a crash, "holds any words", as many as before, 4×P.
+unfoldable pub keepsTo : ℕ → World → Event → Bool
+keepsTo P x (Event.Returns call) = cond (x .lost) (isRecover call) true
+keepsTo P x (Event.CrashIn call done state) = cond (x .lost) (isRecover call) true && eqb (length state) (4 * P)
+keepsTo P x (Event.Crash state) = eqb (length state) (4 * P)
+
+unfoldable pub keepsPremises : (w P S : ℕ) → World → List Event → Bool
+keepsPremises w P S x [] = true
+keepsPremises w P S x (e ∷ events) = keepsTo P x e && keepsPremises w P S (happens w P S x e) events
