@@ -12,3 +12,4 @@ pub mod Permitted
 pub mod Fewer
 pub mod Stored
 pub mod OneMore
+pub mod Completed
