@@ -6,3 +6,6 @@ pub mod Promise
 pub mod Rings
 pub mod RingLaws
 pub mod RingCycle
+pub mod RingLaunch
+pub mod RingClose
+pub mod EntryLaws
