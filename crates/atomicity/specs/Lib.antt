@@ -15,3 +15,6 @@ pub mod Accepted
 pub mod EraseStep
 pub mod RecoverStep
 pub mod Storing
+pub mod RingLaunch
+pub mod RingClose
+pub mod EntryLaws
