@@ -18,3 +18,6 @@ pub mod Storing
 pub mod RingLaunch
 pub mod RingClose
 pub mod EntryLaws
+pub mod StateWords
+pub mod LaunchStep
+pub mod WithdrawStep
