@@ -21,3 +21,5 @@ pub mod EntryLaws
 pub mod StateWords
 pub mod LaunchStep
 pub mod WithdrawStep
+pub mod FormatStart
+pub mod CallStep
