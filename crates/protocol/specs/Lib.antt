@@ -13,3 +13,4 @@ pub mod Fewer
 pub mod Stored
 pub mod OneMore
 pub mod Completed
+pub mod CompletedCore
