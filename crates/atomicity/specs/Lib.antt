@@ -11,3 +11,10 @@ pub mod Invariant
 pub mod Blanking
 pub mod RingLaws
 pub mod RingCycle
+pub mod Accepted
+pub mod EraseStep
+pub mod RecoverStep
+pub mod Storing
+pub mod RingLaunch
+pub mod RingClose
+pub mod EntryLaws

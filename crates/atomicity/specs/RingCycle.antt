@@ -5,20 +5,21 @@ use native.Mathlib.Numerals.{add-one}
 use mathlib.Core.Path.{_≡_, refl, sym, ap, _∙_, subst}
 use mathlib.Core.Logic.{_↔_}
 use mathlib.Core.List.{List, [], _∷_, List·Memᴰ, List·Memᴰ·head, List·Memᴰ·tail}
-use mathlib.Core.Bool.{Bool, true, false, cond}
-use lib.Dec.{ltb}
+use mathlib.Core.Bool.{Bool, true, false, cond, not}
+use lib.Dec.{ltb, eqb}
 use lib.ListN.{length, getD}
 use borrow.Author.Tests.{lt-ltb, le-ltb}
+use Rattle.bounded.specs.Limits.{noNumber}
 use Rattle.bounded.specs.Choice.{on-lt, never, same-test}
 use Rattle.state.specs.declared.PageState.{PageState}
 use Rattle.state.specs.State.{inFlight, isWritten}
 use Rattle.state.specs.StateLaws.{StateFacts}
-use Rattle.state.specs.Cycle.{along, onCycle, cycleWritten}
+use Rattle.state.specs.Cycle.{along, onCycle}
 use Rattle.state.specs.Change.{following}
-use Rattle.state.specs.CycleLaws.{Flies, along-zero, along-suc, on-cycle-of, on-cycle-at, on-cycle-sym, on-cycle-trans, on-cycle-flies, cycle-written-at, cycle-written-of}
-use Rattle.atomicity.specs.Model.{Entry, pageOf, hasBytes, inRing, allEntered}
+use Rattle.state.specs.CycleLaws.{Flies, along-zero, along-suc, on-cycle-of, on-cycle-at, on-cycle-sym, on-cycle-trans, on-cycle-flies}
+use Rattle.atomicity.specs.Model.{Entry, pageOf, hasBytes, inRing}
 use Rattle.atomicity.specs.Rings.{pagesOf, inRings, ringOf, IsEntered, RunsRound, RingMatches, RingsMatch}
-use Rattle.atomicity.specs.RingLaws.{in-ring-place, place-in-ring, in-ring-entry, entry-in-ring, one-entry, all-entered-at, all-entered-of, ring-in-rings, ring-of-page, ring-of-only, entered-in-ring}
+use Rattle.atomicity.specs.RingLaws.{in-ring-place, place-in-ring, in-ring-entry, entry-in-ring, one-entry, ring-in-rings, ring-of-page, ring-of-only, entered-in-ring}
 
 -- ---- the following page of a list
 
@@ -82,18 +83,23 @@ module _ (P : ℕ) (st : ℕ → PageState) (ring : List Entry) (runs : RunsRoun
           let w = in-ring-place r ring h in
           on-cycle-of P st sound first flies (w .0) r (along-list (w .0) (w .1) ∙ w .2)
 
--- "all pages of that ring have bytes" is "its whole ring is written"
-pub all-entered-written : (P : ℕ) (st : ℕ → PageState) (ring : List Entry) → RingMatches P st ring → StateFacts P st → (p : ℕ) → inRing p ring ≡ true → allEntered ring ≡ cycleWritten P st p
-all-entered-written P st ring m sound p e =
-    same-test (allEntered ring) (cycleWritten P st p)
-    (λ a. cycle-written-of P st sound p flies
-    (λ q l on. let w = in-ring-entry q ring (ring-cycle P st ring (m .runs) sound p e q ∙ on) in
-    ap (λ (x : ℕ). isWritten (st x)) (sym (w .2)) ∙ m .written (w .0) (w .1) ∙ all-entered-at ring a (w .0) (w .1)))
-    (λ c. all-entered-of ring
-    (λ x s. sym (m .written x s) ∙ cycle-written-at P st sound p (pageOf x) flies c (sym (ring-cycle P st ring (m .runs) sound p e (pageOf x)) ∙ entry-in-ring x ring s)))
-  where
-    flies : Flies P st p
-    flies = ring-flies P st ring (m .runs) p e
+-- ---- a ring goes by its own pages' states
+
+-- next runs round pages whose next pages stay
+pub runs-same : (P : ℕ) (st st′ : ℕ → PageState) (pages : List ℕ) → ((i : ℕ) → i < length pages → st′ (getD pages i 0) .next ≡ st (getD pages i 0) .next) → RunsRound P st pages → RunsRound P st′ pages
+unfolding inFlight
+runs-same P st st′ pages h runs = record {
+  not-empty = runs .not-empty;
+  flying = λ i l. record { below = runs .flying i l .below; flies = ap (λ (n : ℕ). not (eqb n noNumber)) (h i l) ∙ runs .flying i l .flies };
+  no-repeats = runs .no-repeats;
+  linked = λ i l. h i l ∙ runs .linked i l;
+}
+
+pub ring-same : (P : ℕ) (st st′ : ℕ → PageState) (ring : List Entry) → ((p : ℕ) → inRing p ring ≡ true → st′ p ≡ st p) → RingMatches P st ring → RingMatches P st′ ring
+ring-same P st st′ ring h m = record {
+  runs = runs-same P st st′ (pagesOf ring) (λ i l. ap (λ (s : PageState). s .next) (h (getD (pagesOf ring) i 0) (place-in-ring (getD (pagesOf ring) i 0) ring i l refl))) (m .runs);
+  written = λ e s. ap isWritten (h (pageOf e) (entry-in-ring e ring s)) ∙ m .written e s;
+}
 
 -- ---- the open rings
 
