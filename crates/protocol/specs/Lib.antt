@@ -14,3 +14,4 @@ pub mod Stored
 pub mod OneMore
 pub mod Completed
 pub mod CompletedCore
+pub mod WriteSteps
