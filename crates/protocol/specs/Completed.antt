@@ -6,16 +6,13 @@ use mathlib.Core.List.{List}
 use mathlib.Core.Logic.{_⊎_, inl, inr}
 use mathlib.Core.Bool.{Bool, true, false}
 use Rattle.bounded.specs.Choice.{on-lt, on-eq, on-test, never}
-use Rattle.record.specs.declared.Record.{Record}
-use Rattle.record.specs.SlotLaws.{Straddles}
 use Rattle.state.specs.declared.PageState.{PageState}
 use Rattle.state.specs.State.{inFlight, isWritten}
 use Rattle.state.specs.StateLaws.{PageFacts, StateFacts}
 use Rattle.state.specs.CycleLaws.{Flies, next-flies}
-use Rattle.protocol.specs.View.{View, recordView, LinksTo, IsAt, IsCommitted, Exposed}
+use Rattle.protocol.specs.View.{View, LinksTo, decide-links, IsAt, IsCommitted, Exposed}
 use Rattle.protocol.specs.Shared.{SharedCore, SharedLive, WithinUsed, OpenAtOnce, OpenWithin, Open, plan, commOf}
-use Rattle.protocol.specs.BackPointer.{BackPointerCore, Core}
-use Rattle.protocol.specs.Stored.{Adds, Writes, plan-page, plan-version, plan-next, plan-next-version, all-sound-more, one-record-more, within-used-more, plan-back, plan-clear}
+use Rattle.protocol.specs.Stored.{Adds, Writes, plan-page, plan-version, plan-next, plan-next-version, none-more, all-sound-more, one-record-more, within-used-more}
 
 -- Page p's cycle, as a test, all of whose pages but p are written; and the state, the kept contents and the entered ones after its completion.
 pub record Completes (P : ℕ) (st st′ : ℕ → PageState) (p : ℕ) (bytes : List ℕ) (cycle : ℕ → Bool) (kept kept′ : ℕ → List ℕ) (Entered Entered′ : ℕ → List ℕ → Type 0) : Type 0 where
@@ -45,7 +42,7 @@ module _ {X : Type 0} (view : View X) {P : ℕ} {R R′ : X → List ℕ → Typ
 
   -- ---- versions
 
-  comm-off : (q : ℕ) → q < P → cycle q ≡ false → st′ q .committed ≡ st q .committed
+  pub comm-off : (q : ℕ) → q < P → cycle q ≡ false → st′ q .committed ≡ st q .committed
   comm-off q h c = ap (λ (s : PageState). s .committed) (same-off q h c)
 
   used-same : (q : ℕ) → q < P → st′ q .used ≡ st q .used
@@ -55,7 +52,7 @@ module _ {X : Type 0} (view : View X) {P : ℕ} {R R′ : X → List ℕ → Typ
   ahead-on : (q : ℕ) → cycle q ≡ true → st q .committed < st q .used
   ahead-on q c = let f = cycle-flies q c in state .page q (f .below) .flies-below-used (f .flies)
 
-  comm-rises : (q : ℕ) → q < P → st q .committed ≤ st′ q .committed
+  pub comm-rises : (q : ℕ) → q < P → st q .committed ≤ st′ q .committed
   comm-rises q h =
       on-test (cycle q)
       (λ c. let a = ahead-on q c in let e = committed-on q c in omega arith)
@@ -63,7 +60,7 @@ module _ {X : Type 0} (view : View X) {P : ℕ} {R R′ : X → List ℕ → Typ
 
   -- ---- records on the cycle and off it
 
-  page-below : (x : X) (b : List ℕ) → R′ x b → view .page x < P
+  pub page-below : (x : X) (b : List ℕ) → R′ x b → view .page x < P
   page-below x b w = view .sound-page P x (all-sound-more view writes core live x b w)
 
   -- a record of a page off the cycle is an old one
@@ -75,7 +72,7 @@ module _ {X : Type 0} (view : View X) {P : ℕ} {R R′ : X → List ℕ → Typ
       by (inr n) = absurd (never (ap cycle (ap (view .page) (n .0) ∙ plan-page view st p) ∙ cycle-start) c)
 
   -- every planned record of the cycle is stored, with the contents that become the kept ones
-  stored-on : (q : ℕ) → cycle q ≡ true → R′ (plan view st q) (kept′ q)
+  pub stored-on : (q : ℕ) → cycle q ≡ true → R′ (plan view st q) (kept′ q)
   stored-on q c =
       on-eq q p
       (λ e. subst (λ (x : ℕ). R′ (plan view st x) (kept′ x)) (sym e) (subst (R′ (plan view st p)) (sym kept-here) added))
@@ -89,7 +86,7 @@ module _ {X : Type 0} (view : View X) {P : ℕ} {R R′ : X → List ℕ → Typ
     pub old : R x b
     pub before : Exposed view (commOf st) x
 
-  still-exposed : (x : X) (b : List ℕ) → R′ x b → Exposed view (commOf st′) x → StillExposed x b
+  pub still-exposed : (x : X) (b : List ℕ) → R′ x b → Exposed view (commOf st′) x → StillExposed x b
   still-exposed x b w l =
       on-test (cycle (view .page x))
       (λ c. absurd (let u = within-used-more view writes core live .version-used x b w in let e = committed-on (view .page x) c in omega arith))
@@ -101,17 +98,17 @@ module _ {X : Type 0} (view : View X) {P : ℕ} {R R′ : X → List ℕ → Typ
     now : cycle (view .page x) ≡ true → x ≡ plan view st (view .page x) → CommittedBy x b
     before : cycle (view .page x) ≡ false → R x b → IsCommitted view (commOf st) x → CommittedBy x b
 
-  committed-by : (x : X) (b : List ℕ) → R′ x b → IsCommitted view (commOf st′) x → CommittedBy x b
+  pub committed-by : (x : X) (b : List ℕ) → R′ x b → IsCommitted view (commOf st′) x → CommittedBy x b
   committed-by x b w e =
       on-test (cycle (view .page x))
       (λ c. let q = view .page x in
       now c (one-record-more view writes core live x (plan view st q) b (kept′ q) w (stored-on q c) (sym (plan-page view st q)) (e ∙ committed-on q c ∙ sym (plan-version view st q)) .0))
       (λ c. before c (old-off x b w c) (e ∙ comm-off (view .page x) (page-below x b w) c))
 
-  next-of : (x : X) → x ≡ plan view st (view .page x) → view .nextPage x ≡ st (view .page x) .next
+  pub next-of : (x : X) → x ≡ plan view st (view .page x) → view .nextPage x ≡ st (view .page x) .next
   next-of x e = ap (view .nextPage) e ∙ plan-next view st (view .page x)
 
-  next-version-of : (x : X) → x ≡ plan view st (view .page x) → view .nextVersion x ≡ st (st (view .page x) .next) .used
+  pub next-version-of : (x : X) → x ≡ plan view st (view .page x) → view .nextVersion x ≡ st (st (view .page x) .next) .used
   next-version-of x e = ap (view .nextVersion) e ∙ plan-next-version view st (view .page x)
 
   -- ---- clauses
@@ -170,18 +167,16 @@ module _ {X : Type 0} (view : View X) {P : ℕ} {R R′ : X → List ℕ → Typ
   at-once-more : (x : X) (b : List ℕ) → R x b → OpenAtOnce view R (commOf st) x → OpenAtOnce view R′ (commOf st′) x
   at-once-more x b w (inl l) = inl (let r = comm-rises (view .nextPage x) (view .sound-next P x (all-sound x b w)) in omega arith)
   at-once-more x b w (inr none) =
-      on-eq (view .nextPage x) p
-      (λ e. on-eq (view .nextVersion x) (st p .used)
-      (λ v. inl (let a = ap (λ (y : ℕ). st′ y .committed) e in let k = committed-on p cycle-start in omega arith))
-      (λ v. inr (still (λ l. v (sym (l .1) ∙ plan-version view st p)))))
-      (λ e. inr (still (λ l. e (sym (l .0) ∙ plan-page view st p))))
+      elim (decide-links view x (plan view st p)) [
+        | yes l ↦ inl (committed-now (sym (plan-page view st p) ∙ l .0) (sym (plan-version view st p) ∙ l .1))
+        | no n ↦ inr (none-more view writes core live x none n)
+      ]
     where
-      still : (LinksTo view x (plan view st p) → ⊥) → (t : X) (d : List ℕ) → R′ t d → LinksTo view x t → ⊥
-      still other t d w l = by (old-or-new t d w)
-        where
-          by : R t d ⊎ ((t ≡ plan view st p) × (d ≡ bytes)) → ⊥
-          by (inl u) = none t d u l
-          by (inr e) = other (subst (LinksTo view x) (e .0) l)
+      committed-now : p ≡ view .nextPage x → st p .used ≡ view .nextVersion x → view .nextVersion x ≤ st′ (view .nextPage x) .committed
+      committed-now e v =
+          let a = ap (λ (y : ℕ). st′ y .committed) e in
+          let k = committed-on p cycle-start in
+          omega arith
 
   open-more : (k : ℕ) (x : X) (b : List ℕ) → R x b → OpenWithin view R (commOf st) k x → OpenWithin view R′ (commOf st′) k x
   unfolding OpenWithin
@@ -273,84 +268,4 @@ module _ {X : Type 0} (view : View X) {P : ℕ} {R R′ : X → List ℕ → Typ
         unwritten-not-entered = λ q h f w b e.
             unwritten-not-entered q h (flies-before q h f .flies) (written-same q h f ∙ w) b (entered-before q b h (flight-off q f) e);
         link-planned = planned;
-      }
-
--- ---- five-word records
-
-module _ {P : ℕ} {R R′ : Record → List ℕ → Type 0} {st st′ : ℕ → PageState} {p : ℕ} {bytes : List ℕ} {cycle : ℕ → Bool} {kept kept′ : ℕ → List ℕ} {Entered Entered′ : ℕ → List ℕ → Type 0}
-    (writes : Writes recordView P R R′ st p bytes) (completes : Completes P st st′ p bytes cycle kept kept′ Entered Entered′)
-    (core : Core R (commOf st) P kept) (live : SharedLive recordView P R st Entered) where
-  open Writes writes using (state, flies, adds)
-  open Adds adds using (grows, old-or-new)
-  open Completes completes using (cycle-next, cycle-before, committed-on)
-  open Core core using (shared, own)
-  open SharedCore shared using (all-sound)
-  open BackPointerCore own using (exposed-back, committed-clear, exposed-link)
-  open SharedLive live using (within-used, link-planned)
-
-  back-completed : (x : Record) (b : List ℕ) → R′ x b → Exposed recordView (commOf st′) x → x .c ≡ st′ (x .p) .committed
-  back-completed x b w l =
-      let s = still-exposed recordView writes completes shared live x b w l in
-      exposed-back x b (s .old) (s .before) ∙ sym (comm-off recordView writes completes shared live (x .p) (page-below recordView writes completes shared live x b w) (s .off))
-
-  clear-completed : (x K : Record) (b d : List ℕ) → R′ x b → R′ K d → IsCommitted recordView (commOf st′) x → Straddles K x → ⊥
-  clear-completed x K b d w u e s = by (committed-by recordView writes completes shared live x b w e)
-    where
-      by : CommittedBy recordView writes completes shared live x b → ⊥
-      by (now c f) =
-          let l = within-used-more recordView writes shared live .version-used K d u in
-          let v = next-version-of recordView writes completes shared live x f in
-          let n = next-of recordView writes completes shared live x f in
-          let a = ap (λ (y : ℕ). st y .used) (s .at-next ∙ n) in
-          let h = s .below-v in
-          omega arith
-      by (before c f g) = old (old-or-new K d u)
-        where
-          old : R K d ⊎ ((K ≡ plan recordView st p) × (d ≡ bytes)) → ⊥
-          old (inl k) = committed-clear x K b d f k g s
-          old (inr k) = plan-clear writes shared live x b f g (subst (λ (y : Record). Straddles y x) (k .0) s)
-
-  abbrev LinkClause : (ℕ → PageState) → (Record → List ℕ → Type 0) → Record → Type 0
-  LinkClause s Q x = (s (x .np) .committed < x .nv) ⊎ ((K : Record) × (d : List ℕ) × Q K d × (K .v ≤ s (x .np) .committed) × Straddles K x)
-
-  link-completed : (x : Record) (b : List ℕ) → R′ x b → Exposed recordView (commOf st′) x → LinkClause st′ R′ x
-  link-completed x b w l = by (exposed-link x b (s .old) (s .before))
-    where
-      s : StillExposed recordView writes completes shared live x b
-      s = still-exposed recordView writes completes shared live x b w l
-
-      below : x .np < P
-      below = recordView .sound-next P x (all-sound x b (s .old))
-
-      -- the cycle's own record of the next page straddles a link to an older version
-      through : cycle (x .np) ≡ true → st (x .np) .committed < x .nv → LinkClause st′ R′ x
-      through c a =
-          let q = x .np in
-          let u = within-used .link-used x b (s .old) in
-          let k = committed-on q c in
-          let v = plan-version recordView st q in
-          on-eq (x .nv) (st q .used)
-          (λ e. let f = cycle-flies-of c in
-          let m = link-planned q (f .below) (f .flies) x b (s .old) refl e in
-          absurd (never (cycle-before (x .p) (record { below = recordView .sound-page P x (all-sound x b (s .old)); flies = m .0 }) (ap cycle (m .1) ∙ c)) (s .off)))
-          (λ e. inr (
-            plan recordView st q,
-            kept′ q,
-            stored-on recordView writes completes shared live q c,
-            omega arith,
-            record { at-next = plan-page recordView st q; above-c = (let z = plan-back st q in omega arith); below-v = omega arith },
-          ))
-        where
-          cycle-flies-of : cycle (x .np) ≡ true → Flies P st (x .np)
-          cycle-flies-of = completes .cycle-flies (x .np)
-
-      by : LinkClause st R x → LinkClause st′ R′ x
-      by (inl a) = on-test (cycle (x .np)) (λ c. through c a) (λ c. inl (let e = comm-off recordView writes completes shared live (x .np) below c in omega arith))
-      by (inr k) = inr (k .0, k .1, grows (k .0) (k .1) (k .2), (let r = comm-rises recordView writes completes shared live (x .np) below in let z = k .3 in omega arith), k .4)
-
-  pub core-completed : Core R′ (commOf st′) P kept′
-  core-completed =
-      record {
-        shared = shared-core-completed recordView writes completes shared live;
-        own = record { exposed-back = back-completed; committed-clear = clear-completed; exposed-link = link-completed };
       }

@@ -13,9 +13,9 @@ use Rattle.record.specs.SlotLaws.{Straddles, sound-facts}
 use Rattle.state.specs.declared.PageState.{PageState}
 use Rattle.state.specs.State.{inFlight, isWritten}
 use Rattle.state.specs.StateLaws.{PageFacts, StateFacts}
-use Rattle.protocol.specs.View.{View, Finds, Search, recordView, LinksTo, IsCommitted, Exposed, greatest}
+use Rattle.protocol.specs.View.{View, Finds, Search, recordView, LinksTo, decide-links, IsCommitted, Exposed, greatest}
 use Rattle.protocol.specs.Shared.{SharedCore, SharedLive, WithinUsed, OpenAtOnce, OpenWithin, plan, commOf}
-use Rattle.protocol.specs.BackPointer.{BackPointerCore, Core}
+use Rattle.protocol.specs.BackPointer.{AheadOrStraddled, BackPointerCore, Core}
 use Rattle.protocol.specs.Permitted.{Needed, Permitted}
 
 -- fewer records, and the committed ones among them
@@ -23,13 +23,6 @@ pub record FewerRecords {X : Type 0} (view : View X) (R R′ : X → List ℕ �
   pub fewer : (r : X) (b : List ℕ) → R′ r b → R r b
   pub finds : Finds R′
   pub committed-stays : (r : X) (b : List ℕ) → R r b → IsCommitted view comm r → R′ r b
-
-decide-links : {X : Type 0} (view : View X) (r t : X) → Dec (LinksTo view r t)
-decide-links view r t =
-    elim (ℕ-discrete (view .page t) (view .nextPage r)) [
-      | yes p ↦ elim (ℕ-discrete (view .version t) (view .nextVersion r)) [ yes v ↦ yes (p, v) | no v ↦ no (λ w. v (w .1)) ]
-      | no p ↦ no (λ w. p (w .0))
-    ]
 
 module _ {X : Type 0} (view : View X) {P : ℕ} {R R′ : X → List ℕ → Type 0} {comm : ℕ → ℕ} {kept : ℕ → List ℕ}
     (records : FewerRecords view R R′ comm) (core : SharedCore view R comm P kept) where
@@ -187,8 +180,8 @@ module _ {P : ℕ} {R R′ : Record → List ℕ → Type 0} {st : ℕ → PageS
           (r : Record) (b : List ℕ)
           → R′ r b
           → Exposed recordView (commOf st) r
-          → (st (r .np) .committed < r .nv) ⊎ ((K : Record) × (d : List ℕ) × R K d × (K .v ≤ st (r .np) .committed) × Straddles K r)
-          → (st (r .np) .committed < r .nv) ⊎ ((K : Record) × (d : List ℕ) × R′ K d × (K .v ≤ st (r .np) .committed) × Straddles K r)
+          → AheadOrStraddled R (commOf st) r
+          → AheadOrStraddled R′ (commOf st) r
       over r b w l (inl a) = inl a
       over r b w l (inr k) = inr (straddler-stays r b w l (k .0) (k .1) (k .2) (k .3) (k .4))
 

@@ -13,3 +13,5 @@ pub mod Fewer
 pub mod Stored
 pub mod OneMore
 pub mod Completed
+pub mod CompletedCore
+pub mod WriteSteps

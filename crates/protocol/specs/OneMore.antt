@@ -16,10 +16,10 @@ use Rattle.state.specs.State.{inFlight, isWritten}
 use Rattle.state.specs.StateLaws.{PageFacts, StateFacts}
 use Rattle.state.specs.Cycle.{along}
 use Rattle.state.specs.CycleLaws.{Flies, next-flies, along-zero, along-front}
-use Rattle.protocol.specs.View.{View, recordView, LinksTo, IsAt, IsCommitted, Exposed}
+use Rattle.protocol.specs.View.{View, recordView, LinksTo, decide-links, IsAt, IsCommitted, Exposed}
 use Rattle.protocol.specs.Shared.{SharedCore, SharedLive, WithinUsed, OpenAtOnce, OpenWithin, Open, plan, commOf}
-use Rattle.protocol.specs.BackPointer.{BackPointerCore, Core}
-use Rattle.protocol.specs.Stored.{Adds, Writes, plan-page, plan-version, plan-next, plan-next-version, plan-links, old-and-new, committed-old, all-sound-more, one-record-more, within-used-more, plan-back, plan-clear, plan-ahead}
+use Rattle.protocol.specs.BackPointer.{AheadOrStraddled, BackPointerCore, Core}
+use Rattle.protocol.specs.Stored.{Adds, Writes, plan-page, plan-version, plan-next, plan-next-version, plan-links, old-and-new, none-more, committed-old, all-sound-more, one-record-more, within-used-more, plan-back, plan-clear, plan-ahead}
 
 -- once page p is written, page u is still to be
 abbrev pub Missing : (ℕ → PageState) → (p u : ℕ) → Type 0
@@ -83,18 +83,10 @@ module _ {X : Type 0} (view : View X) {P : ℕ} {R R′ : X → List ℕ → Typ
     unfolding OpenWithin
     at-once-more x (inl l) = (0, inl l)
     at-once-more x (inr none) =
-        on-eq (view .nextPage x) p
-        (λ e. on-eq (view .nextVersion x) (st p .used)
-        (λ v. (suc (added-open .0), inr (plan view st p, bytes, added, (plan-page view st p ∙ sym e, plan-version view st p ∙ sym v), added-open .1)))
-        (λ v. (0, inr (still (λ l. v (sym (l .1) ∙ plan-version view st p))))))
-        (λ e. (0, inr (still (λ l. e (sym (l .0) ∙ plan-page view st p)))))
-      where
-        still : (LinksTo view x (plan view st p) → ⊥) → (t : X) (d : List ℕ) → R′ t d → LinksTo view x t → ⊥
-        still other t d w l = by (old-or-new t d w)
-          where
-            by : R t d ⊎ ((t ≡ plan view st p) × (d ≡ bytes)) → ⊥
-            by (inl u) = none t d u l
-            by (inr e) = other (subst (LinksTo view x) (e .0) l)
+        elim (decide-links view x (plan view st p)) [
+          | yes l ↦ (suc (added-open .0), inr (plan view st p, bytes, added, l, added-open .1))
+          | no n ↦ (0, inr (none-more view writes core live x none n))
+        ]
 
     open-more : (k : ℕ) (x : X) → OpenWithin view R (commOf st) k x → Open view R′ (commOf st) x
     unfolding OpenWithin
@@ -243,7 +235,7 @@ module _ {P : ℕ} {R R′ : Record → List ℕ → Type 0} {st : ℕ → PageS
           exposed-link =
               old-and-new recordView writes shared live
               (λ x b. Exposed recordView (commOf st) x
-              → (st (x .np) .committed < x .nv) ⊎ ((K : Record) × (d : List ℕ) × R′ K d × (K .v ≤ st (x .np) .committed) × Straddles K x))
+              → AheadOrStraddled R′ (commOf st) x)
               (λ x b w l. over x (exposed-link x b w l))
               (λ l. inl (plan-ahead writes));
         };
@@ -251,7 +243,7 @@ module _ {P : ℕ} {R R′ : Record → List ℕ → Type 0} {st : ℕ → PageS
     where
       over :
           (x : Record)
-          → (st (x .np) .committed < x .nv) ⊎ ((K : Record) × (d : List ℕ) × R K d × (K .v ≤ st (x .np) .committed) × Straddles K x)
-          → (st (x .np) .committed < x .nv) ⊎ ((K : Record) × (d : List ℕ) × R′ K d × (K .v ≤ st (x .np) .committed) × Straddles K x)
+          → AheadOrStraddled R (commOf st) x
+          → AheadOrStraddled R′ (commOf st) x
       over x (inl a) = inl a
       over x (inr k) = inr (k .0, k .1, grows (k .0) (k .1) (k .2), k .3, k .4)

@@ -19,7 +19,7 @@ use Rattle.recovery.specs.Verdict.{linkVerdict, verdict}
 use Rattle.recovery.specs.Recover.{walkOf, backPointer, committedBy, committedOf}
 use Rattle.protocol.specs.View.{View, InSlots, recordView, LinksTo}
 use Rattle.protocol.specs.Shared.{SharedCore, OpenWithin, OpenAtOnce}
-use Rattle.protocol.specs.BackPointer.{BackPointerCore, Core}
+use Rattle.protocol.specs.BackPointer.{AheadOrStraddled, BackPointerCore, Core}
 use Rattle.protocol.specs.Colours.{Greens, Reds, green-committed, red-uncommitted}
 use Rattle.protocol.specs.Highest.{Top, top-of, verdict-top, version-top, Straddled, link-below-straddled, link-below-clear, link-above, link-equal, link-on}
 
@@ -115,7 +115,7 @@ module _ {P S : ℕ} {t : ℕ → Slot} {bytes : ℕ → List ℕ} {comm : ℕ �
     exposed-straddled : r .nv < s .v → Straddled S t bytes r
     exposed-straddled l = by (exposed-link r (is-top .contents) (is-top .stored) exposed-here)
       where
-        by : (comm (r .np) < r .nv) ⊎ ((K : Record) × (d : List ℕ) × InSlots S t bytes K d × (K .v ≤ comm (r .np)) × Straddles K r) → Straddled S t bytes r
+        by : AheadOrStraddled (InSlots S t bytes) comm r → Straddled S t bytes r
         by (inl a) =
             let e = ap comm (next .of-page) in
             let c = exposed-back s (next .contents) (next .stored) (omega arith) in
@@ -126,7 +126,7 @@ module _ {P S : ℕ} {t : ℕ → Slot} {bytes : ℕ → List ℕ} {comm : ℕ �
     exposed-next : r .nv ≡ s .v → comm (r .np) < s .v
     exposed-next e = by (exposed-link r (is-top .contents) (is-top .stored) exposed-here)
       where
-        by : (comm (r .np) < r .nv) ⊎ ((K : Record) × (d : List ℕ) × InSlots S t bytes K d × (K .v ≤ comm (r .np)) × Straddles K r) → comm (r .np) < s .v
+        by : AheadOrStraddled (InSlots S t bytes) comm r → comm (r .np) < s .v
         by (inl a) = omega arith
         by (inr w) =
             let a = next .none-higher (w .0) (w .1) (w .2) (w .4 .at-next) in

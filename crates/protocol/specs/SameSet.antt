@@ -8,12 +8,11 @@ use mathlib.Core.Logic.{_⊎_, inl, inr}
 use mathlib.Core.Bool.{true, false}
 use Rattle.bounded.specs.Choice.{on-test, never}
 use Rattle.record.specs.declared.Record.{Record}
-use Rattle.record.specs.SlotLaws.{Straddles}
 use Rattle.state.specs.declared.PageState.{PageState}
 use Rattle.state.specs.State.{inFlight, isWritten}
 use Rattle.protocol.specs.View.{View, recordView, LinksTo, IsAt}
 use Rattle.protocol.specs.Shared.{SharedCore, SharedLive, WithinUsed, OpenAtOnce, OpenWithin, plan}
-use Rattle.protocol.specs.BackPointer.{BackPointerCore, Core}
+use Rattle.protocol.specs.BackPointer.{AheadOrStraddled, BackPointerCore, Core}
 
 -- The same pairs, and the same committed versions and kept contents of each page.
 pub record SameRecords {X : Type 0} (P : ℕ) (R R′ : X → List ℕ → Type 0) (comm comm′ : ℕ → ℕ) (kept kept′ : ℕ → List ℕ) : Type 0 where
@@ -81,8 +80,8 @@ module _ {P : ℕ} {R R′ : Record → List ℕ → Type 0} {comm comm′ : ℕ
       over :
           (r : Record) (b : List ℕ)
           → R′ r b
-          → (comm (r .np) < r .nv) ⊎ ((K : Record) × (d : List ℕ) × R K d × (K .v ≤ comm (r .np)) × Straddles K r)
-          → (comm′ (r .np) < r .nv) ⊎ ((K : Record) × (d : List ℕ) × R′ K d × (K .v ≤ comm′ (r .np)) × Straddles K r)
+          → AheadOrStraddled R comm r
+          → AheadOrStraddled R′ comm′ r
       over r b w (inl l) = inl (let e = at-next r b w in omega arith)
       over r b w (inr k) = inr (k .0, k .1, forth (k .0) (k .1) (k .2), (let e = at-next r b w in let l = k .3 in omega arith), k .4)
 

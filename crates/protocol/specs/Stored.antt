@@ -66,6 +66,17 @@ module _ {X : Type 0} (view : View X) {P : ℕ} {R R′ : X → List ℕ → Typ
   pub not-there : (x : X) (b : List ℕ) → R x b → view .page x ≡ p → view .version x ≡ st p .used → ⊥
   not-there x b w e v = unwritten-absent p (flies .below) (flies .flies) unwritten x b w (e, v)
 
+  -- a link that led to no record leads to none, unless to the added one
+  pub none-more :
+      (x : X)
+      → ((t : X) (d : List ℕ) → R t d → LinksTo view x t → ⊥)
+      → ¬ (LinksTo view x (plan view st p))
+      → (t : X) (d : List ℕ)
+      → R′ t d
+      → LinksTo view x t
+      → ⊥
+  none-more x none other = old-and-new (λ t d. LinksTo view x t → ⊥) none other
+
   -- the added record is exposed
   pub plan-exposed : st (view .page (plan view st p)) .committed < view .version (plan view st p)
   plan-exposed =

@@ -47,6 +47,13 @@ IsAt view r p v = (view .page r ≡ p) × (view .version r ≡ v)
 abbrev pub LinksTo : {X : Type 0} → View X → (r t : X) → Type 0
 LinksTo view r t = (view .page t ≡ view .nextPage r) × (view .version t ≡ view .nextVersion r)
 
+pub decide-links : {X : Type 0} (view : View X) (r t : X) → Dec (LinksTo view r t)
+decide-links view r t =
+    elim (ℕ-discrete (view .page t) (view .nextPage r)) [
+      | yes p ↦ elim (ℕ-discrete (view .version t) (view .nextVersion r)) [ yes v ↦ yes (p, v) | no v ↦ no (λ w. v (w .1)) ]
+      | no p ↦ no (λ w. p (w .0))
+    ]
+
 -- a record of the set that passes, or none does
 abbrev pub Search : {X : Type 0} → (X → List ℕ → Type 0) → (X → Type 0) → Type 0
 Search {X} R Q = ((r : X) × (b : List ℕ) × R r b × Q r) ⊎ ((r : X) (b : List ℕ) → R r b → Q r → ⊥)
