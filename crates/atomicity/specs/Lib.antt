@@ -9,3 +9,4 @@ pub mod RingCycle
 pub mod RingLaunch
 pub mod RingClose
 pub mod EntryLaws
+pub mod RingWrite
