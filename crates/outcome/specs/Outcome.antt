@@ -1,4 +1,5 @@
 -- How a call answers: conditions tried from the top, and the whole outcome. "After any number but 0 every lent slice is unaltered."
+use native.Mathlib.Omega.{arith}
 use Prim.Native.Nat.{ℕ, zero, suc, _^_, _/_, _%_}
 use mathlib.Core.Path.{_≡_, refl}
 use mathlib.Core.Bool.{Bool, true, false}
@@ -9,6 +10,11 @@ infixr 5 _⇒_otherwise_
 abbrev pub _⇒_otherwise_ : Bool → ℕ → ℕ → ℕ
 true ⇒ n otherwise rest = n
 false ⇒ n otherwise rest = rest
+
+-- where 0 is returned, the condition is not met, and 0 is what those below it give
+pub passed : (b : Bool) (n rest : ℕ) → (b ⇒ suc n otherwise rest) ≡ 0 → (b ≡ false) × (rest ≡ 0)
+passed true n rest e = absurd (omega arith)
+passed false n rest e = (refl, e)
 
 -- Everything a call gives back: the answer ("the number back"), the second number, and the buffers that it may alter, as it leaves them.
 pub record Outcome (B : Type 0) : Type 0 where

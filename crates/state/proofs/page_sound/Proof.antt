@@ -1,6 +1,5 @@
 use Rattle.bounded.specs.Choice.{said-yes, said-no}
-use mathlib.Core.Path.{_∙_, ap, sym}
-use Rattle.state.specs.State.{pageSound, stateAt}
+use Rattle.state.specs.State.{pageSound}
 use borrow.Author.Needs.{needs}
 use Rattle.state.proofs.page_sound.Statement.{statement}
 use Rattle.state.proofs.page_sound.Tie as tie

@@ -1,4 +1,3 @@
-use mathlib.Core.Path.{refl}
 use Rattle.state.specs.Change.{atRest, committedPage, withdrawnPage}
 use Rattle.state.specs.Walk.{endedPage}
 use Rattle.state.proofs.PageState.ended.Statement.{statement}

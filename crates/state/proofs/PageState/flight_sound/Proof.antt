@@ -1,7 +1,6 @@
 use borrow.Author.Tests.{le-ltb, lt-ltb}
 use Rattle.bounded.specs.Choice.{said-yes, said-no}
-use mathlib.Core.Path.{_∙_, ap, sym}
-use Rattle.state.specs.State.{flightSound, inFlight, stateAt}
+use Rattle.state.specs.State.{flightSound}
 use borrow.Author.Needs.{needs}
 use Rattle.state.proofs.PageState.flight_sound.Statement.{statement}
 use Rattle.state.proofs.PageState.flight_sound.Tie as tie

@@ -1,5 +1,4 @@
 use borrow.Author.Tests.{eq-eqb, ne-eqb}
-use mathlib.Core.Path.{_∙_}
 use Rattle.state.specs.State.{writtenSound}
 use borrow.Author.Needs.{needs}
 use Rattle.state.proofs.PageState.written_sound.Statement.{statement}

@@ -1,6 +1,6 @@
 use native.Mathlib.Omega.{arith}
-use mathlib.Core.Path.{_≡_, sym, ap, _∙_}
-use Rattle.state.specs.State.{stateAt, isWritten}
+use mathlib.Core.Path.{sym}
+use Rattle.state.specs.State.{stateAt}
 use Rattle.state.specs.Walk.{pagesIn, left, Searching}
 use Rattle.state.specs.CompletionLaws.{searching-starts, searching-below, searching-more, searching-less, searching-fails, searching-ends}
 use Rattle.bounded.specs.Choice.{said-yes, said-no}

@@ -1,0 +1,59 @@
+-- Erasing keeps the invariant, whole or cut short: slots that may be erased are blanked.
+use Prim.Native.Nat.{ℕ, _<_}
+use mathlib.Core.Path.{_≡_, refl, sym, ap, _∙_, subst}
+use mathlib.Core.List.{List, [], _∷_, map, List·Memᴰ}
+use mathlib.Core.Bool.{Bool, true, false}
+use lib.ListN.{length, getD}
+use Rattle.record.specs.Slot.{slotAt, bytesAt}
+use Rattle.record.specs.Flash.{Flash, Step, applyAll}
+use Rattle.record.specs.FlashLaws.{Sized, blanks-sized}
+use Rattle.state.specs.State.{stateAt, stateSound}
+use Rattle.state.specs.StateLaws.{state-sound-facts}
+use Rattle.volume.specs.Volume.{Volume}
+use Rattle.volume.specs.SizesLaws.{Sizes, Fits}
+use Rattle.volume.specs.ListLaws.{Listed, list-facts}
+use Rattle.collect.specs.Permission.{mayErase, mayEraseAll}
+use Rattle.collect.specs.PermissionLaws.{may-erase-all}
+use Rattle.protocol.specs.View.{NoTwins}
+use Rattle.protocol.specs.Shared.{commOf}
+use Rattle.protocol.specs.BackPointer.{Core}
+use Rattle.protocol.specs.Fewer.{core-fewer, live-erased}
+use Rattle.atomicity.specs.Model.{Model}
+use Rattle.atomicity.specs.Invariant.{Held, Live, Lost}
+use Rattle.atomicity.specs.Blanking.{member-at, blanking-apart, blanking-erases}
+use Rattle.atomicity.specs.Accepted.{Erasable}
+
+-- slots in range that may be erased
+pub record Free (S : ℕ) (v : Volume) (slots : List ℕ) : Type 0 where
+  pub inside : (k : ℕ) → List·Memᴰ k slots → k < S
+  pub allowed : (k : ℕ) → List·Memᴰ k slots → mayErase S (slotAt (v .flash .words)) (stateAt (v .state)) k ≡ true
+
+pub erasable-free : (S : ℕ) (v : Volume) (slots : List ℕ) → Erasable S v slots → Free S v slots
+erasable-free S v slots e =
+    record {
+      inside = λ k m. let i = member-at slots k m in subst (λ (x : ℕ). x < S) (i .2) (list-facts S slots (e .listed) .in-range (i .0) (i .1));
+      allowed = λ k m. let i = member-at slots k m in
+          subst (λ (x : ℕ). mayErase S (slotAt (v .flash .words)) (stateAt (v .state)) x ≡ true) (i .2)
+          (may-erase-all S (slotAt (v .flash .words)) (stateAt (v .state)) slots .0 (e .permitted) (i .0) (i .1));
+    }
+
+module _ (w P S : ℕ) (v : Volume) (m : Model) (size : Sized w S (v .flash)) (slots : List ℕ) (free : Free S v slots) where
+  abbrev blanked : Flash
+  blanked = applyAll w (v .flash) (map Step.Blank slots)
+
+  pub erased-sized : Sized w S blanked
+  erased-sized = blanks-sized w S slots (v .flash) size (free .inside)
+
+  module _ (l : Live w P S v m) where
+    pub erased-core : Core (Held w S blanked) (commOf (stateAt (v .state))) P (m .kept)
+    erased-core = core-fewer (blanking-erases w S (v .flash) size slots (free .inside) (stateAt (v .state)) (free .allowed)) (l .core)
+
+    pub erased-live : Live w P S (record { flash = blanked; state = v .state }) m
+    erased-live =
+        record {
+          sound = l .sound;
+          no-twins = blanking-apart w S (v .flash) size slots (free .inside) (l .no-twins);
+          core = erased-core;
+          live = live-erased (blanking-erases w S (v .flash) size slots (free .inside) (stateAt (v .state)) (free .allowed)) (l .core) (state-sound-facts P (stateAt (v .state)) (l .sound)) (l .live);
+          rings = l .rings;
+        }

@@ -1,0 +1,42 @@
+-- The invariant of a run: while the state is known, and after a crash until a recover has answered 0.
+use Prim.Native.Nat.{ℕ, _*_}
+use mathlib.Core.Path.{_≡_}
+use mathlib.Core.List.{List, []}
+use mathlib.Core.Bool.{Bool, true, false}
+use lib.ListN.{length}
+use Rattle.record.specs.declared.Record.{Record}
+use Rattle.record.specs.Slot.{slotAt, bytesAt}
+use Rattle.record.specs.Flash.{Flash}
+use Rattle.state.specs.State.{stateAt, stateSound}
+use Rattle.volume.specs.Volume.{Volume}
+use Rattle.volume.specs.SizesLaws.{Fits}
+use Rattle.protocol.specs.View.{InSlots, NoTwins, recordView}
+use Rattle.protocol.specs.Shared.{SharedLive, commOf}
+use Rattle.protocol.specs.BackPointer.{Core}
+use Rattle.atomicity.specs.Run.{World}
+use Rattle.atomicity.specs.Model.{Model}
+use Rattle.atomicity.specs.Rings.{IsEntered, RingsMatch}
+
+-- the (record, contents) pairs that the slots of a flash hold
+abbrev pub Held : (w S : ℕ) → Flash → Record → List ℕ → Type 0
+Held w S f = InSlots S (slotAt (f .words)) (bytesAt w (f .contents))
+
+module _ (w P S : ℕ) where
+  -- The state is known: it is sound, its committed versions are those of the records, and its flights are the model's open rings.
+  pub record Live (v : Volume) (m : Model) : Type 0 where
+    pub sound : stateSound P (stateAt (v .state)) ≡ true
+    pub no-twins : NoTwins S (slotAt (v .flash .words))
+    pub core : Core (Held w S (v .flash)) (commOf (stateAt (v .state))) P (m .kept)
+    pub live : SharedLive recordView P (Held w S (v .flash)) (stateAt (v .state)) (IsEntered (m .rings))
+    pub rings : RingsMatch P (stateAt (v .state)) (m .rings)
+
+  -- The state is lost: some committed versions are those of the records, and the model has no open ring.
+  pub record Lost (v : Volume) (m : Model) : Type 0 where
+    pub comm : ℕ → ℕ
+    pub no-twins : NoTwins S (slotAt (v .flash .words))
+    pub core : Core (Held w S (v .flash)) comm P (m .kept)
+    pub closed : m .rings ≡ []
+
+  pub data Holding (x : World) (m : Model) : Type 0 where
+    known : x .lost ≡ false → Fits w P S (x .volume) → Live (x .volume) m → Holding x m
+    unknown : x .lost ≡ true → Fits w P S (x .volume) → Lost (x .volume) m → Holding x m

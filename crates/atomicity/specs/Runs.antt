@@ -1,0 +1,92 @@
+-- Runs that meet the premises and end in contents that are not the formatted zeros, computed.
+use Prim.Native.Nat.{ℕ, zero, suc, _*_}
+use mathlib.Core.Path.{_≡_, refl}
+use mathlib.Core.List.{List, [], _∷_, _++_}
+use mathlib.Core.Bool.{Bool, true, false}
+use lib.Dec.{eqb}
+use lib.ListN.{replicate}
+use Rattle.record.specs.Flash.{Flash}
+use Rattle.record.specs.Slot.{blankRecord}
+use Rattle.table.specs.Given.{given, tableOf}
+use Rattle.volume.specs.Volume.{Volume}
+use Rattle.volume.specs.Format.{formatOutcome}
+use Rattle.atomicity.specs.Call.{Call}
+use Rattle.atomicity.specs.Run.{Event, World, started, after, keepsPremises}
+use Rattle.atomicity.specs.Model.{freshModel}
+use Rattle.atomicity.specs.Promise.{Premises, modelAfter}
+use Rattle.atomicity.specs.Computing.{computing}
+
+-- buffers for 2 pages and 5 slots of 1 byte
+unfoldable pub blankBuffers : Volume
+blankBuffers = record { flash = record { words = replicate 25 7; contents = replicate 5 7 }; state = replicate 8 7 }
+
+-- the state words after a crash, here all 9
+unfoldable pub lostState : List ℕ
+lostState = replicate 8 9
+
+unfoldable pub every : ℕ → Bool
+every i = true
+
+unfoldable pub none : ℕ → Bool
+none i = false
+
+-- a launch that is refused; a ring whose last write crashes, stored: it is completed; two crashes in a row, a crashed recover; then recovered
+unfoldable pub runCompleted : List Event
+runCompleted =
+    Event.Returns (Call.Launch (7 ∷ []))
+    ∷ Event.Returns (Call.Launch (0 ∷ 1 ∷ []))
+    ∷ Event.Returns (Call.Write 0 2 (5 ∷ []))
+    ∷ Event.CrashIn (Call.Write 1 3 (6 ∷ [])) every lostState
+    ∷ Event.Crash lostState
+    ∷ Event.CrashIn Call.Recover none lostState
+    ∷ Event.Returns Call.Recover
+    ∷ []
+
+-- page 0 stored twice; an erase of its two obsolete records crashes when only the second is blanked; a crashed write that would be refused (slot 3
+-- is not blank); a ring withdrawn; a crashed write whose slot is not stored; then recovered
+unfoldable pub runErased : List Event
+runErased =
+    Event.Returns (Call.Launch (0 ∷ []))
+    ∷ Event.Returns (Call.Write 0 2 (5 ∷ []))
+    ∷ Event.Returns (Call.Launch (0 ∷ []))
+    ∷ Event.Returns (Call.Write 0 3 (6 ∷ []))
+    ∷ Event.CrashIn (Call.Erase (0 ∷ 2 ∷ [])) (eqb 1) lostState
+    ∷ Event.Returns Call.Recover
+    ∷ Event.Returns (Call.Launch (1 ∷ []))
+    ∷ Event.CrashIn (Call.Write 1 3 (8 ∷ [])) every lostState
+    ∷ Event.Returns Call.Recover
+    ∷ Event.Returns (Call.Launch (1 ∷ []))
+    ∷ Event.Returns (Call.Withdraw 1)
+    ∷ Event.Returns (Call.Launch (1 ∷ []))
+    ∷ Event.CrashIn (Call.Write 1 4 (8 ∷ [])) none lostState
+    ∷ Event.Returns Call.Recover
+    ∷ []
+
+-- what the reference model keeps of pages 0 and 1 after a run
+unfoldable pub keptAfter : List Event → List (List ℕ)
+keptAfter events = let m = modelAfter 1 2 5 (started 1 2 5 blankBuffers) (freshModel 1) events in m .kept 0 ∷ m .kept 1 ∷ []
+
+-- the records left in the table after a run: its words
+unfoldable pub wordsAfter : List Event → List ℕ
+wordsAfter events = after 1 2 5 (started 1 2 5 blankBuffers) events .volume .flash .words
+
+pub completed-meets : Premises 1 2 5 blankBuffers runCompleted
+unfolding blankBuffers runCompleted lostState every none computing
+completed-meets = record { formatted = refl; keeps = refl }
+
+pub completed-keeps : keptAfter runCompleted ≡ (5 ∷ []) ∷ (6 ∷ []) ∷ []
+unfolding keptAfter blankBuffers runCompleted lostState every none computing
+completed-keeps = refl
+
+pub erased-meets : Premises 1 2 5 blankBuffers runErased
+unfolding blankBuffers runErased lostState every none computing
+erased-meets = record { formatted = refl; keeps = refl }
+
+pub erased-keeps : keptAfter runErased ≡ (6 ∷ []) ∷ (0 ∷ []) ∷ []
+unfolding keptAfter blankBuffers runErased lostState every none computing
+erased-keeps = refl
+
+-- the crashed erasure blanked slot 2 and not slot 0, and neither crashed write stored its slot
+pub erased-leaves : wordsAfter runErased ≡ tableOf 5 (given 0 0 0 0 0 ∷ given 1 0 0 1 0 ∷ blankRecord ∷ given 0 2 1 0 2 ∷ [])
+unfolding wordsAfter blankBuffers runErased lostState every none computing
+erased-leaves = refl

@@ -1,0 +1,15 @@
+pub mod Needed
+pub mod View
+pub mod Shared
+pub mod BackPointer
+pub mod Colours
+pub mod Highest
+pub mod Recovers
+pub mod RecoverAnswers
+pub mod ReadsKept
+pub mod SameSet
+pub mod Permitted
+pub mod Fewer
+pub mod Stored
+pub mod OneMore
+pub mod Completed
