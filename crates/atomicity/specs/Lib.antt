@@ -23,3 +23,4 @@ pub mod LaunchStep
 pub mod WithdrawStep
 pub mod FormatStart
 pub mod CallStep
+pub mod RingWrite
