@@ -6,10 +6,13 @@ use mathlib.Core.List.{List, []}
 use mathlib.Core.Bool.{Bool, true, false}
 use lib.ListN.{length}
 use Rattle.bounded.specs.Limits.{noNumber}
+use Rattle.bounded.specs.Choice.{never}
 use Rattle.outcome.specs.Outcome.{Outcome, settled-answer}
+use Rattle.record.specs.declared.Slot.{Slot}
+use Rattle.record.specs.declared.Slot.the-variants.{Blank, Holds}
 use Rattle.record.specs.Slot.{slotAt, isBlank}
-use Rattle.record.specs.Flash.{Flash}
-use Rattle.record.specs.FlashLaws.{Sized}
+use Rattle.record.specs.Flash.{Flash, apply}
+use Rattle.record.specs.FlashLaws.{Sized, store-sized}
 use Rattle.state.specs.State.{stateAt, stateWords}
 use Rattle.state.specs.StateLaws.{length-stateWords}
 use Rattle.state.specs.Change.{launched, withdrawn, afterWrite}
@@ -17,7 +20,7 @@ use Rattle.state.specs.CycleLaws.{Flies}
 use Rattle.volume.specs.Volume.{Volume}
 use Rattle.volume.specs.SizesLaws.{Sizes, Fits}
 use Rattle.transact.specs.Launch.{launchAnswer, launchOutcome}
-use Rattle.transact.specs.Write.{writeAnswer, writeOutcome}
+use Rattle.transact.specs.Write.{planOf, writeAnswer, writeStep, writeChange, writeOutcome}
 use Rattle.transact.specs.Withdraw.{withdrawAnswer, withdrawOutcome}
 use Rattle.transact.specs.CallLaws.{launch-refused, launch-done, write-refused, write-done, withdraw-refused, withdraw-done}
 use Rattle.collect.specs.Erase.{eraseAnswer, eraseOutcome, eraseSteps}
@@ -25,7 +28,7 @@ use Rattle.collect.specs.CallLaws.{erase-refused, erase-done}
 use Rattle.recovery.specs.Recover.{recoverAnswer, recoverOutcome}
 use Rattle.recovery.specs.RecoverLaws.{recover-refused, recover-fills}
 use Rattle.atomicity.specs.Call.{Call, withState, withFlash, perform}
-use Rattle.atomicity.specs.Model.{Model, accept, closeAll}
+use Rattle.atomicity.specs.Model.{Model, accept, closeAll, enter}
 use Rattle.atomicity.specs.RingLaunch.{listed-some, listed-launchable}
 use Rattle.atomicity.specs.Invariant.{Held, Live}
 use Rattle.atomicity.specs.Accepted.{launchable, withdrawable, writable, erasable}
@@ -33,11 +36,12 @@ use Rattle.atomicity.specs.StateWords.{live-words}
 use Rattle.atomicity.specs.LaunchStep.{launched-live}
 use Rattle.atomicity.specs.WithdrawStep.{withdrawn-live}
 use Rattle.atomicity.specs.EraseStep.{erasable-free, erased-sized, erased-live}
-use Rattle.atomicity.specs.RecoverStep.{found-fits, found-again}
+use Rattle.atomicity.specs.RecoverStep.{accepts, found-fits, found-again}
+use Rattle.atomicity.specs.WriteStep.{written-live}
 
 module _ (w P S : ℕ) (v : Volume) where
   -- a call's answer in a run is the call's own
-  pub answer-is : (call : Call) → ℕ
+  unfoldable pub answer-is : (call : Call) → ℕ
   answer-is (Call.Launch pages) = launchAnswer P S (v .state) pages
   answer-is (Call.Write page slot bytes) = writeAnswer w P S v page slot bytes
   answer-is (Call.Withdraw page) = withdrawAnswer P S (v .state) page
@@ -79,7 +83,7 @@ module _ (w P S : ℕ) (v : Volume) (m : Model) (k : Known w P S v m) where
       subst (λ (o : Outcome (List ℕ)). Known w P S (record { flash = v .flash; state = o .left }) (accept m (Call.Launch pages))) (sym (launch-done P S (v .state) pages e))
       (record {
         fits = record { sizes = k .fits .sizes; flash-sized = k .fits .flash-sized; state-sized = length-stateWords P (launched pages (stateAt (v .state))) };
-        live = live-words w P S (v .flash) (launched pages (stateAt (v .state))) (accept m (Call.Launch pages)) l
+        live = live-words w P S (v .flash) (launched pages (stateAt (v .state))) (accept m (Call.Launch pages)) l;
       })
 
   withdraw-accepted : (page : ℕ) → withdrawAnswer P S (v .state) page ≡ 0 → Known w P S (perform w P S v (Call.Withdraw page) .left) (accept m (Call.Withdraw page))
@@ -90,7 +94,7 @@ module _ (w P S : ℕ) (v : Volume) (m : Model) (k : Known w P S v m) where
       subst (λ (o : Outcome (List ℕ)). Known w P S (record { flash = v .flash; state = o .left }) (accept m (Call.Withdraw page))) (sym (withdraw-done P S (v .state) page e))
       (record {
         fits = record { sizes = k .fits .sizes; flash-sized = k .fits .flash-sized; state-sized = length-stateWords P (withdrawn P (stateAt (v .state)) page) };
-        live = live-words w P S (v .flash) (withdrawn P (stateAt (v .state)) page) (accept m (Call.Withdraw page)) (withdrawn-live w P S (v .flash) (stateAt (v .state)) m (k .live) page y)
+        live = live-words w P S (v .flash) (withdrawn P (stateAt (v .state)) page) (accept m (Call.Withdraw page)) (withdrawn-live w P S (v .flash) (stateAt (v .state)) m (k .live) page y);
       })
 
   erase-accepted : (slots : List ℕ) → eraseAnswer w P S v slots ≡ 0 → Known w P S (perform w P S v (Call.Erase slots) .left) (accept m (Call.Erase slots))
@@ -100,5 +104,50 @@ module _ (w P S : ℕ) (v : Volume) (m : Model) (k : Known w P S v m) where
       subst (λ (o : Outcome Flash). Known w P S (record { flash = o .left; state = v .state }) m) (sym (erase-done w P S v slots e))
       (record {
         fits = record { sizes = k .fits .sizes; flash-sized = erased-sized w P S v m (k .fits .flash-sized) slots free; state-sized = k .fits .state-sized };
-        live = erased-live w P S v m (k .fits .flash-sized) slots free (k .live)
+        live = erased-live w P S v m (k .fits .flash-sized) slots free (k .live);
       })
+
+  write-accepted : (page slot : ℕ) (bytes : List ℕ) → writeAnswer w P S v page slot bytes ≡ 0 → Known w P S (writeChange w P v page slot bytes) (enter page bytes (m .kept) (m .rings))
+  unfolding writeChange writeStep isBlank
+  write-accepted page slot bytes e =
+      let a = writable w P S v page slot bytes e in
+      let y : Flies P (stateAt (v .state)) page = record { below = a .page-below; flies = a .flying } in
+      let free = blank-exactly (slotAt (v .flash .words) slot) (a .free) in
+      record {
+        fits = record {
+          sizes = k .fits .sizes;
+          flash-sized = stored-sized page slot bytes (a .slot-below) (a .whole);
+          state-sized = length-stateWords P (afterWrite P (stateAt (v .state)) page);
+        };
+        live = live-words w P S (apply w (v .flash) (writeStep (stateAt (v .state)) page slot bytes)) (afterWrite P (stateAt (v .state)) page) (enter page bytes (m .kept) (m .rings))
+            (written-live w P S (v .flash) (k .fits .flash-sized) (stateAt (v .state)) m (k .live) page slot bytes y (a .unwritten) (a .slot-below) (a .whole) free);
+      }
+    where
+      blank-exactly : (s : Slot) → isBlank s ≡ true → s ≡ Blank
+      blank-exactly Blank e = refl
+      blank-exactly (Holds r) e = absurd (never refl (sym e))
+
+      stored-sized : (page slot : ℕ) (bytes : List ℕ) → slot < S → length bytes ≡ w → Sized w S (apply w (v .flash) (writeStep (stateAt (v .state)) page slot bytes))
+      stored-sized page slot bytes h e = store-sized w S (v .flash) (k .fits .flash-sized) slot h (planOf (stateAt (v .state)) page) bytes e
+
+  recover-accepted : Known w P S (perform w P S v Call.Recover .left) (accept m Call.Recover) × (recoverAnswer P S (v .flash .words) (v .state) ≡ 0)
+  unfolding perform withState accept
+  recover-accepted =
+      let e = accepts w P S (v .flash) (k .fits .sizes) (k .fits .flash-sized) (k .live .no-twins) (k .live .core) (v .state) (k .fits .state-sized) in (
+        subst (λ (o : Outcome (List ℕ)). Known w P S (record { flash = v .flash; state = o .left }) (closeAll m)) (sym (recover-fills P S (v .flash .words) (v .state) e))
+            (record {
+              fits = found-fits w P S (v .flash) (k .fits .sizes) (k .fits .flash-sized) (k .live .no-twins) (k .live .core) (v .state) (k .fits .state-sized);
+              live = found-again w P S (v .flash) (k .fits .sizes) (k .fits .flash-sized) (k .live .no-twins) (k .live .core) (v .state) (k .fits .state-sized) m refl;
+            }),
+        e,
+      )
+
+  -- an accepted call keeps the invariant, the model told of it
+  pub accepted : (call : Call) → answer-is w P S v call ≡ 0 → Known w P S (perform w P S v call .left) (accept m call)
+  unfolding answer-is perform accept
+  accepted (Call.Launch pages) e = launch-accepted pages e
+  accepted (Call.Write page slot bytes) e =
+      subst (λ (o : Outcome Volume). Known w P S (o .left) (enter page bytes (m .kept) (m .rings))) (sym (write-done w P S v page slot bytes e)) (write-accepted page slot bytes e)
+  accepted (Call.Withdraw page) e = withdraw-accepted page e
+  accepted (Call.Erase slots) e = erase-accepted slots e
+  accepted Call.Recover e = recover-accepted .0

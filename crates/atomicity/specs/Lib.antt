@@ -22,5 +22,7 @@ pub mod StateWords
 pub mod LaunchStep
 pub mod WithdrawStep
 pub mod FormatStart
-pub mod CallStep
 pub mod RingWrite
+pub mod WriteStep
+pub mod CallStep
+pub mod Atomicity

@@ -105,5 +105,5 @@ module _ (w P S : ℕ) (f : Flash) (sizes : Sizes P S) (size : Sized w S f) (apa
         no-twins = apart;
         core = subst (λ (k : ℕ → List ℕ). Core (Held w S f) (commOf (stateAt filled)) P k) (sym e) found-core;
         live = found-live (IsEntered []);
-        rings = no-rings-match P (stateAt filled) (λ p y. never (y .flies) (at-rest p (y .below)));
+        rings = no-rings-match P (stateAt filled) at-rest;
       }

@@ -1,0 +1,111 @@
+-- Writing keeps the invariant: one planned record more, and its ring stays open or is completed.
+use Prim.Native.Nat.{ℕ, _≤_, _<_}
+use native.Mathlib.Omega.{arith}
+use mathlib.Core.Path.{_≡_, refl, sym, ap, _∙_, subst}
+use mathlib.Core.List.{List}
+use mathlib.Core.Bool.{Bool, true, false}
+use lib.ListN.{length}
+use Rattle.bounded.specs.Limits.{highestVersion}
+use Rattle.bounded.specs.Choice.{on-test}
+use Rattle.record.specs.declared.Record.{Record}
+use Rattle.record.specs.declared.Slot.the-variants.{Blank}
+use Rattle.record.specs.Slot.{slotAt, recordSound, plannedRecord}
+use Rattle.record.specs.SlotLaws.{sound-facts}
+use Rattle.record.specs.Flash.{Flash, Step, apply}
+use Rattle.record.specs.FlashLaws.{Sized}
+use Rattle.state.specs.declared.PageState.{PageState}
+use Rattle.state.specs.State.{inFlight, isWritten}
+use Rattle.state.specs.StateLaws.{StateFacts}
+use Rattle.state.specs.Cycle.{onCycle}
+use Rattle.state.specs.Change.{marked, completes, completed, afterWrite}
+use Rattle.state.specs.CycleLaws.{Flies}
+use Rattle.state.specs.ChangeLaws.{after-write-sound}
+use Rattle.state.specs.CompletionLaws.{after-write-done, after-write-not}
+use Rattle.transact.specs.Write.{planOf, writeStep}
+use Rattle.protocol.specs.View.{recordView, NoTwins}
+use Rattle.protocol.specs.Shared.{SharedCore, SharedLive, plan, commOf}
+use Rattle.protocol.specs.BackPointer.{Core}
+use Rattle.protocol.specs.Stored.{Writes, not-there}
+use Rattle.protocol.specs.OneMore.{core-more, live-more}
+use Rattle.protocol.specs.Completed.{live-completed}
+use Rattle.protocol.specs.CompletedCore.{core-completed}
+use Rattle.protocol.specs.SameSet.{SameRecords, core-same}
+use Rattle.protocol.specs.WriteSteps.{planned-sound, missing-page, marks-of, completes-with}
+use Rattle.atomicity.specs.Model.{Model, enter}
+use Rattle.atomicity.specs.Rings.{IsEntered}
+use Rattle.atomicity.specs.RingWrite.{write-open-kept, write-open-match, write-open-entered, write-done-own, write-done-cycle, write-done-other, write-done-match, write-done-entered}
+use Rattle.atomicity.specs.Invariant.{Held, Live}
+use Rattle.atomicity.specs.Storing.{store-adds, store-apart}
+
+module _ (w P S : ℕ) (f : Flash) (size : Sized w S f) (st : ℕ → PageState) (m : Model) (l : Live w P S f st m)
+    (page slot : ℕ) (bytes : List ℕ) (y : Flies P st page) (unwritten : isWritten (st page) ≡ false)
+    (inside : slot < S) (whole : length bytes ≡ w) (free : slotAt (f .words) slot ≡ Blank) where
+  -- the planned record is the one that the step stores
+  plan-is : planOf st page ≡ plan recordView st page
+  unfolding planOf
+  plan-is = refl
+
+  abbrev after : Flash
+  after = apply w f (Step.Store slot (plan recordView st page) bytes)
+
+  version : plan recordView st page .v ≤ highestVersion
+  version = sound-facts P (plan recordView st page) (planned-sound P st (l .sound) page y) .v-most
+
+  writes : Writes recordView P (Held w S f) (Held w S after) st page bytes
+  writes =
+      record {
+        state = l .sound;
+        flies = y;
+        unwritten = unwritten;
+        plan-sound = planned-sound P st (l .sound) page y;
+        adds = store-adds w S f size slot inside (plan recordView st page) bytes whole version free;
+      }
+
+  after-apart : NoTwins S (slotAt (after .words))
+  unfolding plannedRecord
+  after-apart =
+      store-apart w S f size slot inside (plan recordView st page) bytes whole version free (l .no-twins)
+      (λ x b h p v. not-there recordView writes (l .core .shared) (l .live) x b h p v)
+
+  abbrev model : Model
+  model = enter page bytes (m .kept) (m .rings)
+
+  open-live : completes P st page ≡ false → Live w P S after (afterWrite P st page) model
+  open-live e =
+      let same : (q : ℕ) → q < P → afterWrite P st page q ≡ marked st page q = λ q h. after-write-not P st (l .sound) page y e q in
+      let marks = marks-of P st (l .sound) page y same (write-open-entered P st (m .rings) (l .sound) (l .rings) page y bytes (m .kept) e) in
+      record {
+        sound = after-write-sound P st (l .sound) page y;
+        no-twins = after-apart;
+        core = core-same (record {
+          forth = λ r b h. h;
+          back = λ r b h. h;
+          same-comm = λ q h. sym (marks .same-committed q h);
+          same-kept = λ q h. sym (ap (λ (k : ℕ → List ℕ). k q) (write-open-kept P st (m .rings) (l .sound) (l .rings) page y bytes (m .kept) e));
+        }) (core-more writes (l .core) (l .live) (missing-page P st (l .sound) page y e));
+        live = live-more recordView writes marks (l .core .shared) (l .live);
+        rings = write-open-match P st (m .rings) (l .sound) (l .rings) page y bytes (m .kept) e;
+      }
+
+  done-live : completes P st page ≡ true → Live w P S after (afterWrite P st page) model
+  done-live e =
+      let same : (q : ℕ) → q < P → afterWrite P st page q ≡ completed P st page q = λ q h. after-write-done P st (l .sound) page y e q in
+      let r = l .rings in
+      let c = completes-with P st (l .sound) page y e same
+      (write-done-own P st (m .rings) (l .sound) r page y bytes (m .kept) e)
+      (write-done-cycle P st (m .rings) (l .sound) r page y bytes (m .kept) e)
+      (write-done-other P st (m .rings) (l .sound) r page y bytes (m .kept) e)
+      (write-done-entered P st (m .rings) (l .sound) r page y bytes (m .kept) e) in
+      record {
+        sound = after-write-sound P st (l .sound) page y;
+        no-twins = after-apart;
+        core = core-completed writes c (l .core) (l .live);
+        live = live-completed recordView writes c (l .core .shared) (l .live);
+        rings = write-done-match P st (m .rings) (l .sound) r page y bytes (m .kept) e;
+      }
+
+  pub written-live : Live w P S (apply w f (writeStep st page slot bytes)) (afterWrite P st page) model
+  unfolding writeStep
+  written-live =
+      subst (λ (r : Record). Live w P S (apply w f (Step.Store slot r bytes)) (afterWrite P st page) model) (sym plan-is)
+      (on-test (completes P st page) done-live open-live)
