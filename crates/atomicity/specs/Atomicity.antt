@@ -1,38 +1,30 @@
 -- Promise 3: the invariant holds after every list of events, and under it recovery answers 0 and each page holds what the model keeps.
-use Prim.Native.Nat.{ℕ, zero, suc, _*_, _≤_, _<_}
+use Prim.Native.Nat.{ℕ, zero, suc, _*_}
 use native.Mathlib.Omega.{arith}
 use mathlib.Core.Path.{_≡_, refl, sym, ap, _∙_, subst}
-use mathlib.Core.List.{List, [], _∷_, map}
-use mathlib.Core.Bool.{Bool, true, false, cond, not, _&&_}
+use mathlib.Core.List.{List, [], _∷_}
+use mathlib.Core.Bool.{Bool, true, false, cond, not}
 use lib.Dec.{eqb}
 use lib.ListN.{length}
-use borrow.Author.Tests.{eqb-true, eq-eqb, ne-eqb, not-false}
-use Rattle.bounded.specs.Choice.{on-eq, on-test, never, both-left, both-right}
+use borrow.Author.Tests.{eqb-true, not-false}
+use Rattle.bounded.specs.Choice.{on-eq, never, both-left, both-right}
 use Rattle.outcome.specs.Outcome.{Outcome, passed, settled-answer}
-use Rattle.record.specs.Flash.{Flash, Step, apply, applyAll}
+use Rattle.record.specs.Flash.{Flash}
 use Rattle.record.specs.FlashLaws.{Sized}
-use Rattle.state.specs.State.{stateAt}
 use Rattle.volume.specs.Volume.{Volume, volumeFits}
 use Rattle.volume.specs.SizesLaws.{Sizes, Fits, fits-facts}
 use Rattle.volume.specs.Format.{formatted, formatAnswer, formatOutcome}
 use Rattle.volume.specs.CallLaws.{format-done}
-use Rattle.collect.specs.Erase.{eraseSteps}
-use Rattle.transact.specs.Write.{writeStep, writeDone, writeChange}
-use Rattle.transact.specs.CallLaws.{write-done}
 use Rattle.recovery.specs.RecoverLaws.{recover-fills}
-use Rattle.protocol.specs.Shared.{commOf}
-use Rattle.protocol.specs.BackPointer.{Core}
-use Rattle.atomicity.specs.Call.{Call, withState, perform, plannedSteps, flashSteps}
-use Rattle.atomicity.specs.Run.{Event, World, doneOf, isRecover, stillLost, happens, started, after, keepsTo, keepsPremises}
-use Rattle.atomicity.specs.Model.{Told, Model, freshModel, accept, closeAll, enter, learns}
+use Rattle.atomicity.specs.Call.{Call, withState, perform, plannedSteps}
+use Rattle.atomicity.specs.Run.{Event, World, isRecover, stillLost, happens, started, after, keepsTo, keepsPremises}
+use Rattle.atomicity.specs.Model.{Told, Model, freshModel, accept, closeAll, learns}
 use Rattle.atomicity.specs.Promise.{toldOfCrash, told, modelAfter, Recovers, Premises, Promise3}
-use Rattle.atomicity.specs.Invariant.{Held, Live, Lost, Holding, known, unknown}
-use Rattle.atomicity.specs.Accepted.{erasable}
-use Rattle.atomicity.specs.Blanking.{chosen, done-blanks, chosen-listed}
-use Rattle.atomicity.specs.EraseStep.{Free, erasable-free, erased-sized, erased-core, erased-apart}
+use Rattle.atomicity.specs.Invariant.{Lost, Holding, known, unknown}
 use Rattle.atomicity.specs.RecoverStep.{accepts, recovers, found-fits, found-again}
 use Rattle.atomicity.specs.CallStep.{answer-is, performs, refused-leaves, Known, accepted}
 use Rattle.atomicity.specs.FormatStart.{formatted-fits, formatted-live}
+use Rattle.atomicity.specs.CrashStep.{Crashed, crashFlash, crash-known, crash-lost, crash-in, no-steps}
 
 -- ---- what the model learns
 
@@ -56,114 +48,10 @@ module _ (w P S : ℕ) where
       (λ n. subst (λ (x : Model). Known w P S (perform w P S v call .left) x) (sym (learns-refused m call (perform w P S v call .answer) (λ e. n (sym (performs w P S v call) ∙ e))))
       (subst (λ (x : Volume). Known w P S x m) (sym (refused-leaves w P S v call n)) k))
 
-  -- ---- a crash
-
-  -- what is left of a volume by a crash: its flash
-  pub record Crashed (f : Flash) (m : Model) : Type 0 where
-    pub sized : Sized w S f
-    pub lost : Lost w P S f m
-
-  crash-known : (v : Volume) (m : Model) → Known w P S v m → Crashed (v .flash) (closeAll m)
-  unfolding closeAll
-  crash-known v m k = record { sized = k .fits .flash-sized; lost = record { comm = commOf (stateAt (v .state)); no-twins = k .live .no-twins; core = k .live .core; closed = refl } }
-
-  crash-lost : (f : Flash) (m : Model) → Crashed f m → Crashed f (closeAll m)
-  unfolding closeAll
-  crash-lost f m c = record { sized = c .sized; lost = record { comm = c .lost .comm; no-twins = c .lost .no-twins; core = c .lost .core; closed = refl } }
-
-  -- the flash after the steps done of a call
-  abbrev crashFlash : Volume → Call → (ℕ → Bool) → Flash
-  crashFlash v call done = applyAll w (v .flash) (doneOf done 0 (flashSteps w P S v call))
-
-  -- a refused call has no steps
-  refused-steps : (v : Volume) (call : Call) (done : ℕ → Bool) → ¬ (answer-is w P S v call ≡ 0) → crashFlash v call done ≡ v .flash
-  unfolding flashSteps doneOf applyAll
-  refused-steps v call done n = rw (ne-eqb (perform w P S v call .answer) 0 (λ e. n (sym (performs w P S v call) ∙ e)))
-
-  accepted-steps : (v : Volume) (call : Call) → answer-is w P S v call ≡ 0 → flashSteps w P S v call ≡ plannedSteps v call
-  unfolding flashSteps
-  accepted-steps v call e = rw (eq-eqb (perform w P S v call .answer) 0 (performs w P S v call ∙ e))
-
-  -- a call that alters no flash
-  no-steps : (v : Volume) (call : Call) (done : ℕ → Bool) → plannedSteps v call ≡ [] → crashFlash v call done ≡ v .flash
-  unfolding flashSteps doneOf applyAll
-  no-steps v call done e =
-      on-test (eqb (perform w P S v call .answer) 0) (λ t. rw (t, e)) (λ t. rw t)
-
-  -- a crash that leaves the flash as it was, with every open ring closed
-  leaves-flash : (v : Volume) (m : Model) (f : Flash) → Known w P S v m → f ≡ v .flash → Crashed f (closeAll m)
-  leaves-flash v m f k e = subst (λ (x : Flash). Crashed x (closeAll m)) (sym e) (crash-known v m k)
-
-  -- a crashed erasure: any part of the listed slots is blanked
-  crash-erase : (v : Volume) (m : Model) (slots : List ℕ) (done : ℕ → Bool) → Known w P S v m → Crashed (crashFlash v (Call.Erase slots) done) (closeAll m)
-  unfolding closeAll plannedSteps eraseSteps answer-is
-  crash-erase v m slots done k =
-      on-eq (answer-is w P S v (Call.Erase slots)) 0
-      (λ e. let all = erasable-free S v slots (erasable w P S v slots e) in
-      let part : List ℕ = chosen done 0 slots in
-      let free : Free S v part = record {
-        inside = λ i l. all .inside i (chosen-listed done 0 slots i l);
-        allowed = λ i l. all .allowed i (chosen-listed done 0 slots i l);
-      } in
-      let is : applyAll w (v .flash) (map Step.Blank part) ≡ crashFlash v (Call.Erase slots) done =
-      ap (applyAll w (v .flash)) (sym (done-blanks done 0 slots) ∙ ap (doneOf done 0) (sym (accepted-steps v (Call.Erase slots) e))) in
-      subst (λ (x : Flash). Crashed x (closeAll m)) is
-      (record {
-        sized = erased-sized w P S v m (k .fits .flash-sized) part free;
-        lost = record {
-          comm = commOf (stateAt (v .state));
-          no-twins = erased-apart w P S v m (k .fits .flash-sized) part free (k .live);
-          core = erased-core w P S v m (k .fits .flash-sized) part free (k .live);
-          closed = refl;
-        };
-      }))
-      (λ n. leaves-flash v m (crashFlash v (Call.Erase slots) done) k (refused-steps v (Call.Erase slots) done n))
-
-  -- a crashed write: its slot is stored whole, or left as it was
-  crash-write :
-      (v : Volume) (m : Model) (page slot : ℕ) (bytes : List ℕ) (done : ℕ → Bool)
-      → Known w P S v m
-      → Crashed (crashFlash v (Call.Write page slot bytes) done) (learns m (Told.CrashedWrite page bytes (eqb (perform w P S v (Call.Write page slot bytes) .answer) 0 && done 0)))
-  unfolding learns answer-is plannedSteps doneOf applyAll perform writeChange accept
-  crash-write v m page slot bytes done k =
-      on-eq (answer-is w P S v call) 0
-      (λ e. let t = eq-eqb (perform w P S v call .answer) 0 (performs w P S v call ∙ e) in
-      let steps = ap (λ (l : List Step). applyAll w (v .flash) (doneOf done 0 l)) (accepted-steps v call e) in
-      on-test (done 0)
-      (λ d. let q : stored ≡ true = rw (t, d) in
-      let is : crashFlash v call done ≡ perform w P S v call .left .flash = steps ∙ rw d (sym (ap (λ (o : Outcome Volume). o .left .flash) (write-is e))) in
-      told-of q (subst (λ (x : Flash). Crashed x (closeAll (enter page bytes (m .kept) (m .rings)))) (sym is)
-      (crash-known (perform w P S v call .left) (enter page bytes (m .kept) (m .rings)) (accepted w P S v m k call e))))
-      (λ d. let q : stored ≡ false = rw (t, d) in
-      let is : crashFlash v call done ≡ v .flash = steps ∙ rw d in
-      told-of q (leaves-flash v m (crashFlash v call done) k is)))
-      (λ n. let q : stored ≡ false = rw (ne-eqb (perform w P S v call .answer) 0 (λ e. n (sym (performs w P S v call) ∙ e))) in
-      told-of q (leaves-flash v m (crashFlash v call done) k (refused-steps v call done n)))
-    where
-      call : Call
-      call = Call.Write page slot bytes
-
-      write-is : answer-is w P S v call ≡ 0 → perform w P S v call ≡ record { answer = 0; second = writeDone P (stateAt (v .state)) page; left = writeChange w P v page slot bytes }
-      write-is e = write-done w P S v page slot bytes e
-
-      stored : Bool
-      stored = eqb (perform w P S v call .answer) 0 && done 0
-
-      told-of : {b : Bool} → stored ≡ b → Crashed (crashFlash v call done) (closeAll (cond b (enter page bytes (m .kept) (m .rings)) m)) → Crashed (crashFlash v call done) (closeAll (cond stored (enter page bytes (m .kept) (m .rings)) m))
-      told-of q c = subst (λ (b : Bool). Crashed (crashFlash v call done) (closeAll (cond b (enter page bytes (m .kept) (m .rings)) m))) (sym q) c
-
-  crash-in : (v : Volume) (m : Model) (call : Call) (done : ℕ → Bool) → Known w P S v m → Crashed (crashFlash v call done) (learns m (toldOfCrash call (perform w P S v call .answer) done))
-  unfolding learns toldOfCrash plannedSteps
-  crash-in v m (Call.Launch pages) done k = leaves-flash v m (crashFlash v (Call.Launch pages) done) k (no-steps v (Call.Launch pages) done refl)
-  crash-in v m (Call.Write page slot bytes) done k = crash-write v m page slot bytes done k
-  crash-in v m (Call.Withdraw page) done k = leaves-flash v m (crashFlash v (Call.Withdraw page) done) k (no-steps v (Call.Withdraw page) done refl)
-  crash-in v m (Call.Erase slots) done k = crash-erase v m slots done k
-  crash-in v m Call.Recover done k = leaves-flash v m (crashFlash v Call.Recover done) k (no-steps v Call.Recover done refl)
-
   -- ---- one event
 
   -- after a crash with a state of 4×P words
-  crashed-holds : (f : Flash) (state : List ℕ) (m : Model) → Sizes P S → length state ≡ 4 * P → Crashed f m → Holding w P S (record { volume = record { flash = f; state = state }; lost = true }) m
+  crashed-holds : (f : Flash) (state : List ℕ) (m : Model) → Sizes P S → length state ≡ 4 * P → Crashed w P S f m → Holding w P S (record { volume = record { flash = f; state = state }; lost = true }) m
   crashed-holds f state m sizes long c = unknown refl (record { sizes = sizes; flash-sized = c .sized; state-sized = long }) (c .lost)
 
   -- where the state is lost, recover answers 0 and the state is known again
@@ -203,14 +91,14 @@ module _ (w P S : ℕ) where
       → Sized w S (v .flash)
       → Lost w P S (v .flash) m
       → isRecover call ≡ true
-      → Crashed (crashFlash v call done) (learns m (toldOfCrash call (perform w P S v call .answer) done))
+      → Crashed w P S (crashFlash w P S v call done) (learns m (toldOfCrash call (perform w P S v call .answer) done))
   unfolding isRecover learns toldOfCrash plannedSteps
   lost-crashes v m (Call.Launch pages) done size l e = absurd (never refl (sym e))
   lost-crashes v m (Call.Write page slot bytes) done size l e = absurd (never refl (sym e))
   lost-crashes v m (Call.Withdraw page) done size l e = absurd (never refl (sym e))
   lost-crashes v m (Call.Erase slots) done size l e = absurd (never refl (sym e))
   lost-crashes v m Call.Recover done size l e =
-      subst (λ (x : Flash). Crashed x (closeAll m)) (sym (no-steps v Call.Recover done refl)) (crash-lost (v .flash) m (record { sized = size; lost = l }))
+      subst (λ (x : Flash). Crashed w P S x (closeAll m)) (sym (no-steps w P S v Call.Recover done refl)) (crash-lost w P S (v .flash) m (record { sized = size; lost = l }))
 
   -- a call that comes while the state is lost is a recover
   lost-recover : (lost : Bool) (call : Call) → lost ≡ true → cond lost (isRecover call) true ≡ true → isRecover call ≡ true
@@ -226,18 +114,18 @@ module _ (w P S : ℕ) where
       subst (λ (b : Bool). Holding w P S (record { volume = perform w P S (x .volume) call .left; lost = stillLost b call (perform w P S (x .volume) call .answer) }) (learns m (Told.Answered call (perform w P S (x .volume) call .answer)))) (sym lost)
       (lost-returns (x .volume) m call fits l (lost-recover (x .lost) call lost keeps))
   event-keeps x m (Event.CrashIn call done state) (known found fits live) keeps =
-      crashed-holds (crashFlash (x .volume) call done) state (learns m (toldOfCrash call (perform w P S (x .volume) call .answer) done)) (fits .sizes)
+      crashed-holds (crashFlash w P S (x .volume) call done) state (learns m (toldOfCrash call (perform w P S (x .volume) call .answer) done)) (fits .sizes)
       (eqb-true (length state) (4 * P) (both-right (cond (x .lost) (isRecover call) true) (eqb (length state) (4 * P)) keeps))
-      (crash-in (x .volume) m call done (record { fits = fits; live = live }))
+      (crash-in w P S (x .volume) m call done (record { fits = fits; live = live }))
   event-keeps x m (Event.CrashIn call done state) (unknown lost fits l) keeps =
-      crashed-holds (crashFlash (x .volume) call done) state (learns m (toldOfCrash call (perform w P S (x .volume) call .answer) done)) (fits .sizes)
+      crashed-holds (crashFlash w P S (x .volume) call done) state (learns m (toldOfCrash call (perform w P S (x .volume) call .answer) done)) (fits .sizes)
       (eqb-true (length state) (4 * P) (both-right (cond (x .lost) (isRecover call) true) (eqb (length state) (4 * P)) keeps))
       (lost-crashes (x .volume) m call done (fits .flash-sized) l
       (lost-recover (x .lost) call lost (both-left (cond (x .lost) (isRecover call) true) (eqb (length state) (4 * P)) keeps)))
   event-keeps x m (Event.Crash state) (known found fits live) keeps =
-      crashed-holds (x .volume .flash) state (closeAll m) (fits .sizes) (eqb-true (length state) (4 * P) keeps) (crash-known (x .volume) m (record { fits = fits; live = live }))
+      crashed-holds (x .volume .flash) state (closeAll m) (fits .sizes) (eqb-true (length state) (4 * P) keeps) (crash-known w P S (x .volume) m (record { fits = fits; live = live }))
   event-keeps x m (Event.Crash state) (unknown lost fits l) keeps =
-      crashed-holds (x .volume .flash) state (closeAll m) (fits .sizes) (eqb-true (length state) (4 * P) keeps) (crash-lost (x .volume .flash) m (record { sized = fits .flash-sized; lost = l }))
+      crashed-holds (x .volume .flash) state (closeAll m) (fits .sizes) (eqb-true (length state) (4 * P) keeps) (crash-lost w P S (x .volume .flash) m (record { sized = fits .flash-sized; lost = l }))
 
   -- ---- every list
 
@@ -263,9 +151,11 @@ module _ (w P S : ℕ) where
       subst (λ (o : Outcome Volume). Holding w P S (record { volume = o .left; lost = false }) (freshModel w)) (sym (format-done w P S v a))
       (known refl (formatted-fits w P S sizes) (formatted-live w P S sizes))
 
+-- The invariant holds after every list of events under the premises.
+pub reached : (w P S : ℕ) (v : Volume) (events : List Event) → Premises w P S v events → Holding w P S (after w P S (started w P S v) events) (modelAfter w P S (started w P S v) (freshModel w) events)
+reached w P S v events p = list-keeps w P S (started w P S v) (freshModel w) events (starts w P S v (p .formatted)) (p .keeps)
+
 -- Promise 3, whole.
 pub promise-3 : Promise3
 promise-3 w P S v events p state long =
-    holding-recovers w P S (after w P S (started w P S v) events) (modelAfter w P S (started w P S v) (freshModel w) events)
-    (list-keeps w P S (started w P S v) (freshModel w) events (starts w P S v (p .formatted)) (p .keeps))
-    state long
+    holding-recovers w P S (after w P S (started w P S v) events) (modelAfter w P S (started w P S v) (freshModel w) events) (reached w P S v events p) state long

@@ -25,4 +25,6 @@ pub mod FormatStart
 pub mod RingWrite
 pub mod WriteStep
 pub mod CallStep
+pub mod CrashStep
 pub mod Atomicity
+pub mod StateAgrees

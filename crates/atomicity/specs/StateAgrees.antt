@@ -1,0 +1,69 @@
+-- The paper's InvComm and InvUsed: after every list whose state is known, recovery's committed versions are the state's, and no version is mentioned
+-- above the state's used one.
+use Prim.Native.Nat.{ℕ, _≤_, _<_, max}
+use native.Mathlib.Omega.{arith}
+use mathlib.Core.Path.{_≡_, refl, sym, ap, _∙_, subst}
+use mathlib.Core.List.{List}
+use mathlib.Core.Bool.{Bool, true, false, cond}
+use lib.Dec.{eqb}
+use borrow.Author.Tests.{eqb-true}
+use Rattle.bounded.specs.Choice.{on-test, never}
+use Rattle.bounded.specs.BelowLaws.{max-bound}
+use Rattle.record.specs.declared.Record.{Record}
+use Rattle.record.specs.declared.Slot.{Slot}
+use Rattle.record.specs.declared.Slot.the-variants.{Blank, Holds}
+use Rattle.record.specs.Slot.{slotAt, bytesAt}
+use Rattle.state.specs.declared.PageState.{PageState}
+use Rattle.state.specs.State.{stateAt}
+use Rattle.volume.specs.Volume.{Volume}
+use Rattle.recovery.specs.Recover.{committedOf, mentioned, usedOf}
+use Rattle.protocol.specs.View.{recordView}
+use Rattle.protocol.specs.Shared.{SharedLive, WithinUsed}
+use Rattle.protocol.specs.Recovers.{committed-found}
+use Rattle.atomicity.specs.Run.{Event, World, started, after}
+use Rattle.atomicity.specs.Model.{Model, freshModel}
+use Rattle.atomicity.specs.Promise.{modelAfter, Premises}
+use Rattle.atomicity.specs.Invariant.{Held, Live, Holding, known, unknown}
+use Rattle.atomicity.specs.Atomicity.{reached}
+
+-- recovery on the flash of this volume would find the state's committed versions, and used versions not above the state's
+pub record Agrees (P S : ℕ) (v : Volume) : Type 0 where
+  pub same-committed : (p : ℕ) → p < P → committedOf P S (slotAt (v .flash .words)) p ≡ stateAt (v .state) p .committed
+  pub used-covers : (p : ℕ) → p < P → usedOf S (slotAt (v .flash .words)) p ≤ stateAt (v .state) p .used
+
+live-agrees : (w P S : ℕ) (v : Volume) (m : Model) → Live w P S (v .flash) (stateAt (v .state)) m → Agrees P S v
+unfolding usedOf mentioned
+live-agrees w P S v m l =
+    record {
+      same-committed = λ p h. committed-found (l .core) p h;
+      used-covers = λ p h. max-bound (λ k. mentioned p (slotAt (v .flash .words) k)) S (stateAt (v .state) p .used) (λ k i. at p k i (slotAt (v .flash .words) k) refl);
+    }
+  where
+    st : ℕ → PageState
+    st = stateAt (v .state)
+
+    here : (b : Bool) (n u : ℕ) → (b ≡ true → n ≤ u) → cond b n 0 ≤ u
+    here true n u f = f refl
+    here false n u f = omega arith
+
+    at : (p k : ℕ) → k < S → (s : Slot) → slotAt (v .flash .words) k ≡ s → mentioned p s ≤ st p .used
+    at p k i Blank e = omega arith
+    at p k i (Holds r) e =
+        let u = l .live .within-used in
+        let w1 = u .version-used r (bytesAt w (v .flash .contents) k) (k, i, e, refl) in
+        let w2 = u .link-used r (bytesAt w (v .flash .contents) k) (k, i, e, refl) in
+        let a = here (eqb (r .p) p) (r .v) (st p .used) (λ t. subst (λ (x : ℕ). r .v ≤ st x .used) (eqb-true (r .p) p t) w1) in
+        let b = here (eqb (r .np) p) (r .nv) (st p .used) (λ t. subst (λ (x : ℕ). r .nv ≤ st x .used) (eqb-true (r .np) p t) w2) in
+        omega arith
+
+-- after every list under the premises that leaves the state known
+pub state-agrees :
+    (w P S : ℕ) (v : Volume) (events : List Event)
+    → Premises w P S v events
+    → after w P S (started w P S v) events .lost ≡ false
+    → Agrees P S (after w P S (started w P S v) events .volume)
+state-agrees w P S v events p found = by (reached w P S v events p)
+  where
+    by : Holding w P S (after w P S (started w P S v) events) (modelAfter w P S (started w P S v) (freshModel w) events) → Agrees P S (after w P S (started w P S v) events .volume)
+    by (known f fits live) = live-agrees w P S (after w P S (started w P S v) events .volume) (modelAfter w P S (started w P S v) (freshModel w) events) live
+    by (unknown lost fits l) = absurd (never lost found)
