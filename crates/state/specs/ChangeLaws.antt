@@ -4,14 +4,13 @@ use native.Mathlib.Omega.{arith}
 use mathlib.Core.Path.{_≡_, refl, sym, ap, _∙_, subst, fun-ext}
 use mathlib.Core.Bool.{Bool, true, false}
 use Rattle.bounded.specs.Choice.{on-eq, on-test, never}
-use Rattle.bounded.specs.PartsLaws.{update-same, update-other}
 use Rattle.state.specs.declared.PageState.{PageState}
 use Rattle.state.specs.State.{inFlight}
 use Rattle.state.specs.StateLaws.{none-rests, PageFacts, StateFacts}
 use Rattle.state.specs.Cycle.{onCycle}
 use Rattle.state.specs.Change.{atRest, writtenPage, marked, completes, committedPage, completed, withdrawnPage, withdrawn, afterWrite}
 use Rattle.state.specs.Walk.{endedPage, cycleEnded}
-use Rattle.state.specs.CycleLaws.{Flies, marked-next, on-cycle-before}
+use Rattle.state.specs.CycleLaws.{Flies, marked-at, marked-other, marked-next, on-cycle-before}
 use Rattle.state.specs.CompletionLaws.{after-write-done, after-write-not}
 
 -- a page is in flight by its next page alone
@@ -115,14 +114,6 @@ module _ (P : ℕ) (st : ℕ → PageState) (sound : StateFacts P st) (p : ℕ) 
 
   -- ---- a page becomes written
 
-  marked-at : marked st p p ≡ writtenPage (st p)
-  unfolding marked
-  marked-at = update-same st p (writtenPage (st p))
-
-  marked-off : (q : ℕ) → ¬ (q ≡ p) → marked st p q ≡ st q
-  unfolding marked
-  marked-off q d = update-other st p (writtenPage (st p)) q d
-
   marked-flight : (q : ℕ) → inFlight (marked st p q) ≡ inFlight (st q)
   marked-flight q = flight-cong (marked st p q) (st q) (marked-next st p q)
 
@@ -131,7 +122,7 @@ module _ (P : ℕ) (st : ℕ → PageState) (sound : StateFacts P st) (p : ℕ) 
   marked-facts q l =
       on-eq q p
       (λ same. subst (λ (x : ℕ). PageFacts P (marked st p) (marked st p x)) (sym same)
-      (subst (λ (s : PageState). PageFacts P (marked st p) s) (sym marked-at)
+      (subst (λ (s : PageState). PageFacts P (marked st p) s) (sym (marked-at st p))
       (record {
         committed-used = h .committed-used;
         used-highest = h .used-highest;
@@ -141,7 +132,7 @@ module _ (P : ℕ) (st : ℕ → PageState) (sound : StateFacts P st) (p : ℕ) 
         written-bit = omega arith;
         written-flies = λ e. flight-cong (writtenPage (st p)) (st p) refl ∙ f .flies;
       })))
-      (λ other. subst (λ (s : PageState). PageFacts P (marked st p) s) (sym (marked-off q other))
+      (λ other. subst (λ (s : PageState). PageFacts P (marked st p) s) (sym (marked-other st p q other))
       (record {
         committed-used = sound .page q l .committed-used;
         used-highest = sound .page q l .used-highest;

@@ -12,25 +12,20 @@ use Rattle.bounded.specs.Choice.{on-lt, on-eq, on-test, never}
 use Rattle.bounded.specs.Below.{allBelow}
 use Rattle.bounded.specs.BelowLaws.{all-zero, all-more, all-at, all-of, some-at}
 use Rattle.bounded.specs.Parts.{putPart}
-use Rattle.bounded.specs.PartsLaws.{update-same, update-other}
 use Rattle.state.specs.declared.PageState.{PageState}
 use Rattle.state.specs.State.{pageWords, stateAt, stateWords, isWritten}
 use Rattle.state.specs.StateLaws.{StateFacts, stateWords-at, stateWords-cong, put-stateWords}
 use Rattle.state.specs.Cycle.{along, onCycle, cycleWritten}
 use Rattle.state.specs.Change.{writtenPage, marked, completes, committedPage, completed, afterWrite}
-use Rattle.state.specs.CycleLaws.{Flies, along-marked, next-apart, next-flies, on-cycle-of, on-cycle-flies, on-cycle-refl, on-cycle-next, on-cycle-same, on-cycle-marked}
+use Rattle.state.specs.CycleLaws.{marked-at, marked-other, Flies, along-marked, next-apart, next-flies, on-cycle-of, on-cycle-flies, on-cycle-refl, on-cycle-next, on-cycle-same, on-cycle-marked}
 use Rattle.state.specs.WalkLaws.{steps-start, steps-next, steps-last, steps-below, steps-there, walkable-facts, walkable-flies}
 use Rattle.state.specs.Walk.{lap, steps, writtenTo, endedPage, cycleEnded, left, Walkable, Searching}
 
 -- "If its whole ring is then written": each page but p is
 module _ (P : ℕ) (st : ℕ → PageState) (sound : StateFacts P st) (p : ℕ) (f : Flies P st p) where
   marked-written : isWritten (marked st p p) ≡ true
-  unfolding marked writtenPage isWritten
-  marked-written = rw (update-same st p (writtenPage (st p)))
-
-  marked-other : (q : ℕ) → ¬ (q ≡ p) → marked st p q ≡ st q
-  unfolding marked
-  marked-other q d = update-other st p (writtenPage (st p)) q d
+  unfolding writtenPage isWritten
+  marked-written = rw (marked-at st p)
 
   pub completes-of : ((q : ℕ) → onCycle P st p q ≡ true → ¬ (q ≡ p) → isWritten (st q) ≡ true) → completes P st p ≡ true
   unfolding completes cycleWritten
@@ -39,14 +34,14 @@ module _ (P : ℕ) (st : ℕ → PageState) (sound : StateFacts P st) (p : ℕ) 
       (λ k l. subst (λ (x : ℕ). isWritten (marked st p x) ≡ true) (sym (along-marked st p p k))
       (on-eq (along st p k) p
       (λ e. subst (λ (x : ℕ). isWritten (marked st p x) ≡ true) (sym e) marked-written)
-      (λ d. ap isWritten (marked-other (along st p k) d) ∙ h (along st p k) (on-cycle-of P st sound p f k (along st p k) refl) d)))
+      (λ d. ap isWritten (marked-other st p (along st p k) d) ∙ h (along st p k) (on-cycle-of P st sound p f k (along st p k) refl) d)))
 
   pub completes-at : completes P st p ≡ true → (q : ℕ) → onCycle P st p q ≡ true → ¬ (q ≡ p) → isWritten (st q) ≡ true
   unfolding completes cycleWritten onCycle
   completes-at e q on d =
       let w = some-at (λ k. eqb (along st p k) q) P on in
       let there : along (marked st p) p (w .0) ≡ q = along-marked st p p (w .0) ∙ eqb-true (along st p (w .0)) q (w .2) in
-      ap isWritten (sym (marked-other q d))
+      ap isWritten (sym (marked-other st p q d))
       ∙ subst (λ (x : ℕ). isWritten (marked st p x) ≡ true) there (all-at (λ k. isWritten (marked st p (along (marked st p) p k))) P (w .0) e (w .1))
 
   pub completes-means : (completes P st p ≡ true) ↔ ((q : ℕ) → onCycle P st p q ≡ true → ¬ (q ≡ p) → isWritten (st q) ≡ true)
@@ -103,8 +98,8 @@ module _ (P : ℕ) (st : ℕ → PageState) (sound : StateFacts P st) (p : ℕ) 
   -- ---- an accepted write
 
   marked-committed : committedPage (marked st p p) ≡ committedPage (st p)
-  unfolding committedPage marked writtenPage
-  marked-committed = rw (update-same st p (writtenPage (st p)))
+  unfolding committedPage writtenPage
+  marked-committed = rw (marked-at st p)
 
   -- it completes the cycle: the mark leaves with the flight
   pub after-write-done : completes P st p ≡ true → (q : ℕ) → afterWrite P st p q ≡ completed P st p q
@@ -114,7 +109,7 @@ module _ (P : ℕ) (st : ℕ → PageState) (sound : StateFacts P st) (p : ℕ) 
       (on-eq q p
       (λ same. subst (λ (x : ℕ). cond (onCycle P st p x) (committedPage (marked st p x)) (marked st p x) ≡ cond (onCycle P st p x) (committedPage (st x)) (st x)) (sym same)
       (rw (on-cycle-refl P st sound p f) marked-committed))
-      (λ d. rw (marked-other q d)))
+      (λ d. rw (marked-other st p q d)))
 
   pub after-write-not : completes P st p ≡ false → (q : ℕ) → afterWrite P st p q ≡ marked st p q
   unfolding afterWrite

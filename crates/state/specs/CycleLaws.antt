@@ -9,7 +9,6 @@ use borrow.Author.Tests.{eqb-true, eq-eqb}
 use Rattle.bounded.specs.Choice.{on-lt, on-eq, never, same-test}
 use Rattle.bounded.specs.Below.{someBelow, firstBelow}
 use Rattle.bounded.specs.BelowLaws.{all-at, all-of, some-of, some-at, some-cong, first-passes, first-none-before, first-found}
-use Rattle.bounded.specs.Parts.{update}
 use Rattle.bounded.specs.PartsLaws.{update-same, update-other}
 use Rattle.bounded.specs.Pigeonhole.{comes-back}
 use Rattle.state.specs.declared.PageState.{PageState}
@@ -53,15 +52,22 @@ pub on-cycle-cong : (P : ℕ) (st st′ : ℕ → PageState) → ((q : ℕ) → 
 unfolding onCycle
 on-cycle-cong P st st′ h p q = some-cong P (λ k l. ap (λ (x : ℕ). eqb x q) (along-cong st st′ h p k))
 
+-- the marked page, and any other
+pub marked-at : (st : ℕ → PageState) (p : ℕ) → marked st p p ≡ writtenPage (st p)
+unfolding marked
+marked-at st p = update-same st p (writtenPage (st p))
+
+pub marked-other : (st : ℕ → PageState) (p q : ℕ) → ¬ (q ≡ p) → marked st p q ≡ st q
+unfolding marked
+marked-other st p q d = update-other st p (writtenPage (st p)) q d
+
 -- marking a page written leaves every next page as it was
 pub marked-next : (st : ℕ → PageState) (p q : ℕ) → marked st p q .next ≡ st q .next
-unfolding marked writtenPage
+unfolding writtenPage
 marked-next st p q =
     on-eq q p
-    (λ same. ap (λ (x : ℕ). update st p (writtenPage (st p)) x .next) same
-    ∙ ap (λ (s : PageState). s .next) (update-same st p (writtenPage (st p)))
-    ∙ ap (λ (x : ℕ). st x .next) (sym same))
-    (λ other. ap (λ (s : PageState). s .next) (update-other st p (writtenPage (st p)) q other))
+    (λ same. subst (λ (x : ℕ). marked st p x .next ≡ st x .next) (sym same) (ap (λ (s : PageState). s .next) (marked-at st p)))
+    (λ other. ap (λ (s : PageState). s .next) (marked-other st p q other))
 
 pub along-marked : (st : ℕ → PageState) (p q k : ℕ) → along (marked st p) q k ≡ along st q k
 along-marked st p = along-cong (marked st p) st (marked-next st p)

@@ -17,7 +17,6 @@ use Rattle.state.specs.declared.PageState.{PageState}
 use Rattle.state.specs.State.{pageWords, stateAt, stateWords, inFlight}
 use Rattle.state.specs.StateLaws.{number-flies, PageFacts, StateFacts, stateAt-words, stateWords-at, stateWords-cong, put-stateWords, length-stateWords}
 use Rattle.state.specs.Change.{placeOf, following, launchedPage, launched}
-use Rattle.state.specs.CycleLaws.{next-flies}
 use Rattle.state.specs.Walk.{launchedFirst, Launchable, Launching}
 
 module _ (P : ℕ) (st : ℕ → PageState) (pages : List ℕ) (ok : Launchable P st pages) where

@@ -1,11 +1,10 @@
 // The cycle ("ring") through a page in flight: one walk along next, which ends where it is back at the page.
 
-use super::PageState;
 use super::page_at;
 use super::put_page;
 ghost use mathlib.Core.Path.{_≡_};
 ghost use Rattle.state.specs.State.{stateAt, stateWords};
-ghost use Rattle.state.specs.Change.{completes, completed, withdrawn, afterWrite};
+ghost use Rattle.state.specs.Change.{completes, withdrawn, afterWrite};
 ghost use Rattle.state.specs.Walk.{pagesIn, Walkable, cycleEnded};
 
 // Every other page of the cycle is written: a write of the page completes it.
