@@ -1,3 +1,4 @@
+-- Any length but 32 is refused; else the second number is what was counted.
 use borrow.Author.Needs.{needs}
 use borrow.Author.Tests.{eq-eqb, ne-eqb}
 use native.Mathlib.Omega.{arith}
