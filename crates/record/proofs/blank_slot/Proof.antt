@@ -1,3 +1,4 @@
+-- The words given as the blank record are blankRecord, and the 32 bytes are 255 each.
 use borrow.Author.Needs.{needs}
 use Rattle.record.specs.Slot.{blankRecord}
 use Rattle.record.proofs.blank_slot.Statement.{statement}
