@@ -15,3 +15,4 @@ pub mod OneMore
 pub mod Completed
 pub mod CompletedCore
 pub mod WriteSteps
+pub mod FlightSteps
