@@ -1,15 +1,15 @@
 -- Bytes entered for a page: what a ring, the open rings and the kept contents become. Laws of the lists alone.
 use Prim.Native.Nat.{ℕ}
 use mathlib.Core.Path.{_≡_, refl, sym, ap, ap₂, _∙_, subst}
-use mathlib.Core.Logic.{_⊎_, inl, inr}
-use mathlib.Core.List.{List, [], _∷_, map, List·Memᴰ, List·Memᴰ·head, List·Memᴰ·tail, List·Memᴰ·not-nil, List·Memᴰ·cases-cons}
-use mathlib.Core.Bool.{Bool, true, false, cond, _||_}
+use mathlib.Core.Logic.{_⊎_, inl, inr, _↔_}
+use mathlib.Core.List.{List, [], _∷_, map, List·Memᴰ, List·Memᴰ·head, List·Memᴰ·tail, List·Memᴰ·not-nil, List·Memᴰ·cases-cons, Memᴰ·cast, Memᴰ·map, Memᴰ·of-map}
+use mathlib.Core.Bool.{true, false, cond, _||_}
 use lib.Dec.{eqb}
-use borrow.Author.Tests.{eqb-true, eqb-false, eq-eqb, ne-eqb}
+use borrow.Author.Tests.{eq-eqb, ne-eqb}
 use Rattle.bounded.specs.Choice.{on-eq, on-test, never, neither-left, neither-right}
-use Rattle.atomicity.specs.Model.{Model, Entry, pageOf, inRing, allEntered, enterIn, keep, withRing, settleRing, enter, closeRing}
-use Rattle.atomicity.specs.Rings.{pagesOf, inRings, ringOf, NoRepeats, Apart}
-use Rattle.atomicity.specs.RingLaws.{in-ring-cases, in-ring-behind, entry-in-ring, no-repeats-tail, no-repeats-first}
+use Rattle.atomicity.specs.Model.{Entry, pageOf, inRing, allEntered, enterIn, keep, withRing, settleRing, enter, closeRing}
+use Rattle.atomicity.specs.Rings.{pagesOf, inRings, ringOf, IsEntered, NoRepeats, Apart}
+use Rattle.atomicity.specs.RingLaws.{in-ring-cases, in-ring-behind, entry-in-ring, no-repeats-tail, no-repeats-first, ring-of-page}
 
 -- ---- in a ring
 
@@ -61,7 +61,10 @@ module _ (p : ℕ) (b : List ℕ) where
   enter-other e ring (List·Memᴰ·tail {x = x} {xs = xs} m) n = List·Memᴰ·tail (enter-other e xs m n)
 
   -- an entry of the ring after: the page's, with the bytes, or an entry of another page as before
-  pub enter-cases : (e : Entry) (ring : List Entry) → List·Memᴰ e (enterIn p b ring) → ((e ≡ Entry.Entered p b) × (inRing p ring ≡ true)) ⊎ ((¬ (pageOf e ≡ p)) × List·Memᴰ e ring)
+  pub enter-cases :
+      (e : Entry) (ring : List Entry)
+      → List·Memᴰ e (enterIn p b ring)
+      → ((e ≡ Entry.Entered p b) × (inRing p ring ≡ true)) ⊎ ((¬ (pageOf e ≡ p)) × List·Memᴰ e ring)
   unfolding enterIn entryAfter inRing
   enter-cases e [] m = absurd (List·Memᴰ·not-nil m)
   enter-cases e (x ∷ ring) m =
@@ -83,8 +86,23 @@ module _ (p : ℕ) (b : List ℕ) where
   enter-absents (ring ∷ rings) h =
       ap₂ {C = List (List Entry)} _∷_ (enter-absent ring (neither-left (inRing p ring) (inRings p rings) h)) (enter-absents rings (neither-right (inRing p ring) (inRings p rings) h))
 
+  pub in-rings-enter : (q : ℕ) (rings : List (List Entry)) → inRings q (map (enterIn p b) rings) ≡ inRings q rings
+  unfolding inRings
+  in-rings-enter q [] = refl
+  in-rings-enter q (ring ∷ rings) = ap₂ _||_ (in-ring-enter q ring) (in-rings-enter q rings)
+
+  pub enter-apart : (rings : List (List Entry)) → Apart rings → Apart (map (enterIn p b) rings)
+  enter-apart rings Apart.none = Apart.none
+  enter-apart rings (Apart.more {ring = r} {rings = rs} apart rest) =
+      Apart.more (λ q e. in-rings-enter q rs ∙ apart q (sym (in-ring-enter q r) ∙ e)) (enter-apart rs rest)
+
   -- not all pages of p's ring have bytes: it stays open
-  pub enter-open : (kept : ℕ → List ℕ) (rings : List (List Entry)) → Apart rings → inRings p rings ≡ true → allEntered (enterIn p b (ringOf p rings)) ≡ false → enter p b kept rings ≡ record { kept = kept; rings = map (enterIn p b) rings }
+  pub enter-open :
+      (kept : ℕ → List ℕ) (rings : List (List Entry))
+      → Apart rings
+      → inRings p rings ≡ true
+      → allEntered (enterIn p b (ringOf p rings)) ≡ false
+      → enter p b kept rings ≡ record { kept = kept; rings = map (enterIn p b) rings }
   unfolding enter settleRing withRing ringOf inRings
   enter-open kept rings Apart.none i a = absurd (never i refl)
   enter-open kept rings (Apart.more {ring = r} {rings = rs} apart rest) i a =
@@ -96,7 +114,11 @@ module _ (p : ℕ) (b : List ℕ) where
       rw (h, enter-open kept rs rest i2 a2, enter-absent r h))
 
   -- all pages of p's ring have bytes: it closes, and they are kept
-  pub enter-closes : (kept : ℕ → List ℕ) (rings : List (List Entry)) → inRings p rings ≡ true → allEntered (enterIn p b (ringOf p rings)) ≡ true → enter p b kept rings ≡ record { kept = keep (enterIn p b (ringOf p rings)) kept; rings = closeRing p rings }
+  pub enter-closes :
+      (kept : ℕ → List ℕ) (rings : List (List Entry))
+      → inRings p rings ≡ true
+      → allEntered (enterIn p b (ringOf p rings)) ≡ true
+      → enter p b kept rings ≡ record { kept = keep (enterIn p b (ringOf p rings)) kept; rings = closeRing p rings }
   unfolding enter settleRing withRing ringOf inRings closeRing
   enter-closes kept [] i a = absurd (never i refl)
   enter-closes kept (r ∷ rs) i a =
@@ -105,6 +127,30 @@ module _ (p : ℕ) (b : List ℕ) where
       (λ h. let i2 : inRings p rs ≡ true = rw h at i in
       let a2 : allEntered (enterIn p b (ringOf p rs)) ≡ true = rw h at a in
       rw (h, enter-closes kept rs i2 a2))
+
+  -- what is entered: the bytes for p, and for the other pages what was
+  pub enter-entered :
+      (rings : List (List Entry))
+      → inRings p rings ≡ true
+      → (q : ℕ) (d : List ℕ)
+      → IsEntered (map (enterIn p b) rings) q d ↔ (((q ≡ p) × (d ≡ b)) ⊎ ((¬ (q ≡ p)) × IsEntered rings q d))
+  unfolding pageOf
+  enter-entered rings i q d = (there, back)
+    where
+      there : IsEntered (map (enterIn p b) rings) q d → ((q ≡ p) × (d ≡ b)) ⊎ ((¬ (q ≡ p)) × IsEntered rings q d)
+      there w =
+          let r = Memᴰ·of-map (enterIn p b) rings (w .1) in
+          elim (enter-cases (Entry.Entered q d) (r .0) (subst (λ (x : List Entry). List·Memᴰ (Entry.Entered q d) x) (sym (r .2)) (w .2))) [
+            | inl h ↦ (let e = h .0 in inl (cc, cc))
+            | inr h ↦ inr (h .0, (r .0, r .1, h .1))
+          ]
+
+      back : ((q ≡ p) × (d ≡ b)) ⊎ ((¬ (q ≡ p)) × IsEntered rings q d) → IsEntered (map (enterIn p b) rings) q d
+      back (inl h) =
+          let r = ring-of-page p rings i in
+          (enterIn p b (ringOf p rings), Memᴰ·map (enterIn p b) (r .0), Memᴰ·cast (ap₂ Entry.Entered (h .0) (h .1)) (enter-own (ringOf p rings) (r .1)))
+      back (inr (n, w)) =
+          (enterIn p b (w .0), Memᴰ·map (enterIn p b) (w .1), enter-other (Entry.Entered q d) (w .0) (w .2) n)
 
 -- ---- the kept contents of a closed ring
 

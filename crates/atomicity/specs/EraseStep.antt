@@ -7,8 +7,7 @@ use lib.ListN.{length, getD}
 use Rattle.record.specs.Slot.{slotAt, bytesAt}
 use Rattle.record.specs.Flash.{Flash, Step, applyAll}
 use Rattle.record.specs.FlashLaws.{Sized, blanks-sized}
-use Rattle.state.specs.State.{stateAt, stateSound}
-use Rattle.state.specs.StateLaws.{state-sound-facts}
+use Rattle.state.specs.State.{stateAt}
 use Rattle.volume.specs.Volume.{Volume}
 use Rattle.volume.specs.SizesLaws.{Sizes, Fits}
 use Rattle.volume.specs.ListLaws.{Listed, list-facts}
@@ -44,16 +43,19 @@ module _ (w P S : ℕ) (v : Volume) (m : Model) (size : Sized w S (v .flash)) (s
   pub erased-sized : Sized w S blanked
   erased-sized = blanks-sized w S slots (v .flash) size (free .inside)
 
-  module _ (l : Live w P S v m) where
+  module _ (l : Live w P S (v .flash) (stateAt (v .state)) m) where
     pub erased-core : Core (Held w S blanked) (commOf (stateAt (v .state))) P (m .kept)
     erased-core = core-fewer (blanking-erases w S (v .flash) size slots (free .inside) (stateAt (v .state)) (free .allowed)) (l .core)
 
-    pub erased-live : Live w P S (record { flash = blanked; state = v .state }) m
+    pub erased-apart : NoTwins S (slotAt (blanked .words))
+    erased-apart = blanking-apart w S (v .flash) size slots (free .inside) (l .no-twins)
+
+    pub erased-live : Live w P S blanked (stateAt (v .state)) m
     erased-live =
         record {
           sound = l .sound;
-          no-twins = blanking-apart w S (v .flash) size slots (free .inside) (l .no-twins);
+          no-twins = erased-apart;
           core = erased-core;
-          live = live-erased (blanking-erases w S (v .flash) size slots (free .inside) (stateAt (v .state)) (free .allowed)) (l .core) (state-sound-facts P (stateAt (v .state)) (l .sound)) (l .live);
-          rings = l .rings;
+          live = live-erased (blanking-erases w S (v .flash) size slots (free .inside) (stateAt (v .state)) (free .allowed)) (l .core) (l .sound) (l .live);
+          rings = l .rings
         }

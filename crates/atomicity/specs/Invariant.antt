@@ -7,7 +7,9 @@ use lib.ListN.{length}
 use Rattle.record.specs.declared.Record.{Record}
 use Rattle.record.specs.Slot.{slotAt, bytesAt}
 use Rattle.record.specs.Flash.{Flash}
-use Rattle.state.specs.State.{stateAt, stateSound}
+use Rattle.state.specs.declared.PageState.{PageState}
+use Rattle.state.specs.State.{stateAt}
+use Rattle.state.specs.StateLaws.{StateFacts}
 use Rattle.volume.specs.Volume.{Volume}
 use Rattle.volume.specs.SizesLaws.{Fits}
 use Rattle.protocol.specs.View.{InSlots, NoTwins, recordView}
@@ -22,21 +24,21 @@ abbrev pub Held : (w S : ℕ) → Flash → Record → List ℕ → Type 0
 Held w S f = InSlots S (slotAt (f .words)) (bytesAt w (f .contents))
 
 module _ (w P S : ℕ) where
-  -- The state is known: it is sound, its committed versions are those of the records, and its flights are the model's open rings.
-  pub record Live (v : Volume) (m : Model) : Type 0 where
-    pub sound : stateSound P (stateAt (v .state)) ≡ true
-    pub no-twins : NoTwins S (slotAt (v .flash .words))
-    pub core : Core (Held w S (v .flash)) (commOf (stateAt (v .state))) P (m .kept)
-    pub live : SharedLive recordView P (Held w S (v .flash)) (stateAt (v .state)) (IsEntered (m .rings))
-    pub rings : RingsMatch P (stateAt (v .state)) (m .rings)
+  -- The state st is known: it is sound, its committed versions are those of the records, and its flights are the model's open rings.
+  pub record Live (f : Flash) (st : ℕ → PageState) (m : Model) : Type 0 where
+    pub sound : StateFacts P st
+    pub no-twins : NoTwins S (slotAt (f .words))
+    pub core : Core (Held w S f) (commOf st) P (m .kept)
+    pub live : SharedLive recordView P (Held w S f) st (IsEntered (m .rings))
+    pub rings : RingsMatch P st (m .rings)
 
   -- The state is lost: some committed versions are those of the records, and the model has no open ring.
-  pub record Lost (v : Volume) (m : Model) : Type 0 where
+  pub record Lost (f : Flash) (m : Model) : Type 0 where
     pub comm : ℕ → ℕ
-    pub no-twins : NoTwins S (slotAt (v .flash .words))
-    pub core : Core (Held w S (v .flash)) comm P (m .kept)
+    pub no-twins : NoTwins S (slotAt (f .words))
+    pub core : Core (Held w S f) comm P (m .kept)
     pub closed : m .rings ≡ []
 
   pub data Holding (x : World) (m : Model) : Type 0 where
-    known : x .lost ≡ false → Fits w P S (x .volume) → Live (x .volume) m → Holding x m
-    unknown : x .lost ≡ true → Fits w P S (x .volume) → Lost (x .volume) m → Holding x m
+    known : x .lost ≡ false → Fits w P S (x .volume) → Live (x .volume .flash) (stateAt (x .volume .state)) m → Holding x m
+    unknown : x .lost ≡ true → Fits w P S (x .volume) → Lost (x .volume .flash) m → Holding x m

@@ -18,3 +18,9 @@ pub mod Storing
 pub mod RingLaunch
 pub mod RingClose
 pub mod EntryLaws
+pub mod StateWords
+pub mod LaunchStep
+pub mod WithdrawStep
+pub mod FormatStart
+pub mod CallStep
+pub mod RingWrite

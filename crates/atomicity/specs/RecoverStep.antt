@@ -2,7 +2,7 @@
 use Prim.Native.Nat.{ℕ, _*_, _≤_, _<_}
 use native.Mathlib.Omega.{arith}
 use mathlib.Core.Path.{_≡_, refl, sym, ap, _∙_, subst}
-use mathlib.Core.List.{List, [], List·Memᴰ·not-nil}
+use mathlib.Core.List.{List, []}
 use mathlib.Core.Bool.{Bool, true, false}
 use lib.ListN.{length}
 use Rattle.bounded.specs.Choice.{never}
@@ -13,7 +13,7 @@ use Rattle.record.specs.Flash.{Flash}
 use Rattle.record.specs.FlashLaws.{Sized}
 use Rattle.state.specs.declared.PageState.{PageState}
 use Rattle.state.specs.State.{stateAt, stateWords, stateSound, inFlight}
-use Rattle.state.specs.StateLaws.{length-stateWords}
+use Rattle.state.specs.StateLaws.{length-stateWords, state-sound-facts}
 use Rattle.state.specs.Change.{atRest}
 use Rattle.state.specs.CycleLaws.{Flies}
 use Rattle.volume.specs.Volume.{Volume}
@@ -29,7 +29,8 @@ use Rattle.protocol.specs.RecoverAnswers.{recover-accepts, found-within-used}
 use Rattle.protocol.specs.ReadsKept.{filled-page, filled-sound, read-outcome-kept}
 use Rattle.atomicity.specs.Model.{Model, closeAll}
 use Rattle.atomicity.specs.Promise.{Recovers}
-use Rattle.atomicity.specs.Rings.{IsEntered, RingsMatch, Apart}
+use Rattle.atomicity.specs.Rings.{IsEntered}
+use Rattle.atomicity.specs.RingClose.{no-rings-match}
 use Rattle.atomicity.specs.Invariant.{Held, Live, Lost}
 
 module _ (w P S : ℕ) (f : Flash) (sizes : Sizes P S) (size : Sized w S f) (apart : NoTwins S (slotAt (f .words)))
@@ -96,13 +97,13 @@ module _ (w P S : ℕ) (f : Flash) (sizes : Sizes P S) (size : Sized w S f) (apa
       }
 
   -- the state is known again, with no open ring
-  pub found-again : (m : Model) → m .kept ≡ kept → Live w P S found (closeAll m)
+  pub found-again : (m : Model) → m .kept ≡ kept → Live w P S f (stateAt filled) (closeAll m)
   unfolding closeAll
   found-again m e =
       record {
-        sound = filled-sound w P S found core refl;
+        sound = state-sound-facts P (stateAt filled) (filled-sound w P S found core refl);
         no-twins = apart;
         core = subst (λ (k : ℕ → List ℕ). Core (Held w S f) (commOf (stateAt filled)) P k) (sym e) found-core;
         live = found-live (IsEntered []);
-        rings = record { each = λ ring i. absurd (List·Memᴰ·not-nil i); apart = Apart.none; covered = λ p y. absurd (never (y .flies) (at-rest p (y .below))) };
+        rings = no-rings-match P (stateAt filled) (λ p y. never (y .flies) (at-rest p (y .below)));
       }

@@ -1,9 +1,9 @@
 -- The ring of a page closes as the pages on its cycle leave flight: the other open rings still match the state.
-use Prim.Native.Nat.{ℕ}
-use mathlib.Core.Path.{_≡_, refl, sym, ap, _∙_, subst}
+use Prim.Native.Nat.{ℕ, _<_}
+use mathlib.Core.Path.{_≡_, refl, sym, ap, _∙_}
 use mathlib.Core.Logic.{_↔_}
-use mathlib.Core.List.{List, [], _∷_, List·Memᴰ, List·Memᴰ·not-nil}
-use mathlib.Core.Bool.{Bool, true, false, cond}
+use mathlib.Core.List.{List, [], List·Memᴰ, List·Memᴰ·not-nil}
+use mathlib.Core.Bool.{true, false}
 use Rattle.bounded.specs.Choice.{on-test, never}
 use Rattle.state.specs.declared.PageState.{PageState}
 use Rattle.state.specs.State.{inFlight}
@@ -12,9 +12,9 @@ use Rattle.state.specs.Cycle.{onCycle}
 use Rattle.state.specs.Change.{atRest, withdrawnPage, withdrawn}
 use Rattle.state.specs.CycleLaws.{Flies}
 use Rattle.atomicity.specs.Model.{Entry, pageOf, inRing, closeRing}
-use Rattle.atomicity.specs.Rings.{inRings, ringOf, IsEntered, RingMatches, Apart, RingsMatch}
+use Rattle.atomicity.specs.Rings.{ringOf, IsEntered, Apart, RingsMatch}
 use Rattle.atomicity.specs.RingLaws.{entry-in-ring, ring-in-rings, ring-of-page, ring-of-only, close-among, close-keeps, close-clears, close-apart}
-use Rattle.atomicity.specs.RingCycle.{ring-same, ring-of-has, ring-of-cycle}
+use Rattle.atomicity.specs.RingCycle.{ring-same, ring-of-cycle}
 
 module _ (P : ℕ) (st : ℕ → PageState) (rings : List (List Entry)) (sound : StateFacts P st) (match : RingsMatch P st rings) (p : ℕ) (f : Flies P st p) where
   -- the rings that stay open have no page of p's cycle
@@ -26,7 +26,13 @@ module _ (P : ℕ) (st : ℕ → PageState) (rings : List (List Entry)) (sound :
       (λ off. off)
 
   -- a ring with a page off p's cycle stays open
-  pub close-keeps-off : (ring : List Entry) → List·Memᴰ ring rings → (q : ℕ) → inRing q ring ≡ true → onCycle P st p q ≡ false → List·Memᴰ ring (closeRing p rings)
+  pub close-keeps-off :
+      (ring : List Entry)
+      → List·Memᴰ ring rings
+      → (q : ℕ)
+      → inRing q ring ≡ true
+      → onCycle P st p q ≡ false
+      → List·Memᴰ ring (closeRing p rings)
   close-keeps-off ring m q e off =
       close-keeps p ring rings m
       (on-test (inRing p ring)
@@ -63,9 +69,9 @@ module _ (P : ℕ) (st : ℕ → PageState) (rings : List (List Entry)) (sound :
 
 -- ---- no page in flight, no open ring
 
-pub no-rings-match : (P : ℕ) (st : ℕ → PageState) → ((p : ℕ) → ¬ Flies P st p) → RingsMatch P st []
-no-rings-match P st none = record {
+pub no-rings-match : (P : ℕ) (st : ℕ → PageState) → ((p : ℕ) → p < P → inFlight (st p) ≡ false) → RingsMatch P st []
+no-rings-match P st rests = record {
   each = λ ring m. absurd (List·Memᴰ·not-nil m);
   apart = Apart.none;
-  covered = λ p f. absurd (none p f);
+  covered = λ p f. absurd (never (f .flies) (rests p (f .below)));
 }

@@ -1,12 +1,11 @@
 -- Where the open rings match the state: a page's ring is its cycle, and what is entered for a page.
-use Prim.Native.Nat.{ℕ, zero, suc, _+_, _≤_, _<_}
+use Prim.Native.Nat.{ℕ, zero, suc, _+_, _<_}
 use native.Mathlib.Omega.{arith}
 use native.Mathlib.Numerals.{add-one}
 use mathlib.Core.Path.{_≡_, refl, sym, ap, _∙_, subst}
-use mathlib.Core.Logic.{_↔_}
-use mathlib.Core.List.{List, [], _∷_, List·Memᴰ, List·Memᴰ·head, List·Memᴰ·tail}
-use mathlib.Core.Bool.{Bool, true, false, cond, not}
-use lib.Dec.{ltb, eqb}
+use mathlib.Core.List.{List, List·Memᴰ}
+use mathlib.Core.Bool.{true, false, not}
+use lib.Dec.{eqb}
 use lib.ListN.{length, getD}
 use borrow.Author.Tests.{lt-ltb, le-ltb}
 use Rattle.bounded.specs.Limits.{noNumber}
@@ -16,10 +15,10 @@ use Rattle.state.specs.State.{inFlight, isWritten}
 use Rattle.state.specs.StateLaws.{StateFacts}
 use Rattle.state.specs.Cycle.{along, onCycle}
 use Rattle.state.specs.Change.{following}
-use Rattle.state.specs.CycleLaws.{Flies, along-zero, along-suc, on-cycle-of, on-cycle-at, on-cycle-sym, on-cycle-trans, on-cycle-flies}
+use Rattle.state.specs.CycleLaws.{Flies, on-cycle-of, on-cycle-at, on-cycle-sym, on-cycle-trans}
 use Rattle.atomicity.specs.Model.{Entry, pageOf, hasBytes, inRing}
 use Rattle.atomicity.specs.Rings.{pagesOf, inRings, ringOf, IsEntered, RunsRound, RingMatches, RingsMatch}
-use Rattle.atomicity.specs.RingLaws.{in-ring-place, place-in-ring, in-ring-entry, entry-in-ring, one-entry, ring-in-rings, ring-of-page, ring-of-only, entered-in-ring}
+use Rattle.atomicity.specs.RingLaws.{in-ring-place, place-in-ring, in-ring-entry, entry-in-ring, one-entry, ring-in-rings, ring-of-page, entered-in-ring}
 
 -- ---- the following page of a list
 
@@ -86,7 +85,11 @@ module _ (P : ℕ) (st : ℕ → PageState) (ring : List Entry) (runs : RunsRoun
 -- ---- a ring goes by its own pages' states
 
 -- next runs round pages whose next pages stay
-pub runs-same : (P : ℕ) (st st′ : ℕ → PageState) (pages : List ℕ) → ((i : ℕ) → i < length pages → st′ (getD pages i 0) .next ≡ st (getD pages i 0) .next) → RunsRound P st pages → RunsRound P st′ pages
+pub runs-same :
+    (P : ℕ) (st st′ : ℕ → PageState) (pages : List ℕ)
+    → ((i : ℕ) → i < length pages → st′ (getD pages i 0) .next ≡ st (getD pages i 0) .next)
+    → RunsRound P st pages
+    → RunsRound P st′ pages
 unfolding inFlight
 runs-same P st st′ pages h runs = record {
   not-empty = runs .not-empty;
@@ -95,7 +98,11 @@ runs-same P st st′ pages h runs = record {
   linked = λ i l. h i l ∙ runs .linked i l;
 }
 
-pub ring-same : (P : ℕ) (st st′ : ℕ → PageState) (ring : List Entry) → ((p : ℕ) → inRing p ring ≡ true → st′ p ≡ st p) → RingMatches P st ring → RingMatches P st′ ring
+pub ring-same :
+    (P : ℕ) (st st′ : ℕ → PageState) (ring : List Entry)
+    → ((p : ℕ) → inRing p ring ≡ true → st′ p ≡ st p)
+    → RingMatches P st ring
+    → RingMatches P st′ ring
 ring-same P st st′ ring h m = record {
   runs = runs-same P st st′ (pagesOf ring) (λ i l. ap (λ (s : PageState). s .next) (h (getD (pagesOf ring) i 0) (place-in-ring (getD (pagesOf ring) i 0) ring i l refl))) (m .runs);
   written = λ e s. ap isWritten (h (pageOf e) (entry-in-ring e ring s)) ∙ m .written e s;
@@ -109,6 +116,14 @@ module _ (P : ℕ) (st : ℕ → PageState) (rings : List (List Entry)) (match :
   rings-fly p e =
       let w = ring-of-page p rings e in
       ring-flies P st (ringOf p rings) (match .each (ringOf p rings) (w .0) .runs) p (w .1)
+
+  -- the pages below P decide
+  pub rings-match-cong : (st′ : ℕ → PageState) → ((q : ℕ) → q < P → st′ q ≡ st q) → RingsMatch P st′ rings
+  rings-match-cong st′ h = record {
+    each = λ ring m. ring-same P st st′ ring (λ q e. h q (ring-flies P st ring (match .each ring m .runs) q e .below)) (match .each ring m);
+    apart = match .apart;
+    covered = λ q f. match .covered q (record { below = f .below; flies = ap inFlight (sym (h q (f .below))) ∙ f .flies });
+  }
 
   pub ring-of-matches : (p : ℕ) → Flies P st p → RingMatches P st (ringOf p rings)
   ring-of-matches p f = match .each (ringOf p rings) (ring-of-page p rings (match .covered p f) .0)

@@ -1,13 +1,13 @@
 -- A launch opens a ring: the open rings still match the state, and what is entered stays.
-use Prim.Native.Nat.{ℕ, zero, suc, _≤_, _<_}
+use Prim.Native.Nat.{ℕ, suc, _≤_, _<_}
 use native.Mathlib.Omega.{arith}
 use mathlib.Core.Path.{_≡_, refl, sym, ap, _∙_, subst}
-use mathlib.Core.Logic.{_⊎_, inl, inr, _↔_}
-use mathlib.Core.List.{List, [], _∷_, List·Memᴰ, List·Memᴰ·head, List·Memᴰ·tail, List·Memᴰ·not-nil, List·Memᴰ·cases-cons}
-use mathlib.Core.Bool.{Bool, true, false, cond, not, _&&_}
+use mathlib.Core.Logic.{inl, inr, _↔_}
+use mathlib.Core.List.{List, [], _∷_, List·Memᴰ, List·Memᴰ·tail, List·Memᴰ·not-nil, List·Memᴰ·cases-cons}
+use mathlib.Core.Bool.{true, false, not, _&&_}
 use lib.Dec.{ltb, leb, eqb}
 use lib.ListN.{length, getD}
-use borrow.Author.Tests.{ltb-true, leb-true, eqb-false, eq-eqb, lt-ltb, le-ltb, not-true}
+use borrow.Author.Tests.{ltb-true, leb-true, eqb-false, lt-ltb, le-ltb, not-true}
 use Rattle.bounded.specs.Limits.{noNumber, highestVersion}
 use Rattle.bounded.specs.Choice.{on-lt, on-test, never, both-left, both-right, either-left, either-right}
 use Rattle.bounded.specs.Below.{allBelow}
@@ -16,13 +16,12 @@ use Rattle.state.specs.declared.PageState.{PageState}
 use Rattle.state.specs.State.{inFlight, isWritten}
 use Rattle.state.specs.StateLaws.{number-flies, StateFacts}
 use Rattle.state.specs.Change.{placeOf, following, launchedPage, launched}
-use Rattle.state.specs.CycleLaws.{Flies}
 use Rattle.state.specs.Walk.{Launchable}
 use Rattle.state.specs.LaunchLaws.{place-listed, listed-place}
 use Rattle.volume.specs.Volume.{noRepeats, inRange, listOk}
 use Rattle.transact.specs.Launch.{somePage, usedUp}
 use Rattle.atomicity.specs.Model.{Entry, pageOf, hasBytes, inRing, newRing}
-use Rattle.atomicity.specs.Rings.{pagesOf, inRings, IsEntered, NoRepeats, RunsRound, RingMatches, Apart, RingsMatch}
+use Rattle.atomicity.specs.Rings.{pagesOf, inRings, IsEntered, RunsRound, RingMatches, Apart, RingsMatch}
 use Rattle.atomicity.specs.RingLaws.{in-ring-place, place-in-ring}
 use Rattle.atomicity.specs.RingCycle.{following-place, ring-same, ring-flies, rings-fly}
 
@@ -33,7 +32,13 @@ unfolding listOk
 listed-some P pages e = leb-true 1 (length pages) (both-left (leb 1 (length pages)) (inRange P pages && noRepeats pages) e)
 
 -- what the tests of the launch say of the listed pages
-pub listed-launchable : (P : ℕ) (st : ℕ → PageState) (pages : List ℕ) → StateFacts P st → listOk P pages ≡ true → somePage pages st inFlight ≡ false → somePage pages st usedUp ≡ false → Launchable P st pages
+pub listed-launchable :
+    (P : ℕ) (st : ℕ → PageState) (pages : List ℕ)
+    → StateFacts P st
+    → listOk P pages ≡ true
+    → somePage pages st inFlight ≡ false
+    → somePage pages st usedUp ≡ false
+    → Launchable P st pages
 unfolding listOk inRange noRepeats somePage usedUp
 listed-launchable P st pages sound ok rest left = record {
   in-range = within;
@@ -85,7 +90,11 @@ module _ (P : ℕ) (st : ℕ → PageState) (pages : List ℕ) (ok : Launchable 
   launched-listed i l = rw (place-listed P st pages ok i l, lt-ltb i (length pages) l)
 
   -- a page is listed and at rest before, or stays as it was
-  pub launched-cases {ℓ} : {C : Type ℓ} (q : ℕ) → ((i : ℕ) → i < length pages → getD pages i 0 ≡ q → inFlight (st q) ≡ false → C) → (launched pages st q ≡ st q → C) → C
+  pub launched-cases {ℓ} :
+      {C : Type ℓ} (q : ℕ)
+      → ((i : ℕ) → i < length pages → getD pages i 0 ≡ q → inFlight (st q) ≡ false → C)
+      → (launched pages st q ≡ st q → C)
+      → C
   unfolding launched
   launched-cases q f g =
       on-lt (placeOf pages q) (length pages)
@@ -149,6 +158,19 @@ module _ (P : ℕ) (st : ℕ → PageState) (pages : List ℕ) (ok : Launchable 
             (place-in-ring p (newRing pages) i (subst (λ (x : List ℕ). i < length x) (sym (pages-new pages)) l) (subst (λ (x : List ℕ). getD x i 0 ≡ p) (sym (pages-new pages)) h)))
             (λ h. either-right (inRing p (newRing pages)) (match .covered p (record { below = f .below; flies = ap inFlight (sym h) ∙ f .flies })));
       }
+
+-- … by the tests of an accepted launch
+pub launch-accepted-match :
+    (P : ℕ) (st : ℕ → PageState) (pages : List ℕ) (rings : List (List Entry))
+    → P ≤ noNumber
+    → StateFacts P st
+    → listOk P pages ≡ true
+    → somePage pages st inFlight ≡ false
+    → somePage pages st usedUp ≡ false
+    → RingsMatch P st rings
+    → RingsMatch P (launched pages st) (newRing pages ∷ rings)
+launch-accepted-match P st pages rings fits sound ok rest left match =
+    launch-match P st pages (listed-launchable P st pages sound ok rest left) (listed-some P pages ok) fits rings match
 
 -- what is entered stays
 pub launch-entered : (pages : List ℕ) (rings : List (List Entry)) (p : ℕ) (b : List ℕ) → IsEntered (newRing pages ∷ rings) p b ↔ IsEntered rings p b

@@ -2,20 +2,25 @@
 use Prim.Native.Nat.{ℕ, zero, suc, _<_}
 use native.Mathlib.Omega.{arith}
 use mathlib.Core.Path.{_≡_, refl, sym, ap, _∙_, subst}
-use mathlib.Core.Logic.{_⊎_, inl, inr}
+use mathlib.Core.Logic.{inl, inr}
 use mathlib.Core.List.{List, [], _∷_, List·Memᴰ, List·Memᴰ·head, List·Memᴰ·tail, List·Memᴰ·cases-cons}
-use mathlib.Core.Bool.{Bool, true, false, cond, _||_, _&&_}
+use mathlib.Core.Bool.{true, false}
 use lib.Dec.{eqb}
 use lib.ListN.{length, getD}
-use borrow.Author.Tests.{eqb-true, eq-eqb, ne-eqb}
-use Rattle.bounded.specs.Choice.{on-eq, on-test, never, both, both-left, both-right, either, either-left, either-right, neither-left, neither-right}
+use borrow.Author.Tests.{eqb-true, eq-eqb}
+use Rattle.bounded.specs.Choice.{on-test, never, both, both-left, both-right, either, either-left, either-right}
 use Rattle.atomicity.specs.Model.{Entry, pageOf, hasBytes, inRing, allEntered, closeRing}
 use Rattle.atomicity.specs.Rings.{pagesOf, inRings, ringOf, IsEntered, NoRepeats, Apart}
 
 -- ---- a page in a ring
 
 -- it is the first entry's, or stands behind
-pub in-ring-cases {ℓ} : {C : Type ℓ} (p : ℕ) (x : Entry) (ring : List Entry) → inRing p (x ∷ ring) ≡ true → (pageOf x ≡ p → C) → (inRing p ring ≡ true → C) → C
+pub in-ring-cases {ℓ} :
+    {C : Type ℓ} (p : ℕ) (x : Entry) (ring : List Entry)
+    → inRing p (x ∷ ring) ≡ true
+    → (pageOf x ≡ p → C)
+    → (inRing p ring ≡ true → C)
+    → C
 unfolding inRing
 in-ring-cases p x ring e f g =
     elim (either (eqb (pageOf x) p) (inRing p ring) e) [ inl h ↦ f (eqb-true (pageOf x) p h) | inr h ↦ g h ]
@@ -97,7 +102,10 @@ ring-in-rings p ring rings (List·Memᴰ·head {x = r} {xs = rs} h) e = either-l
 ring-in-rings p ring rings (List·Memᴰ·tail {x = r} {xs = rs} m) e = either-right (inRing p r) (ring-in-rings p ring rs m e)
 
 -- it is an open ring and has the page
-pub ring-of-page : (p : ℕ) (rings : List (List Entry)) → inRings p rings ≡ true → List·Memᴰ (ringOf p rings) rings × (inRing p (ringOf p rings) ≡ true)
+pub ring-of-page :
+    (p : ℕ) (rings : List (List Entry))
+    → inRings p rings ≡ true
+    → List·Memᴰ (ringOf p rings) rings × (inRing p (ringOf p rings) ≡ true)
 unfolding inRings ringOf
 ring-of-page p [] e = absurd (never e refl)
 ring-of-page p (ring ∷ rings) e =
@@ -106,7 +114,12 @@ ring-of-page p (ring ∷ rings) e =
     (λ h. let w = ring-of-page p rings (rw h at e) in rw h (List·Memᴰ·tail (w .0), w .1))
 
 -- … the only one
-pub ring-of-only : (p : ℕ) (ring : List Entry) (rings : List (List Entry)) → Apart rings → List·Memᴰ ring rings → inRing p ring ≡ true → ringOf p rings ≡ ring
+pub ring-of-only :
+    (p : ℕ) (ring : List Entry) (rings : List (List Entry))
+    → Apart rings
+    → List·Memᴰ ring rings
+    → inRing p ring ≡ true
+    → ringOf p rings ≡ ring
 unfolding ringOf
 ring-of-only p ring rings (Apart.more {ring = r} {rings = rs} a rest) (List·Memᴰ·head h) e =
     rw (ap (inRing p) (sym h) ∙ e) (sym h)
@@ -116,7 +129,13 @@ ring-of-only p ring rings (Apart.more {ring = r} {rings = rs} a rest) (List·Mem
     (λ h. rw h (ring-of-only p ring rs rest m e))
 
 -- bytes entered for a page of p's ring are entered in that ring
-pub entered-in-ring : (p q : ℕ) (d : List ℕ) (rings : List (List Entry)) → Apart rings → inRings p rings ≡ true → inRing q (ringOf p rings) ≡ true → IsEntered rings q d → List·Memᴰ (Entry.Entered q d) (ringOf p rings)
+pub entered-in-ring :
+    (p q : ℕ) (d : List ℕ) (rings : List (List Entry))
+    → Apart rings
+    → inRings p rings ≡ true
+    → inRing q (ringOf p rings) ≡ true
+    → IsEntered rings q d
+    → List·Memᴰ (Entry.Entered q d) (ringOf p rings)
 unfolding pageOf
 entered-in-ring p q d rings a e h w =
     let own = ring-of-only q (w .0) rings a (w .1) (entry-in-ring (Entry.Entered q d) (w .0) (w .2)) in
@@ -135,7 +154,11 @@ close-among p ring (r ∷ rings) m =
     elim (List·Memᴰ·cases-cons t) [ inl e ↦ List·Memᴰ·head e | inr k ↦ List·Memᴰ·tail (close-among p ring rings k) ])
 
 -- each other ring stays open
-pub close-keeps : (p : ℕ) (ring : List Entry) (rings : List (List Entry)) → List·Memᴰ ring rings → inRing p ring ≡ false → List·Memᴰ ring (closeRing p rings)
+pub close-keeps :
+    (p : ℕ) (ring : List Entry) (rings : List (List Entry))
+    → List·Memᴰ ring rings
+    → inRing p ring ≡ false
+    → List·Memᴰ ring (closeRing p rings)
 unfolding closeRing
 close-keeps p ring rings (List·Memᴰ·head {x = r} {xs = rs} h) e = rw (ap (inRing p) (sym h) ∙ e) (List·Memᴰ·head h)
 close-keeps p ring rings (List·Memᴰ·tail {x = r} {xs = rs} m) e =
@@ -152,7 +175,12 @@ in-rings-close q p rings e =
     (λ h. h)
 
 -- no ring that stays open has a page of the one that closed
-pub close-clears : (p q : ℕ) (rings : List (List Entry)) → Apart rings → inRings p rings ≡ true → inRing q (ringOf p rings) ≡ true → inRings q (closeRing p rings) ≡ false
+pub close-clears :
+    (p q : ℕ) (rings : List (List Entry))
+    → Apart rings
+    → inRings p rings ≡ true
+    → inRing q (ringOf p rings) ≡ true
+    → inRings q (closeRing p rings) ≡ false
 unfolding closeRing ringOf inRings
 close-clears p q rings Apart.none i e = refl
 close-clears p q rings (Apart.more {ring = r} {rings = rs} a rest) i e =

@@ -1,0 +1,104 @@
+-- A call that returns keeps the invariant: refused it changes nothing, accepted it is its step.
+use Prim.Native.Nat.{ℕ, zero, suc, _*_, _≤_, _<_}
+use native.Mathlib.Omega.{arith}
+use mathlib.Core.Path.{_≡_, refl, sym, ap, _∙_, subst}
+use mathlib.Core.List.{List, []}
+use mathlib.Core.Bool.{Bool, true, false}
+use lib.ListN.{length}
+use Rattle.bounded.specs.Limits.{noNumber}
+use Rattle.outcome.specs.Outcome.{Outcome, settled-answer}
+use Rattle.record.specs.Slot.{slotAt, isBlank}
+use Rattle.record.specs.Flash.{Flash}
+use Rattle.record.specs.FlashLaws.{Sized}
+use Rattle.state.specs.State.{stateAt, stateWords}
+use Rattle.state.specs.StateLaws.{length-stateWords}
+use Rattle.state.specs.Change.{launched, withdrawn, afterWrite}
+use Rattle.state.specs.CycleLaws.{Flies}
+use Rattle.volume.specs.Volume.{Volume}
+use Rattle.volume.specs.SizesLaws.{Sizes, Fits}
+use Rattle.transact.specs.Launch.{launchAnswer, launchOutcome}
+use Rattle.transact.specs.Write.{writeAnswer, writeOutcome}
+use Rattle.transact.specs.Withdraw.{withdrawAnswer, withdrawOutcome}
+use Rattle.transact.specs.CallLaws.{launch-refused, launch-done, write-refused, write-done, withdraw-refused, withdraw-done}
+use Rattle.collect.specs.Erase.{eraseAnswer, eraseOutcome, eraseSteps}
+use Rattle.collect.specs.CallLaws.{erase-refused, erase-done}
+use Rattle.recovery.specs.Recover.{recoverAnswer, recoverOutcome}
+use Rattle.recovery.specs.RecoverLaws.{recover-refused, recover-fills}
+use Rattle.atomicity.specs.Call.{Call, withState, withFlash, perform}
+use Rattle.atomicity.specs.Model.{Model, accept, closeAll}
+use Rattle.atomicity.specs.RingLaunch.{listed-some, listed-launchable}
+use Rattle.atomicity.specs.Invariant.{Held, Live}
+use Rattle.atomicity.specs.Accepted.{launchable, withdrawable, writable, erasable}
+use Rattle.atomicity.specs.StateWords.{live-words}
+use Rattle.atomicity.specs.LaunchStep.{launched-live}
+use Rattle.atomicity.specs.WithdrawStep.{withdrawn-live}
+use Rattle.atomicity.specs.EraseStep.{erasable-free, erased-sized, erased-live}
+use Rattle.atomicity.specs.RecoverStep.{found-fits, found-again}
+
+module _ (w P S : ℕ) (v : Volume) where
+  -- a call's answer in a run is the call's own
+  pub answer-is : (call : Call) → ℕ
+  answer-is (Call.Launch pages) = launchAnswer P S (v .state) pages
+  answer-is (Call.Write page slot bytes) = writeAnswer w P S v page slot bytes
+  answer-is (Call.Withdraw page) = withdrawAnswer P S (v .state) page
+  answer-is (Call.Erase slots) = eraseAnswer w P S v slots
+  answer-is Call.Recover = recoverAnswer P S (v .flash .words) (v .state)
+
+  pub performs : (call : Call) → perform w P S v call .answer ≡ answer-is call
+  unfolding perform withState withFlash answer-is launchOutcome writeOutcome withdrawOutcome eraseOutcome recoverOutcome
+  performs (Call.Launch pages) = settled-answer (launchAnswer P S (v .state) pages) _ _ _ _
+  performs (Call.Write page slot bytes) = settled-answer (writeAnswer w P S v page slot bytes) _ _ _ _
+  performs (Call.Withdraw page) = settled-answer (withdrawAnswer P S (v .state) page) _ _ _ _
+  performs (Call.Erase slots) = settled-answer (eraseAnswer w P S v slots) _ _ _ _
+  performs Call.Recover = settled-answer (recoverAnswer P S (v .flash .words) (v .state)) _ _ _ _
+
+  -- a refused call leaves the volume as it was
+  pub refused-leaves : (call : Call) → ¬ (answer-is call ≡ 0) → perform w P S v call .left ≡ v
+  unfolding perform withState withFlash answer-is
+  refused-leaves (Call.Launch pages) n = ap (λ (o : Outcome (List ℕ)). record { flash = v .flash; state = o .left }) (launch-refused P S (v .state) pages n)
+  refused-leaves (Call.Write page slot bytes) n = ap (λ (o : Outcome Volume). o .left) (write-refused w P S v page slot bytes n)
+  refused-leaves (Call.Withdraw page) n = ap (λ (o : Outcome (List ℕ)). record { flash = v .flash; state = o .left }) (withdraw-refused P S (v .state) page n)
+  refused-leaves (Call.Erase slots) n = ap (λ (o : Outcome Flash). record { flash = o .left; state = v .state }) (erase-refused w P S v slots n)
+  refused-leaves Call.Recover n = ap (λ (o : Outcome (List ℕ)). record { flash = v .flash; state = o .left }) (recover-refused P S (v .flash .words) (v .state) n)
+
+-- the invariant of a volume whose state is known
+pub record Known (w P S : ℕ) (v : Volume) (m : Model) : Type 0 where
+  pub fits : Fits w P S v
+  pub live : Live w P S (v .flash) (stateAt (v .state)) m
+
+module _ (w P S : ℕ) (v : Volume) (m : Model) (k : Known w P S v m) where
+  small : P ≤ noNumber
+  small = let l = k .fits .sizes .pages-most in omega arith
+
+  launch-accepted : (pages : List ℕ) → launchAnswer P S (v .state) pages ≡ 0 → Known w P S (perform w P S v (Call.Launch pages) .left) (accept m (Call.Launch pages))
+  unfolding perform withState
+  launch-accepted pages e =
+      let a = launchable P S (v .state) pages e in
+      let ok = listed-launchable P (stateAt (v .state)) pages (k .live .sound) (a .listed) (a .none-flying) (a .none-used-up) in
+      let l = launched-live w P S small (v .flash) (stateAt (v .state)) m (k .live) pages (listed-some P pages (a .listed)) ok in
+      subst (λ (o : Outcome (List ℕ)). Known w P S (record { flash = v .flash; state = o .left }) (accept m (Call.Launch pages))) (sym (launch-done P S (v .state) pages e))
+      (record {
+        fits = record { sizes = k .fits .sizes; flash-sized = k .fits .flash-sized; state-sized = length-stateWords P (launched pages (stateAt (v .state))) };
+        live = live-words w P S (v .flash) (launched pages (stateAt (v .state))) (accept m (Call.Launch pages)) l
+      })
+
+  withdraw-accepted : (page : ℕ) → withdrawAnswer P S (v .state) page ≡ 0 → Known w P S (perform w P S v (Call.Withdraw page) .left) (accept m (Call.Withdraw page))
+  unfolding perform withState
+  withdraw-accepted page e =
+      let a = withdrawable P S (v .state) page e in
+      let y : Flies P (stateAt (v .state)) page = record { below = a .page-below; flies = a .flying } in
+      subst (λ (o : Outcome (List ℕ)). Known w P S (record { flash = v .flash; state = o .left }) (accept m (Call.Withdraw page))) (sym (withdraw-done P S (v .state) page e))
+      (record {
+        fits = record { sizes = k .fits .sizes; flash-sized = k .fits .flash-sized; state-sized = length-stateWords P (withdrawn P (stateAt (v .state)) page) };
+        live = live-words w P S (v .flash) (withdrawn P (stateAt (v .state)) page) (accept m (Call.Withdraw page)) (withdrawn-live w P S (v .flash) (stateAt (v .state)) m (k .live) page y)
+      })
+
+  erase-accepted : (slots : List ℕ) → eraseAnswer w P S v slots ≡ 0 → Known w P S (perform w P S v (Call.Erase slots) .left) (accept m (Call.Erase slots))
+  unfolding perform withFlash eraseSteps accept
+  erase-accepted slots e =
+      let free = erasable-free S v slots (erasable w P S v slots e) in
+      subst (λ (o : Outcome Flash). Known w P S (record { flash = o .left; state = v .state }) m) (sym (erase-done w P S v slots e))
+      (record {
+        fits = record { sizes = k .fits .sizes; flash-sized = erased-sized w P S v m (k .fits .flash-sized) slots free; state-sized = k .fits .state-sized };
+        live = erased-live w P S v m (k .fits .flash-sized) slots free (k .live)
+      })

@@ -1,0 +1,199 @@
+-- A formatted volume has the invariant, with the zeros kept.
+use Prim.Native.Nat.{ℕ, _*_, _≤_, _<_}
+use native.Mathlib.Omega.{arith}
+use mathlib.Core.Path.{_≡_, refl, sym, ap, _∙_, subst}
+use mathlib.Core.List.{List, []}
+use mathlib.Core.Logic.{_⊎_, inl, inr}
+use mathlib.Core.Bool.{Bool, true, false, cond}
+use lib.Dec.{ltb}
+use lib.ListN.{length, replicate, length-replicate}
+use borrow.Author.Tests.{lt-ltb, le-ltb}
+use Rattle.bounded.specs.Limits.{highestVersion, maxPages, noNumber}
+use Rattle.bounded.specs.Choice.{on-lt, never}
+use Rattle.bounded.specs.Parts.{part, joinParts}
+use Rattle.bounded.specs.PartsLaws.{part-joinParts, length-joinParts}
+use Rattle.record.specs.declared.Record.{Record}
+use Rattle.record.specs.declared.Slot.{Slot}
+use Rattle.record.specs.declared.Slot.the-variants.{Blank, Holds}
+use Rattle.record.specs.Slot.{wordsOf, slotOf, slotAt, bytesAt, formattedRecord, blankRecord, recordSound}
+use Rattle.record.specs.SlotLaws.{words-length, slot-of-words, slot-of-blank, sound-test}
+use Rattle.record.specs.Flash.{Flash}
+use Rattle.record.specs.FlashLaws.{Sized}
+use Rattle.state.specs.declared.PageState.{PageState}
+use Rattle.state.specs.State.{stateAt, stateWords, inFlight}
+use Rattle.state.specs.StateLaws.{StateFacts, PageFacts, length-stateWords}
+use Rattle.state.specs.Change.{atRest, freshState}
+use Rattle.table.specs.TableLaws.{blank-holds}
+use Rattle.volume.specs.Volume.{Volume}
+use Rattle.volume.specs.SizesLaws.{Sizes, Fits}
+use Rattle.volume.specs.Format.{formattedWords, formattedContents, formatted}
+use Rattle.protocol.specs.View.{NoTwins, recordView}
+use Rattle.protocol.specs.Shared.{SharedCore, SharedLive, commOf}
+use Rattle.protocol.specs.BackPointer.{Core}
+use Rattle.atomicity.specs.Model.{Model, freshModel}
+use Rattle.atomicity.specs.Rings.{IsEntered}
+use Rattle.atomicity.specs.RingClose.{no-rings-match}
+use Rattle.atomicity.specs.Invariant.{Held, Live}
+use Rattle.atomicity.specs.StateWords.{live-words}
+
+module _ (w P S : ℕ) (sizes : Sizes P S) where
+  abbrev words : List ℕ
+  words = formattedWords P S
+
+  abbrev contents : List ℕ
+  contents = formattedContents w P S
+
+  -- what slot k is given
+  recordFor : ℕ → Record
+  recordFor k = cond (ltb k P) (formattedRecord k) blankRecord
+
+  slot-is : (k : ℕ) → k < S → slotAt words k ≡ slotOf (wordsOf (recordFor k))
+  unfolding slotAt formattedWords recordFor
+  slot-is k h = ap slotOf (part-joinParts 5 S k (λ k. wordsOf (recordFor k)) (λ j. words-length (recordFor j)) h)
+
+  slot-of-page : (k : ℕ) → k < S → k < P → slotAt words k ≡ Holds (formattedRecord k)
+  unfolding recordFor formattedRecord
+  slot-of-page k h l = slot-is k h ∙ rw (lt-ltb k P l) (slot-of-words (formattedRecord k) (omega arith))
+
+  slot-beyond : (k : ℕ) → k < S → P ≤ k → slotAt words k ≡ Blank
+  unfolding recordFor
+  slot-beyond k h l = slot-is k h ∙ rw (le-ltb k P l) slot-of-blank
+
+  bytes-of-page : (k : ℕ) → k < S → k < P → bytesAt w contents k ≡ replicate w 0
+  unfolding bytesAt formattedContents
+  bytes-of-page k h l =
+      part-joinParts w S k (λ k. replicate w (cond (ltb k P) 0 255)) (λ j. length-replicate w (cond (ltb j P) 0 255)) h
+      ∙ ap (λ (b : Bool). replicate w (cond b 0 255)) (lt-ltb k P l)
+
+  -- a record stands in the slot of its page, and is the formatted one
+  record Given (k : ℕ) (r : Record) : Type 0 where
+    below : k < P
+    is : r ≡ formattedRecord k
+
+  given : (k : ℕ) (r : Record) → k < S → slotAt words k ≡ Holds r → Given k r
+  given k r h e =
+      on-lt k P
+      (λ l. record { below = l; is = (let f = slot-of-page k h l in cc) })
+      (λ l. absurd (blank-holds (slot-beyond k h l) e))
+
+  page-is : (k : ℕ) (r : Record) → Given k r → (r .p ≡ k) × (r .v ≡ 0) × (r .c ≡ 0) × (r .np ≡ k) × (r .nv ≡ 0)
+  unfolding formattedRecord
+  page-is k r g =
+      let e = g .is in
+      (ap (λ (x : Record). x .p) e, ap (λ (x : Record). x .v) e, ap (λ (x : Record). x .c) e, ap (λ (x : Record). x .np) e, ap (λ (x : Record). x .nv) e)
+
+  formatted-sized : Sized w S (formatted w P S .flash)
+  unfolding formatted formattedWords formattedContents
+  formatted-sized =
+      record {
+        words-sized = length-joinParts 5 S (λ k. wordsOf (cond (ltb k P) (formattedRecord k) blankRecord)) (λ j. words-length (cond (ltb j P) (formattedRecord j) blankRecord));
+        contents-sized = length-joinParts w S (λ k. replicate w (cond (ltb k P) 0 255)) (λ j. length-replicate w (cond (ltb j P) 0 255))
+      }
+
+  pub formatted-fits : Fits w P S (formatted w P S)
+  unfolding formatted
+  formatted-fits = record { sizes = sizes; flash-sized = formatted-sized; state-sized = length-stateWords P freshState }
+
+  -- every record's version and link version is 0
+  versions : (r : Record) (b : List ℕ) → Held w S (record { words = words; contents = contents }) r b → (r .p < P) × (r .v ≡ 0) × (r .c ≡ 0) × (r .np ≡ r .p) × (r .nv ≡ 0)
+  versions r b h =
+      let g = given (h .0) r (h .1) (h .2) in
+      let i = page-is (h .0) r g in
+      let l = g .below in
+      let e = i .0 in
+      (omega arith, i .1, i .2, i .3 ∙ sym (i .0), i .4)
+
+  fresh-rests : (p : ℕ) → inFlight (freshState p) ≡ false
+  unfolding freshState atRest inFlight
+  fresh-rests p = refl
+
+  fresh-versions : (p : ℕ) → (freshState p .committed ≡ 0) × (freshState p .used ≡ 0)
+  unfolding freshState atRest
+  fresh-versions p = (refl, refl)
+
+  fresh-facts : StateFacts P freshState
+  unfolding freshState atRest inFlight
+  fresh-facts =
+      record {
+        page = λ p h. record {
+          committed-used = omega arith;
+          used-highest = omega arith;
+          flies-below-used = λ y. absurd (never y (fresh-rests p));
+          next-below = λ y. absurd (never y (fresh-rests p));
+          next-flies = λ y. absurd (never y (fresh-rests p));
+          written-bit = omega arith;
+          written-flies = λ e. absurd (omega arith)
+        };
+        apart = λ p q h i y. absurd (never y (fresh-rests p))
+      }
+
+  module _ (f : Flash) (is : f ≡ record { words = words; contents = contents }) where
+    at-start : (r : Record) (b : List ℕ) → Held w S f r b → Held w S (record { words = words; contents = contents }) r b
+    at-start r b h = subst (λ (x : Flash). Held w S x r b) is h
+
+    start-apart : NoTwins S (slotAt (f .words))
+    start-apart =
+        subst (λ (x : Flash). NoTwins S (slotAt (x .words))) (sym is)
+        (λ j k a b lj lk ea eb p v. let i = page-is j a (given j a lj ea) .0 in let u = page-is k b (given k b lk eb) .0 in omega arith)
+
+    start-core : Core (Held w S f) (commOf freshState) P (freshModel w .kept)
+    unfolding freshModel recordSound formattedRecord
+    start-core =
+        subst (λ (x : Flash). Core (Held w S x) (commOf freshState) P (λ p. replicate w 0)) (sym is)
+        (record {
+          shared = record {
+            all-sound = λ r b h. let v = versions r b h in sound-test P r (record {
+              page-below = v .0;
+              next-below = (let l = v .0 in let e = v .3 in omega arith);
+              v-most = (let e = v .1 in omega arith);
+              c-most = (let e = v .2 in omega arith);
+              nv-most = (let e = v .4 in omega arith);
+              c-before-v = inr (v .2, v .1);
+              own-link = λ q. v .4 ∙ sym (v .1)
+            });
+            one-record = λ r s b d h i p e.
+              let g = given (h .0) r (h .1) (h .2) in
+              let u = given (i .0) s (i .1) (i .2) in
+              let k : h .0 ≡ i .0 = sym (page-is (h .0) r g .0) ∙ p ∙ page-is (i .0) s u .0 in
+              (g .is ∙ ap formattedRecord k ∙ sym (u .is), sym (h .3) ∙ ap (bytesAt w contents) k ∙ i .3);
+            committed-kept = λ p l. let s = sizes .slots-least in
+              (formattedRecord p, (p, omega arith, slot-of-page p (omega arith) l, bytes-of-page p (omega arith) l), (refl, sym (fresh-versions p .0)));
+            committed-link = λ r b h e. let v = versions r b h .4 in omega arith;
+            links-apart = λ r s b d h i e g p n. let v = versions r b h .3 in let u = versions s d i .3 in omega arith;
+            exposed-open = λ r b h x. absurd (let v = versions r b h .1 in omega arith)
+          };
+          own = record {
+            exposed-back = λ r b h x. absurd (let v = versions r b h .1 in omega arith);
+            committed-clear = λ r K b d h i e s. let v = versions r b h .4 in let a = s .above-c in omega arith;
+            exposed-link = λ r b h x. absurd (let v = versions r b h .1 in omega arith)
+          }
+        })
+
+    start-live : SharedLive recordView P (Held w S f) freshState (IsEntered [])
+    start-live =
+        record {
+          within-used = record {
+            version-used = λ r b h. let v = versions r b (at-start r b h) .1 in omega arith;
+            link-used = λ r b h. let v = versions r b (at-start r b h) .4 in omega arith
+          };
+          written-stored = λ p h y. absurd (never y (fresh-rests p));
+          unwritten-absent = λ p h y. absurd (never y (fresh-rests p));
+          unwritten-not-entered = λ p h y. absurd (never y (fresh-rests p));
+          link-planned = λ p h y. absurd (never y (fresh-rests p))
+        }
+
+    start : Live w P S f freshState (freshModel w)
+    unfolding freshModel
+    start =
+        record {
+          sound = fresh-facts;
+          no-twins = start-apart;
+          core = start-core;
+          live = start-live;
+          rings = no-rings-match P freshState (λ p y. never (y .flies) (fresh-rests p))
+        }
+
+  -- the volume that an accepted format leaves
+  pub formatted-live : Live w P S (formatted w P S .flash) (stateAt (formatted w P S .state)) (freshModel w)
+  unfolding formatted
+  formatted-live = live-words w P S (record { words = words; contents = contents }) freshState (freshModel w) (start (record { words = words; contents = contents }) refl)

@@ -1,0 +1,74 @@
+-- Withdrawing keeps the invariant: the records stay, and one ring's pages are at rest.
+use Prim.Native.Nat.{ℕ, _≤_, _<_}
+use native.Mathlib.Omega.{arith}
+use mathlib.Core.Path.{_≡_, refl, sym, ap, _∙_, subst}
+use mathlib.Core.List.{List}
+use mathlib.Core.Logic.{_⊎_, inl, inr}
+use mathlib.Core.Bool.{Bool, true, false, cond}
+use Rattle.bounded.specs.Choice.{never, on-test}
+use Rattle.record.specs.Flash.{Flash}
+use Rattle.state.specs.declared.PageState.{PageState}
+use Rattle.state.specs.State.{inFlight}
+use Rattle.state.specs.StateLaws.{StateFacts}
+use Rattle.state.specs.Cycle.{onCycle}
+use Rattle.state.specs.Change.{atRest, withdrawnPage, withdrawn}
+use Rattle.state.specs.CycleLaws.{Flies, on-cycle-next, on-cycle-before}
+use Rattle.state.specs.ChangeLaws.{withdrawn-sound}
+use Rattle.protocol.specs.View.{recordView}
+use Rattle.protocol.specs.Shared.{SharedLive, commOf}
+use Rattle.protocol.specs.SameSet.{SameRecords, core-same, StateChanges, Launched, GoesOn, live-changes}
+use Rattle.atomicity.specs.Call.{Call}
+use Rattle.atomicity.specs.Model.{Model, closeRing, accept}
+use Rattle.atomicity.specs.Rings.{IsEntered}
+use Rattle.atomicity.specs.RingClose.{close-entered, withdraw-match}
+use Rattle.atomicity.specs.Invariant.{Held, Live}
+
+module _ (w P S : ℕ) (f : Flash) (st : ℕ → PageState) (m : Model) (l : Live w P S f st m) (page : ℕ) (y : Flies P st page) where
+  on-it : (q : ℕ) → onCycle P st page q ≡ true → withdrawn P st page q ≡ withdrawnPage (st q)
+  unfolding withdrawn
+  on-it q e = rw e
+
+  off-it : (q : ℕ) → onCycle P st page q ≡ false → withdrawn P st page q ≡ st q
+  unfolding withdrawn
+  off-it q e = rw e
+
+  same-versions : (q : ℕ) → (withdrawn P st page q .committed ≡ st q .committed) × (withdrawn P st page q .used ≡ st q .used)
+  unfolding withdrawnPage atRest
+  same-versions q =
+      on-test (onCycle P st page q)
+      (λ e. (ap (λ (s : PageState). s .committed) (on-it q e), ap (λ (s : PageState). s .used) (on-it q e)))
+      (λ e. (ap (λ (s : PageState). s .committed) (off-it q e), ap (λ (s : PageState). s .used) (off-it q e)))
+
+  -- a page still in flight is on another cycle
+  still-off : (q : ℕ) → inFlight (withdrawn P st page q) ≡ true → onCycle P st page q ≡ false
+  unfolding withdrawnPage atRest inFlight
+  still-off q z = on-test (onCycle P st page q) (λ e. absurd (never z (ap inFlight (on-it q e)))) (λ e. e)
+
+  changes : StateChanges P st (withdrawn P st page) (IsEntered (m .rings)) (IsEntered (closeRing page (m .rings)))
+  changes =
+      record {
+        used-rises = λ p h. let e = same-versions p .1 in omega arith;
+        flights = λ p h z.
+          let off = still-off p z in
+          let e = off-it p off in
+          inr (record {
+            unchanged = e;
+            next-used = same-versions (st p .next) .1;
+            before = λ q i g n. off-it q (on-test (onCycle P st page q)
+              (λ on. absurd (never (subst (λ (x : ℕ). onCycle P st page x ≡ true) n (on-cycle-next P st (l .sound) page y q on)) off))
+              (λ o. o));
+            entered = λ d n. close-entered P st (m .rings) (l .sound) (l .rings) page y p off d .1 n;
+            entered-before = λ d n. close-entered P st (m .rings) (l .sound) (l .rings) page y p off d .0 n
+          })
+      }
+
+  pub withdrawn-live : Live w P S f (withdrawn P st page) (accept m (Call.Withdraw page))
+  unfolding accept
+  withdrawn-live =
+      record {
+        sound = withdrawn-sound P st (l .sound) page y;
+        no-twins = l .no-twins;
+        core = core-same (record { forth = λ r b h. h; back = λ r b h. h; same-comm = λ p h. sym (same-versions p .0); same-kept = λ p h. refl }) (l .core);
+        live = live-changes recordView changes (l .core .shared .all-sound) (l .live);
+        rings = withdraw-match P st (m .rings) (l .sound) (l .rings) page y
+      }
