@@ -79,7 +79,7 @@ module _ (w P S : ℕ) (v : Volume) (m : Model) (k : Known w P S v m) where
       subst (λ (o : Outcome (List ℕ)). Known w P S (record { flash = v .flash; state = o .left }) (accept m (Call.Launch pages))) (sym (launch-done P S (v .state) pages e))
       (record {
         fits = record { sizes = k .fits .sizes; flash-sized = k .fits .flash-sized; state-sized = length-stateWords P (launched pages (stateAt (v .state))) };
-        live = live-words w P S (v .flash) (launched pages (stateAt (v .state))) (accept m (Call.Launch pages)) l
+        live = live-words w P S (v .flash) (launched pages (stateAt (v .state))) (accept m (Call.Launch pages)) l;
       })
 
   withdraw-accepted : (page : ℕ) → withdrawAnswer P S (v .state) page ≡ 0 → Known w P S (perform w P S v (Call.Withdraw page) .left) (accept m (Call.Withdraw page))
@@ -90,7 +90,7 @@ module _ (w P S : ℕ) (v : Volume) (m : Model) (k : Known w P S v m) where
       subst (λ (o : Outcome (List ℕ)). Known w P S (record { flash = v .flash; state = o .left }) (accept m (Call.Withdraw page))) (sym (withdraw-done P S (v .state) page e))
       (record {
         fits = record { sizes = k .fits .sizes; flash-sized = k .fits .flash-sized; state-sized = length-stateWords P (withdrawn P (stateAt (v .state)) page) };
-        live = live-words w P S (v .flash) (withdrawn P (stateAt (v .state)) page) (accept m (Call.Withdraw page)) (withdrawn-live w P S (v .flash) (stateAt (v .state)) m (k .live) page y)
+        live = live-words w P S (v .flash) (withdrawn P (stateAt (v .state)) page) (accept m (Call.Withdraw page)) (withdrawn-live w P S (v .flash) (stateAt (v .state)) m (k .live) page y);
       })
 
   erase-accepted : (slots : List ℕ) → eraseAnswer w P S v slots ≡ 0 → Known w P S (perform w P S v (Call.Erase slots) .left) (accept m (Call.Erase slots))
@@ -100,5 +100,5 @@ module _ (w P S : ℕ) (v : Volume) (m : Model) (k : Known w P S v m) where
       subst (λ (o : Outcome Flash). Known w P S (record { flash = o .left; state = v .state }) m) (sym (erase-done w P S v slots e))
       (record {
         fits = record { sizes = k .fits .sizes; flash-sized = erased-sized w P S v m (k .fits .flash-sized) slots free; state-sized = k .fits .state-sized };
-        live = erased-live w P S v m (k .fits .flash-sized) slots free (k .live)
+        live = erased-live w P S v m (k .fits .flash-sized) slots free (k .live);
       })

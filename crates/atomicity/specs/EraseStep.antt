@@ -57,5 +57,5 @@ module _ (w P S : ℕ) (v : Volume) (m : Model) (size : Sized w S (v .flash)) (s
           no-twins = erased-apart;
           core = erased-core;
           live = live-erased (blanking-erases w S (v .flash) size slots (free .inside) (stateAt (v .state)) (free .allowed)) (l .core) (l .sound) (l .live);
-          rings = l .rings
+          rings = l .rings;
         }

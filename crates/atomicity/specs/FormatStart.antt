@@ -87,7 +87,7 @@ module _ (w P S : ℕ) (sizes : Sizes P S) where
   formatted-sized =
       record {
         words-sized = length-joinParts 5 S (λ k. wordsOf (cond (ltb k P) (formattedRecord k) blankRecord)) (λ j. words-length (cond (ltb j P) (formattedRecord j) blankRecord));
-        contents-sized = length-joinParts w S (λ k. replicate w (cond (ltb k P) 0 255)) (λ j. length-replicate w (cond (ltb j P) 0 255))
+        contents-sized = length-joinParts w S (λ k. replicate w (cond (ltb k P) 0 255)) (λ j. length-replicate w (cond (ltb j P) 0 255));
       }
 
   pub formatted-fits : Fits w P S (formatted w P S)
@@ -122,9 +122,9 @@ module _ (w P S : ℕ) (sizes : Sizes P S) where
           next-below = λ y. absurd (never y (fresh-rests p));
           next-flies = λ y. absurd (never y (fresh-rests p));
           written-bit = omega arith;
-          written-flies = λ e. absurd (omega arith)
+          written-flies = λ e. absurd (omega arith);
         };
-        apart = λ p q h i y. absurd (never y (fresh-rests p))
+        apart = λ p q h i y. absurd (never y (fresh-rests p));
       }
 
   module _ (f : Flash) (is : f ≡ record { words = words; contents = contents }) where
@@ -149,24 +149,24 @@ module _ (w P S : ℕ) (sizes : Sizes P S) where
               c-most = (let e = v .2 in omega arith);
               nv-most = (let e = v .4 in omega arith);
               c-before-v = inr (v .2, v .1);
-              own-link = λ q. v .4 ∙ sym (v .1)
+              own-link = λ q. v .4 ∙ sym (v .1);
             });
             one-record = λ r s b d h i p e.
-              let g = given (h .0) r (h .1) (h .2) in
-              let u = given (i .0) s (i .1) (i .2) in
-              let k : h .0 ≡ i .0 = sym (page-is (h .0) r g .0) ∙ p ∙ page-is (i .0) s u .0 in
-              (g .is ∙ ap formattedRecord k ∙ sym (u .is), sym (h .3) ∙ ap (bytesAt w contents) k ∙ i .3);
+                let g = given (h .0) r (h .1) (h .2) in
+                let u = given (i .0) s (i .1) (i .2) in
+                let k : h .0 ≡ i .0 = sym (page-is (h .0) r g .0) ∙ p ∙ page-is (i .0) s u .0 in
+                (g .is ∙ ap formattedRecord k ∙ sym (u .is), sym (h .3) ∙ ap (bytesAt w contents) k ∙ i .3);
             committed-kept = λ p l. let s = sizes .slots-least in
-              (formattedRecord p, (p, omega arith, slot-of-page p (omega arith) l, bytes-of-page p (omega arith) l), (refl, sym (fresh-versions p .0)));
+                (formattedRecord p, (p, omega arith, slot-of-page p (omega arith) l, bytes-of-page p (omega arith) l), (refl, sym (fresh-versions p .0)));
             committed-link = λ r b h e. let v = versions r b h .4 in omega arith;
             links-apart = λ r s b d h i e g p n. let v = versions r b h .3 in let u = versions s d i .3 in omega arith;
-            exposed-open = λ r b h x. absurd (let v = versions r b h .1 in omega arith)
+            exposed-open = λ r b h x. absurd (let v = versions r b h .1 in omega arith);
           };
           own = record {
             exposed-back = λ r b h x. absurd (let v = versions r b h .1 in omega arith);
             committed-clear = λ r K b d h i e s. let v = versions r b h .4 in let a = s .above-c in omega arith;
-            exposed-link = λ r b h x. absurd (let v = versions r b h .1 in omega arith)
-          }
+            exposed-link = λ r b h x. absurd (let v = versions r b h .1 in omega arith);
+          };
         })
 
     start-live : SharedLive recordView P (Held w S f) freshState (IsEntered [])
@@ -174,12 +174,12 @@ module _ (w P S : ℕ) (sizes : Sizes P S) where
         record {
           within-used = record {
             version-used = λ r b h. let v = versions r b (at-start r b h) .1 in omega arith;
-            link-used = λ r b h. let v = versions r b (at-start r b h) .4 in omega arith
+            link-used = λ r b h. let v = versions r b (at-start r b h) .4 in omega arith;
           };
           written-stored = λ p h y. absurd (never y (fresh-rests p));
           unwritten-absent = λ p h y. absurd (never y (fresh-rests p));
           unwritten-not-entered = λ p h y. absurd (never y (fresh-rests p));
-          link-planned = λ p h y. absurd (never y (fresh-rests p))
+          link-planned = λ p h y. absurd (never y (fresh-rests p));
         }
 
     start : Live w P S f freshState (freshModel w)
@@ -190,7 +190,7 @@ module _ (w P S : ℕ) (sizes : Sizes P S) where
           no-twins = start-apart;
           core = start-core;
           live = start-live;
-          rings = no-rings-match P freshState (λ p y. never (y .flies) (fresh-rests p))
+          rings = no-rings-match P freshState (λ p y. never (y .flies) (fresh-rests p));
         }
 
   -- the volume that an accepted format leaves

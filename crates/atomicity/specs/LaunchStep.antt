@@ -43,24 +43,24 @@ module _ (w P S : ℕ) (fits : P ≤ noNumber) (f : Flash) (st : ℕ → PageSta
   changes =
       record {
         used-rises = λ p h.
-          launched-cases P st pages ok p
-          (λ i b e r. let q = ap (λ (s : PageState). s .used) (listed-is p i b e) in omega arith)
-          (λ e. let q = ap (λ (s : PageState). s .used) e in omega arith);
+            launched-cases P st pages ok p
+            (λ i b e r. let q = ap (λ (s : PageState). s .used) (listed-is p i b e) in omega arith)
+            (λ e. let q = ap (λ (s : PageState). s .used) e in omega arith);
         flights = λ p h y.
-          launched-cases P st pages ok p
-          (λ i b e r. inl (record {
-            fresh = (let q = ap (λ (s : PageState). s .used) (listed-is p i b e) in omega arith);
-            not-written = ap isWritten (listed-is p i b e);
-            none-entered = λ d n. never (entered-flies P st (m .rings) (l .rings) p d (launch-entered pages (m .rings) p d .0 n) .flies) r
-          }))
-          (λ e. let z : inFlight (st p) ≡ true = ap inFlight (sym e) ∙ y in
-          inr (record {
-            unchanged = e;
-            next-used = ap (λ (s : PageState). s .used) (launched-flying P st pages ok (st p .next) (l .sound .page p h .next-flies z));
-            before = λ q i g n. launched-flying P st pages ok q g;
-            entered = λ d n. launch-entered pages (m .rings) p d .1 n;
-            entered-before = λ d n. launch-entered pages (m .rings) p d .0 n
-          }))
+            launched-cases P st pages ok p
+            (λ i b e r. inl (record {
+              fresh = (let q = ap (λ (s : PageState). s .used) (listed-is p i b e) in omega arith);
+              not-written = ap isWritten (listed-is p i b e);
+              none-entered = λ d n. never (entered-flies P st (m .rings) (l .rings) p d (launch-entered pages (m .rings) p d .0 n) .flies) r;
+            }))
+            (λ e. let z : inFlight (st p) ≡ true = ap inFlight (sym e) ∙ y in
+            inr (record {
+              unchanged = e;
+              next-used = ap (λ (s : PageState). s .used) (launched-flying P st pages ok (st p .next) (l .sound .page p h .next-flies z));
+              before = λ q i g n. launched-flying P st pages ok q g;
+              entered = λ d n. launch-entered pages (m .rings) p d .1 n;
+              entered-before = λ d n. launch-entered pages (m .rings) p d .0 n;
+            }));
       }
 
   pub launched-live : Live w P S f (launched pages st) (accept m (Call.Launch pages))
@@ -71,5 +71,5 @@ module _ (w P S : ℕ) (fits : P ≤ noNumber) (f : Flash) (st : ℕ → PageSta
         no-twins = l .no-twins;
         core = core-same (record { forth = λ r b h. h; back = λ r b h. h; same-comm = same-comm; same-kept = λ p h. refl }) (l .core);
         live = live-changes recordView changes (l .core .shared .all-sound) (l .live);
-        rings = launch-match P st pages ok some fits (m .rings) (l .rings)
+        rings = launch-match P st pages ok some fits (m .rings) (l .rings);
       }

@@ -23,13 +23,15 @@ module _ (P : ℕ) (st st′ : ℕ → PageState) (same : (p : ℕ) → p < P �
   facts-below s =
       record {
         page = λ p h. subst (λ (x : PageState). PageFacts P st′ x) (sym (same p h)) (over (st p) (s .page p h));
-        apart = λ p q h i f g e. s .apart p q h i (flies p h f) (flies q i g) (sym (nexts p h) ∙ e ∙ nexts q i)
+        apart = λ p q h i f g e. s .apart p q h i (flies p h f) (flies q i g) (sym (nexts p h) ∙ e ∙ nexts q i);
       }
     where
       flies : (p : ℕ) → p < P → inFlight (st′ p) ≡ true → inFlight (st p) ≡ true
       flies p h f = ap inFlight (sym (same p h)) ∙ f
+
       nexts : (p : ℕ) → p < P → st′ p .next ≡ st p .next
       nexts p h = ap (λ (x : PageState). x .next) (same p h)
+
       over : (x : PageState) → PageFacts P st x → PageFacts P st′ x
       over x f =
           record {
@@ -39,7 +41,7 @@ module _ (P : ℕ) (st st′ : ℕ → PageState) (same : (p : ℕ) → p < P �
             next-below = f .next-below;
             next-flies = λ y. ap inFlight (same (x .next) (f .next-below y)) ∙ f .next-flies y;
             written-bit = f .written-bit;
-            written-flies = f .written-flies
+            written-flies = f .written-flies;
           }
 
   rings-below : (rings : List (List Entry)) → RingsMatch P st rings → RingsMatch P st′ rings
@@ -48,7 +50,7 @@ module _ (P : ℕ) (st st′ : ℕ → PageState) (same : (p : ℕ) → p < P �
         each = λ ring m. let r = match .each ring m in
             ring-same P st st′ ring (λ p i. same p (ring-flies P st ring (r .runs) p i .below)) r;
         apart = match .apart;
-        covered = λ p y. match .covered p (record { below = y .below; flies = ap inFlight (sym (same p (y .below))) ∙ y .flies })
+        covered = λ p y. match .covered p (record { below = y .below; flies = ap inFlight (sym (same p (y .below))) ∙ y .flies });
       }
 
   goes-on : StateFacts P st → (E : ℕ → List ℕ → Type 0) → StateChanges P st st′ E E
@@ -56,14 +58,14 @@ module _ (P : ℕ) (st st′ : ℕ → PageState) (same : (p : ℕ) → p < P �
       record {
         used-rises = λ p h. let e = ap (λ (x : PageState). x .used) (same p h) in omega arith;
         flights = λ p h y.
-          let f = ap inFlight (sym (same p h)) ∙ y in
-          inr (record {
-            unchanged = same p h;
-            next-used = ap (λ (x : PageState). x .used) (same (st p .next) (s .page p h .next-below f));
-            before = λ q i z e. same q i;
-            entered = λ b e. e;
-            entered-before = λ b e. e
-          })
+            let f = ap inFlight (sym (same p h)) ∙ y in
+            inr (record {
+              unchanged = same p h;
+              next-used = ap (λ (x : PageState). x .used) (same (st p .next) (s .page p h .next-below f));
+              before = λ q i z e. same q i;
+              entered = λ b e. e;
+              entered-before = λ b e. e;
+            });
       }
 
   pub live-below : (w S : ℕ) (f : Flash) (m : Model) → Live w P S f st m → Live w P S f st′ m
@@ -73,7 +75,7 @@ module _ (P : ℕ) (st st′ : ℕ → PageState) (same : (p : ℕ) → p < P �
         no-twins = l .no-twins;
         core = core-same (record { forth = λ r b h. h; back = λ r b h. h; same-comm = λ p h. sym (ap (λ (x : PageState). x .committed) (same p h)); same-kept = λ p h. refl }) (l .core);
         live = live-changes recordView (goes-on (l .sound) (IsEntered (m .rings))) (l .core .shared .all-sound) (l .live);
-        rings = rings-below (m .rings) (l .rings)
+        rings = rings-below (m .rings) (l .rings);
       }
 
 -- the state that the words of st say

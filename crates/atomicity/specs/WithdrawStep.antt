@@ -49,17 +49,17 @@ module _ (w P S : ℕ) (f : Flash) (st : ℕ → PageState) (m : Model) (l : Liv
       record {
         used-rises = λ p h. let e = same-versions p .1 in omega arith;
         flights = λ p h z.
-          let off = still-off p z in
-          let e = off-it p off in
-          inr (record {
-            unchanged = e;
-            next-used = same-versions (st p .next) .1;
-            before = λ q i g n. off-it q (on-test (onCycle P st page q)
-              (λ on. absurd (never (subst (λ (x : ℕ). onCycle P st page x ≡ true) n (on-cycle-next P st (l .sound) page y q on)) off))
-              (λ o. o));
-            entered = λ d n. close-entered P st (m .rings) (l .sound) (l .rings) page y p off d .1 n;
-            entered-before = λ d n. close-entered P st (m .rings) (l .sound) (l .rings) page y p off d .0 n
-          })
+            let off = still-off p z in
+            let e = off-it p off in
+            inr (record {
+              unchanged = e;
+              next-used = same-versions (st p .next) .1;
+              before = λ q i g n. off-it q (on-test (onCycle P st page q)
+                  (λ on. absurd (never (subst (λ (x : ℕ). onCycle P st page x ≡ true) n (on-cycle-next P st (l .sound) page y q on)) off))
+                  (λ o. o));
+              entered = λ d n. close-entered P st (m .rings) (l .sound) (l .rings) page y p off d .1 n;
+              entered-before = λ d n. close-entered P st (m .rings) (l .sound) (l .rings) page y p off d .0 n;
+            });
       }
 
   pub withdrawn-live : Live w P S f (withdrawn P st page) (accept m (Call.Withdraw page))
@@ -70,5 +70,5 @@ module _ (w P S : ℕ) (f : Flash) (st : ℕ → PageState) (m : Model) (l : Liv
         no-twins = l .no-twins;
         core = core-same (record { forth = λ r b h. h; back = λ r b h. h; same-comm = λ p h. sym (same-versions p .0); same-kept = λ p h. refl }) (l .core);
         live = live-changes recordView changes (l .core .shared .all-sound) (l .live);
-        rings = withdraw-match P st (m .rings) (l .sound) (l .rings) page y
+        rings = withdraw-match P st (m .rings) (l .sound) (l .rings) page y;
       }

@@ -15,4 +15,3 @@ pub mod OneMore
 pub mod Completed
 pub mod CompletedCore
 pub mod WriteSteps
-pub mod FlightSteps

@@ -27,7 +27,7 @@ use Rattle.protocol.specs.Shared.{SharedCore, WithinUsed}
 use Rattle.protocol.specs.BackPointer.{Core}
 use Rattle.protocol.specs.RecoverAnswers.{table-sound, committed-there, recovered-is, found-within-used}
 use Rattle.table.specs.TableLaws.{lowest-holds}
-use Rattle.protocol.specs.FlightSteps.{at-rest}
+use Rattle.protocol.specs.WriteSteps.{at-rest}
 use Rattle.protocol.specs.Needed.{used-most}
 
 -- pages at rest are a sound state where each has its committed version at most its used one

@@ -25,7 +25,11 @@ use Rattle.protocol.specs.View.{recordView}
 use Rattle.protocol.specs.Shared.{plan}
 use Rattle.protocol.specs.OneMore.{Missing, Marks}
 use Rattle.protocol.specs.Completed.{Completes}
-use Rattle.protocol.specs.FlightSteps.{at-rest}
+
+-- a page at rest is not in flight
+pub at-rest : (c u : ℕ) → inFlight (atRest c u) ≡ false
+unfolding atRest
+at-rest c u = none-rests (atRest c u) refl
 
 module _ (P : ℕ) (st : ℕ → PageState) (sound : StateFacts P st) (p : ℕ) (f : Flies P st p) where
   -- the record planned for a page in flight is sound
