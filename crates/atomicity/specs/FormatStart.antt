@@ -190,7 +190,11 @@ module _ (w P S : ℕ) (sizes : Sizes P S) where
           no-twins = start-apart;
           core = start-core;
           live = start-live;
+<<<<<<< HEAD
           rings = no-rings-match P freshState (λ p h. fresh-rests p);
+=======
+          rings = no-rings-match P freshState (λ p y. never (y .flies) (fresh-rests p));
+>>>>>>> 9c2f40aba74ffe8146fdaa8e9283cbabd15d5511
         }
 
   -- the volume that an accepted format leaves

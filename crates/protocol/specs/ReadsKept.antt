@@ -27,12 +27,8 @@ use Rattle.protocol.specs.Shared.{SharedCore, WithinUsed}
 use Rattle.protocol.specs.BackPointer.{Core}
 use Rattle.protocol.specs.RecoverAnswers.{table-sound, committed-there, recovered-is, found-within-used}
 use Rattle.table.specs.TableLaws.{lowest-holds}
+use Rattle.protocol.specs.WriteSteps.{at-rest}
 use Rattle.protocol.specs.Needed.{used-most}
-
--- a page at rest is not in flight
-at-rest : (c u : ℕ) → inFlight (atRest c u) ≡ false
-unfolding atRest
-at-rest c u = none-rests (atRest c u) refl
 
 -- pages at rest are a sound state where each has its committed version at most its used one
 at-rest-facts : (P : ℕ) (st : ℕ → PageState) (c u : ℕ) → c ≤ u → u ≤ highestVersion → PageFacts P st (atRest c u)

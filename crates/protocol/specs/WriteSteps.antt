@@ -26,6 +26,11 @@ use Rattle.protocol.specs.Shared.{plan}
 use Rattle.protocol.specs.OneMore.{Missing, Marks}
 use Rattle.protocol.specs.Completed.{Completes}
 
+-- a page at rest is not in flight
+pub at-rest : (c u : ℕ) → inFlight (atRest c u) ≡ false
+unfolding atRest
+at-rest c u = none-rests (atRest c u) refl
+
 module _ (P : ℕ) (st : ℕ → PageState) (sound : StateFacts P st) (p : ℕ) (f : Flies P st p) where
   -- the record planned for a page in flight is sound
   pub planned-sound : recordSound P (plan recordView st p) ≡ true
@@ -119,10 +124,6 @@ module _ (P : ℕ) (st : ℕ → PageState) (sound : StateFacts P st) (p : ℕ) 
   completed-off : (q : ℕ) → onCycle P st p q ≡ false → completed P st p q ≡ st q
   unfolding completed
   completed-off q c = rw c
-
-  at-rest : (c u : ℕ) → inFlight (atRest c u) ≡ false
-  unfolding atRest
-  at-rest c u = none-rests (atRest c u) refl
 
   pub completes-with :
       {st′ : ℕ → PageState} {bytes : List ℕ} {kept kept′ : ℕ → List ℕ} {Entered Entered′ : ℕ → List ℕ → Type 0}
