@@ -1,9 +1,16 @@
 // The volume: sizes and lists as every call checks them; format and read. The definitions are in specs/.
 ghost use mathlib.Core.Path.{_≡_};
-ghost use Prim.Native.Nat.{_<_};
+ghost use Prim.Native.Nat.{_+_, _*_, _≤_, _<_};
 ghost use lib.ListN.{length};
+ghost use Rattle.bounded.specs.Limits.{width};
+ghost use Rattle.bounded.specs.Parts.{putPart};
 ghost use Rattle.volume.specs.Volume.{volume, sizesOk, wordsFit, contentsFit, stateFits, volumeFits, listOk};
 ghost use Rattle.volume.specs.ListLaws.{newAt};
+ghost use Rattle.volume.specs.Format.{formattedWords, formattedContents};
+ghost use Rattle.volume.specs.FormatLaws.{freshWords, freshBytes};
+
+// Bytes of contents a slot has.
+pub const WIDTH: usize = 32;
 
 // "P pages (pistons), 1 to 256 … S slots, P to 1,024"
 pub fn sizes_ok(pages: u32, slots: u32) -> bool
@@ -99,4 +106,40 @@ pub fn list_ok(list: &[u32], bound: u32) -> bool
         i += 1;
     }
     true
+}
+
+// One slot as format leaves it: a page's record with zero bytes, or blank with bytes 255.
+fn format_slot(words: &mut [u32], contents: &mut [u8], pages: u32, slot: u32)
+    requires { ⌜ 5 * slot + 5 ≤ length (now words) ⌝ }
+    requires { ⌜ width * slot + width ≤ length (now contents) ⌝ }
+    ensures { λ _. ⌜ now (words .exit) ≡ putPart 5 slot (freshWords pages slot) (now (words .entry)) ⌝ }
+    ensures { λ _. ⌜ now (contents .exit) ≡ putPart width slot (freshBytes width pages slot) (now (contents .entry)) ⌝ }
+{
+    if slot < pages {
+        let zeros = [0u8; WIDTH];
+        record::put_slot(
+            words,
+            contents,
+            slot,
+            record::Record::formatted(slot),
+            &zeros,
+        );
+        return;
+    }
+    let ones = [255u8; WIDTH];
+    record::put_slot(words, contents, slot, record::Record::BLANK, &ones);
+}
+
+// Every slot as format leaves it.
+fn format_flash(words: &mut [u32], contents: &mut [u8], pages: u32, slots: u32)
+    requires { ⌜ length (now words) ≡ 5 * slots ⌝ }
+    requires { ⌜ length (now contents) ≡ width * slots ⌝ }
+    ensures { λ _. ⌜ now (words .exit) ≡ formattedWords pages slots ⌝ }
+    ensures { λ _. ⌜ now (contents .exit) ≡ formattedContents width pages slots ⌝ }
+{
+    let mut k = 0;
+    while k < slots {
+        format_slot(words, contents, pages, k);
+        k += 1;
+    }
 }
