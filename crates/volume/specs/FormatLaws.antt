@@ -1,6 +1,6 @@
 -- What format writes slot by slot, and that it leaves the formatted flash.
 use Prim.Native.Nat.{ℕ, _*_, _≤_, _<_}
-use mathlib.Core.Path.{_≡_, refl, ap, _∙_}
+use mathlib.Core.Path.{_≡_}
 use mathlib.Core.List.{List}
 use mathlib.Core.Bool.{cond}
 use lib.Dec.{ltb}
@@ -8,6 +8,9 @@ use lib.ListN.{length, replicate, length-replicate}
 use borrow.Author.Tests.{lt-ltb, le-ltb}
 use Rattle.record.specs.Slot.{wordsOf, formattedRecord, blankRecord}
 use Rattle.record.specs.SlotLaws.{words-length}
+use Rattle.state.specs.declared.PageState.{PageState}
+use Rattle.state.specs.State.{pageWords, stateWords}
+use Rattle.state.specs.StateLaws.{length-pageWords}
 use Rattle.volume.specs.Fill.{filled, filled-all}
 use Rattle.volume.specs.Format.{formattedWords, formattedContents}
 
@@ -54,3 +57,8 @@ words-formatted P S words e = filled-all 5 (freshWords P) words S e (length-fres
 pub contents-formatted : (w P S : ℕ) (contents : List ℕ) → length contents ≡ w * S → filled w (freshBytes w P) S contents ≡ formattedContents w P S
 unfolding formattedContents freshBytes
 contents-formatted w P S contents e = filled-all w (freshBytes w P) contents S e (λ k. length-freshBytes P k w)
+
+-- all pages of a state written, each as st says
+pub state-filled : (P : ℕ) (st : ℕ → PageState) (state : List ℕ) → length state ≡ 4 * P → filled 4 (λ p. pageWords (st p)) P state ≡ stateWords P st
+unfolding stateWords
+state-filled P st state e = filled-all 4 (λ p. pageWords (st p)) state P e (λ p. length-pageWords (st p))

@@ -1,7 +1,6 @@
 use Prim.Native.Nat.{ℕ, _≤_, _-_}
 use native.Mathlib.Omega.{arith}
 use mathlib.Core.Path.{_≡_, refl, ap, _∙_}
-use mathlib.Core.List.{List}
 use lib.ListN.{length}
 use Rattle.bounded.specs.Limits.{width}
 use Rattle.bounded.specs.Parts.{putPart}

@@ -1,9 +1,5 @@
-use Prim.Native.Nat.{ℕ}
-use mathlib.Core.Path.{sym, ap, _∙_}
-use mathlib.Core.List.{List}
 use borrow.Author.Needs.{needs}
-use Rattle.bounded.specs.Parts.{putPart}
-use Rattle.record.specs.Slot.{wordsOf, blankRecord}
+use Rattle.record.specs.Slot.{blankRecord}
 use Rattle.volume.specs.FormatLaws.{words-of-page, bytes-of-page, words-of-free, bytes-of-free}
 use Rattle.volume.proofs.format_slot.Statement.{statement}
 use Rattle.volume.proofs.format_slot.Tie as tie
