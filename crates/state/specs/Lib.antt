@@ -4,3 +4,5 @@ pub mod Change
 pub mod Computing
 pub mod StateLaws
 pub mod CycleLaws
+pub mod Walk
+pub mod WalkLaws

@@ -1,0 +1,96 @@
+-- A walk along a cycle, one page a step, changes exactly the pages of the cycle; a walk along a list exactly the listed pages.
+use Prim.Native.Nat.{ℕ, zero, suc, _+_, _-_, _*_, _≤_, _<_}
+use native.Mathlib.Omega.{arith}
+use native.Mathlib.Numerals.{add-one}
+use mathlib.Core.Path.{_≡_, refl, sym, ap, _∙_, subst, fun-ext}
+use mathlib.Core.Logic.{_↔_}
+use mathlib.Core.List.{List}
+use mathlib.Core.Bool.{Bool, true, false, cond}
+use lib.Dec.{ltb, eqb}
+use lib.ListN.{length, getD}
+use borrow.Author.Tests.{eqb-true, eqb-false, eq-eqb, ne-eqb, lt-ltb, le-ltb}
+use Rattle.bounded.specs.Choice.{on-lt, on-eq, on-test, never, same-test}
+use Rattle.bounded.specs.Below.{allBelow, someBelow, firstBelow}
+use Rattle.bounded.specs.BelowLaws.{below-suc, all-at, all-of, all-fails, some-of, some-at, some-none, some-not-at, some-cong, first-is, first-passes, first-found, first-none-before, first-le}
+use Rattle.bounded.specs.Parts.{putPart, update}
+use Rattle.bounded.specs.PartsLaws.{update-same, update-other}
+use Rattle.state.specs.declared.PageState.{PageState}
+use Rattle.state.specs.State.{pageWords, stateAt, stateWords, inFlight, isWritten}
+use Rattle.state.specs.StateLaws.{StateFacts, state-sound-facts, stateAt-words, stateWords-cong, put-stateWords, length-stateWords}
+use Rattle.state.specs.Cycle.{along, onCycle, cycleWritten}
+use Rattle.state.specs.Change.{placeOf, following, launchedPage, launched, writtenPage, marked, completes, committedPage, completed, withdrawnPage, withdrawn, afterWrite}
+use Rattle.state.specs.CycleLaws.{Flies, lap, along-zero, along-suc, along-front, along-flies, along-marked, next-apart, next-flies, lap-positive, lap-le, lap-home, lap-first, lap-apart, in-lap, on-cycle-of, on-cycle-at, on-cycle-lap, on-cycle-flies, on-cycle-refl, on-cycle-next, on-cycle-sym, on-cycle-same, on-cycle-marked}
+use Rattle.state.specs.Walk.{pagesIn, steps, walked, endedPage, launchedFirst, Walkable, Launchable}
+
+pub pages-in : (P : ℕ) (words : List ℕ) → length words ≡ 4 * P → pagesIn words ≡ P
+unfolding pagesIn
+pages-in P words e = omega arith
+
+pub walkable-facts : (P : ℕ) (words : List ℕ) (page : ℕ) → Walkable P words page → StateFacts P (stateAt words)
+walkable-facts P words page w = state-sound-facts P (stateAt words) (w .sound)
+
+pub walkable-flies : (P : ℕ) (words : List ℕ) (page : ℕ) → Walkable P words page → Flies P (stateAt words) page
+walkable-flies P words page w = record { below = w .below; flies = w .flies }
+
+-- ---- along a cycle
+
+module _ (P : ℕ) (st : ℕ → PageState) (sound : StateFacts P st) (p : ℕ) (f : Flies P st p) where
+  pub steps-along : (i : ℕ) → i < lap P st p → steps P st p (along st p i) ≡ i
+  unfolding steps
+  steps-along i l =
+      first-is (λ k. eqb (along st p k) (along st p i)) P i (let b = lap-le P st sound p f in omega arith)
+      (eq-eqb (along st p i) (along st p i) refl)
+      (λ j m. ne-eqb (along st p j) (along st p i) (lap-apart P st sound p f j i m l))
+
+  pub steps-start : steps P st p p ≡ 0
+  steps-start = ap (steps P st p) (sym (along-zero st p)) ∙ steps-along 0 (lap-positive P st sound p f)
+
+  module _ (at : ℕ) (on : onCycle P st p at ≡ true) where
+    -- a page of the cycle, by its place
+    placed : (i : ℕ) × (i < lap P st p) × (along st p i ≡ at)
+    placed = let w = on-cycle-at P st sound p f at on in let j = in-lap P st sound p f (w .0) in (j .0, j .1, j .2 ∙ w .1)
+
+    place-is : steps P st p at ≡ placed .0
+    place-is = ap (steps P st p) (sym (placed .2)) ∙ steps-along (placed .0) (placed .1)
+
+    pub steps-below : steps P st p at < lap P st p
+    steps-below = subst (λ (x : ℕ). x < lap P st p) (sym place-is) (placed .1)
+
+    pub steps-there : along st p (steps P st p at) ≡ at
+    steps-there = ap (along st p) place-is ∙ placed .2
+
+    along-next : along st p (suc (steps P st p at)) ≡ st at .next
+    along-next = along-suc st p (steps P st p at) ∙ ap (λ (x : ℕ). st x .next) steps-there
+
+    -- one step on, until the walk is back
+    pub steps-next : ¬ (st at .next ≡ p) → steps P st p (st at .next) ≡ suc (steps P st p at)
+    steps-next d =
+        on-lt (suc (steps P st p at)) (lap P st p)
+        (λ l. ap (steps P st p) (sym along-next) ∙ steps-along (suc (steps P st p at)) l)
+        (λ l. absurd (d (sym along-next ∙ ap (along st p) (let b = steps-below in let e : suc (steps P st p at) ≡ lap P st p = omega arith in e) ∙ lap-home P st sound p f)))
+
+    pub steps-last : st at .next ≡ p → suc (steps P st p at) ≡ lap P st p
+    steps-last e =
+        on-lt (suc (steps P st p at)) (lap P st p)
+        (λ l. absurd (lap-first P st sound p f (suc (steps P st p at)) (omega arith) l (along-next ∙ e)))
+        (λ l. let b = steps-below in omega arith)
+
+    -- the page is as it was when the walk comes to it
+    pub walked-at : (g : PageState → PageState) → walked g st p (steps P st p at) at ≡ st at
+    unfolding walked
+    walked-at g =
+        rw (some-none (λ k. eqb (along st p k) at) (steps P st p at)
+        (λ k l. ne-eqb (along st p k) at (λ e. lap-apart P st sound p f k (steps P st p at) l steps-below (e ∙ sym steps-there))))
+
+    -- and is then changed
+    pub walked-more : (g : PageState → PageState) (q : ℕ) → update (walked g st p (steps P st p at)) at (g (st at)) q ≡ walked g st p (suc (steps P st p at)) q
+    unfolding walked someBelow
+    walked-more g q =
+        on-eq q at
+        (λ same. ?)
+        (λ other. ?)
+
+  -- a whole lap changes the whole cycle
+  pub walked-lap : (g : PageState → PageState) (q : ℕ) → walked g st p (lap P st p) q ≡ cond (onCycle P st p q) (g (st q)) (st q)
+  unfolding walked
+  walked-lap g q = rw (on-cycle-lap P st sound p f q)
