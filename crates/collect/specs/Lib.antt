@@ -1,5 +1,7 @@
 pub mod Permission
 pub mod PermissionLaws
+pub mod Within
+pub mod SearchLaws
 pub mod Erase
 pub mod Suggest
 pub mod CallLaws
