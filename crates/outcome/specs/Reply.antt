@@ -1,6 +1,6 @@
 -- A returned number and the outcome that it says, for calls that are refused and calls that are done.
 use Prim.Native.Nat.{ℕ, _^_, _/_, _%_}
-use mathlib.Core.Path.{_≡_, refl, sym, ap, _∙_, subst}
+use mathlib.Core.Path.{_≡_, sym, ap, _∙_}
 use Rattle.outcome.specs.Outcome.{Outcome, settled, settled-refused, settled-done, returned}
 
 -- the outcome with these numbers and these buffers

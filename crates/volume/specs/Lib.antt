@@ -1,4 +1,6 @@
 pub mod Volume
+pub mod SizesLaws
+pub mod ListLaws
 pub mod Format
 pub mod Read
 pub mod CallLaws
