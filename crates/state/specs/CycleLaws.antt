@@ -17,6 +17,7 @@ use Rattle.state.specs.State.{inFlight, isWritten}
 use Rattle.state.specs.StateLaws.{PageFacts, StateFacts}
 use Rattle.state.specs.Cycle.{along, onCycle, cycleWritten}
 use Rattle.state.specs.Change.{writtenPage, marked}
+use Rattle.state.specs.Walk.{lap}
 
 -- ---- walking
 
@@ -67,10 +68,6 @@ along-marked st p = along-cong (marked st p) st (marked-next st p)
 
 pub on-cycle-marked : (P : ℕ) (st : ℕ → PageState) (p q r : ℕ) → onCycle P (marked st p) q r ≡ onCycle P st q r
 on-cycle-marked P st p = on-cycle-cong P (marked st p) st (marked-next st p)
-
--- the steps from p to its first return
-unfoldable pub lap : ℕ → (ℕ → PageState) → ℕ → ℕ
-lap P st p = suc (firstBelow P (λ k. eqb (along st p (suc k)) p))
 
 -- a page in flight
 pub record Flies (P : ℕ) (st : ℕ → PageState) (p : ℕ) : Type 0 where

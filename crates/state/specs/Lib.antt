@@ -3,6 +3,8 @@ pub mod Cycle
 pub mod Change
 pub mod Computing
 pub mod StateLaws
-pub mod CycleLaws
 pub mod Walk
+pub mod CycleLaws
 pub mod WalkLaws
+pub mod CompletionLaws
+pub mod LaunchLaws

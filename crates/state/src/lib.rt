@@ -1,5 +1,8 @@
 // The volatile state ("the sheet"): per page four words, lost in a crash. Mentions no record. The definitions are in specs/.
 
+pub mod cycle; // cycle.rt: the cycle through a page, and what ends it
+pub mod launch; // launch.rt: what launches one
+
 ghost use mathlib.Core.Path.{_≡_};
 ghost use mathlib.Core.Bool.{not, _&&_};
 ghost use Prim.Native.Nat.{_+_, _*_, _≤_, _<_};
@@ -7,6 +10,8 @@ ghost use lib.ListN.{length};
 ghost use Rattle.bounded.specs.Below.{allBelow};
 ghost use Rattle.bounded.specs.Parts.{putPart};
 ghost use Rattle.state.specs.State.{pageWords, stateAt, stateWords, inFlight, isWritten, versionsSound, flightSound, writtenSound, pageSound, shareNext, nextsApart, stateSound};
+ghost use Rattle.state.specs.Change.{launchedPage, writtenPage};
+ghost use Rattle.state.specs.Walk.{endedPage};
 
 // "4,294,967,295: not in flight"
 const NOT_IN_FLIGHT: u32 = 4294967295;
@@ -60,6 +65,52 @@ impl PageState {
         ensures { λ r. ⌜ r ≡ isWritten self ⌝ }
     {
         self.written == 1
+    }
+
+    // Launched with this next page: "used rises by 1 …, written is 0".
+    pub fn launched(self, next: u32) -> PageState
+        requires { ⌜ self .used < 4294967295 ⌝ }
+        ensures { λ r. ⌜ r ≡ launchedPage self next ⌝ }
+    {
+        PageState {
+            committed: self.committed,
+            used: self.used + 1,
+            next: next,
+            written: 0,
+        }
+    }
+
+    // "The page becomes written."
+    pub fn marked(self) -> PageState
+        ensures { λ r. ⌜ r ≡ writtenPage self ⌝ }
+    {
+        PageState {
+            committed: self.committed,
+            used: self.used,
+            next: self.next,
+            written: 1,
+        }
+    }
+
+    // Out of flight, written 0; with committed = used where the cycle commits.
+    pub fn ended(self, commits: bool) -> PageState
+        ensures { λ r. ⌜ r ≡ endedPage commits self ⌝ }
+    {
+        let used = self.used;
+        if commits {
+            return PageState {
+                committed: used,
+                used: used,
+                next: NOT_IN_FLIGHT,
+                written: 0,
+            };
+        }
+        PageState {
+            committed: self.committed,
+            used: used,
+            next: NOT_IN_FLIGHT,
+            written: 0,
+        }
     }
 
     // "committed is at most used, used is at most 4,294,967,294"
