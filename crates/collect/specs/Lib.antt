@@ -5,5 +5,7 @@ pub mod SearchLaws
 pub mod Erase
 pub mod Suggest
 pub mod CallLaws
+pub mod EraseLaws
+pub mod SuggestLaws
 pub mod Computing
 pub mod Cases

@@ -1,9 +1,10 @@
 -- The permission as the code decides it: what one slot, one straddler and one record settle.
-use Prim.Native.Nat.{ℕ, _<_}
+use Prim.Native.Nat.{ℕ, _+_, _<_}
 use native.Mathlib.Omega.{arith}
 use mathlib.Core.Path.{_≡_, refl, sym, ap, _∙_}
 use mathlib.Core.Bool.{Bool, true, false, not, _&&_, _||_}
 use borrow.Author.Tests.{ltb-true, le-ltb}
+use Rattle.bounded.specs.Choice.{on-lt}
 use Rattle.bounded.specs.BelowLaws.{some-of}
 use Rattle.record.specs.declared.Record.{Record}
 use Rattle.record.specs.declared.Slot.{Slot}
@@ -11,6 +12,10 @@ use Rattle.record.specs.declared.Slot.the-variants.{Blank, Holds}
 use Rattle.record.specs.Slot.{holds, someRecord}
 use Rattle.state.specs.declared.PageState.{PageState}
 use Rattle.collect.specs.Permission.{isObsolete, isExposed, outreaches, isShielded, isNeeded, isCurrent, mayEraseRecord}
+
+-- ---- a search upward: one number more that does not pass
+pub none-more : (f : ℕ → Bool) (n : ℕ) → ((k : ℕ) → k < n → f k ≡ false) → f n ≡ false → (k : ℕ) → k < n + 1 → f k ≡ false
+none-more f n none e k h = on-lt k n (none k) (λ l. let q : k ≡ n = omega arith in ap f q ∙ e)
 
 -- ---- what a slot holds
 

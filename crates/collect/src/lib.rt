@@ -1,12 +1,26 @@
 // Garbage collection: when a slot may be erased; erase and suggest. The definitions are in specs/.
 use record::Record;
 use record::Slot;
+
+// Bytes of contents a slot has.
+const WIDTH: usize = 32;
+
+// The slot that a refused suggest names.
+const NO_SLOT: u32 = 4294967295;
+
 ghost use mathlib.Core.Path.{_≡_};
 ghost use Prim.Native.Nat.{_+_, _*_, _≤_, _<_};
-ghost use mathlib.Core.Bool.{true};
 ghost use lib.ListN.{length};
 ghost use Rattle.bounded.specs.Below.{firstBelow};
-ghost use Rattle.volume.specs.Volume.{inRange};
+ghost use Rattle.bounded.specs.Limits.{width};
+ghost use Rattle.outcome.specs.Outcome.{returned};
+ghost use Rattle.record.specs.Flash.{Step, apply, applyAll};
+ghost use Rattle.volume.specs.Volume.{volume};
+ghost use Rattle.volume.specs.ListLaws.{Listed};
+ghost use Rattle.collect.specs.Erase.{eraseAnswer, eraseSteps, eraseOutcome};
+ghost use Rattle.collect.specs.EraseLaws.{flash, ListedIn};
+ghost use Rattle.collect.specs.Suggest.{SuggestOutcome};
+ghost use Rattle.collect.specs.SuggestLaws.{suggestRefusal};
 ghost use Rattle.record.specs.Slot.{holds, slotAt};
 ghost use Rattle.state.specs.State.{stateAt};
 ghost use Rattle.collect.specs.Permission.{isObsolete, isExposed, outreaches, isShielded, isNeeded, isCurrent, mayEraseRecord, mayErase, mayEraseAll};
@@ -144,7 +158,7 @@ fn may_erase(words: &[u32], slots: u32, state: &[u32], slot: u32) -> bool
 // "The permission is judged for every slot on the table before the call": each listed slot may be erased.
 fn may_erase_all(words: &[u32], slots: u32, state: &[u32], list: &[u32]) -> bool
     requires { ⌜ Within slots (now words) (now state) ⌝ }
-    requires { ⌜ inRange slots (now list) ≡ true ⌝ }
+    requires { ⌜ Listed slots (now list) ⌝ }
     ensures { λ r. ⌜ r ≡ mayEraseAll slots (slotAt (now (words .entry))) (stateAt (now (state .entry))) (now (list .entry)) ⌝ }
 {
     let mut i = 0;
@@ -170,4 +184,111 @@ fn first_erasable(words: &[u32], slots: u32, state: &[u32]) -> u32
         slot += 1;
     }
     slots
+}
+
+// One slot becomes "blank with bytes 255".
+fn blank_slot(words: &mut [u32], contents: &mut [u8], slot: u32)
+    requires { ⌜ 5 * slot + 5 ≤ length (now words) ⌝ }
+    requires { ⌜ width * slot + width ≤ length (now contents) ⌝ }
+    ensures { λ _. ⌜ flash (now (words .exit)) (now (contents .exit)) ≡ apply width (flash (now (words .entry)) (now (contents .entry))) (Step.Blank slot) ⌝ }
+{
+    let ones = [255u8; WIDTH];
+    record::put_slot(words, contents, slot, Record::BLANK, &ones);
+}
+
+// "Erase a list of slots: all become blank with bytes 255; nothing else changes."
+fn blank_listed(words: &mut [u32], contents: &mut [u8], list: &[u32])
+    requires { ⌜ ListedIn width (now words) (now contents) (now list) ⌝ }
+    ensures { λ _. ⌜ flash (now (words .exit)) (now (contents .exit)) ≡ applyAll width (flash (now (words .entry)) (now (contents .entry))) (eraseSteps (now (list .entry))) ⌝ }
+{
+    let mut done = 0;
+    while done < list.len() {
+        blank_slot(words, contents, list[done]);
+        done += 1;
+    }
+}
+
+// The number back of an erase: the first refusal that holds, or 0.
+fn erase_answer(
+    pages: u32,
+    slots: u32,
+    words: &[u32],
+    contents: &[u8],
+    state: &[u32],
+    list: &[u32],
+) -> u32
+    ensures { λ r. ⌜ r ≡ eraseAnswer width pages slots (volume (now (words .entry)) (now (contents .entry)) (now (state .entry))) (now (list .entry)) ⌝ }
+{
+    if !volume::volume_fits(WIDTH as u32, pages, slots, words, contents, state) {
+        return 1;
+    }
+    if !table::table_sound(words, pages, slots) {
+        return 2;
+    }
+    if !state::state_sound(state, pages) {
+        return 5;
+    }
+    if !volume::list_ok(list, slots) {
+        return 6;
+    }
+    if !may_erase_all(words, slots, state, list) {
+        return 12;
+    }
+    0
+}
+
+// Erase a list of slots.
+pub fn erase(
+    pages: u32,
+    slots: u32,
+    words: &mut [u32],
+    contents: &mut [u8],
+    state: &[u32],
+    list: &[u32],
+) -> u64
+    ensures { λ r. ⌜ returned r (flash (now (words .exit)) (now (contents .exit))) ≡ eraseOutcome width pages slots (volume (now (words .entry)) (now (contents .entry)) (now (state .entry))) (now (list .entry)) ⌝ }
+{
+    let answer = erase_answer(pages, slots, words, contents, state, list);
+    if answer != 0 {
+        return outcome::reply(answer, 0);
+    }
+    blank_listed(words, contents, list);
+    outcome::reply(0, 0)
+}
+
+// The refusals of a suggest that come before its search: the first that holds, or 0.
+fn suggest_refusal(pages: u32, slots: u32, words: &[u32], state: &[u32]) -> u32
+    ensures { λ r. ⌜ r ≡ suggestRefusal pages slots (now (words .entry)) (now (state .entry)) ⌝ }
+{
+    if !volume::sizes_ok(pages, slots) {
+        return 1;
+    }
+    if !volume::words_fit(words, slots) {
+        return 1;
+    }
+    if !volume::state_fits(state, pages) {
+        return 1;
+    }
+    if !table::table_sound(words, pages, slots) {
+        return 2;
+    }
+    if !state::state_sound(state, pages) {
+        return 5;
+    }
+    0
+}
+
+// Some slot that may be erased: the lowest.
+pub fn suggest(pages: u32, slots: u32, words: &[u32], state: &[u32]) -> u64
+    ensures { λ r. ⌜ SuggestOutcome pages slots (now (words .entry)) (now (state .entry)) (returned r tt) ⌝ }
+{
+    let refusal = suggest_refusal(pages, slots, words, state);
+    if refusal != 0 {
+        return outcome::reply(refusal, NO_SLOT);
+    }
+    let slot = first_erasable(words, slots, state);
+    if slot >= slots {
+        return outcome::reply(13, NO_SLOT);
+    }
+    outcome::reply(0, slot)
 }

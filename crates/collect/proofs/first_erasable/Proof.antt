@@ -1,42 +1,43 @@
+use Prim.Native.Nat.{ℕ, _≤_, _<_, _-_}
+use native.Mathlib.Omega.{arith}
+use mathlib.Core.Path.{_≡_, sym, _∙_}
+use mathlib.Core.Bool.{false}
+use Rattle.bounded.specs.BelowLaws.{first-is, first-none}
+use Rattle.record.specs.Slot.{slotAt}
+use Rattle.state.specs.State.{stateAt}
+use Rattle.collect.specs.Permission.{mayErase}
+use Rattle.collect.specs.SearchLaws.{none-more}
 use Rattle.collect.proofs.first_erasable.Statement.{statement}
 use Rattle.collect.proofs.first_erasable.Tie as tie
-use Rattle.collect.proofs.first_erasable.Reads as reads
-use Rattle.collect.proofs.first_erasable.Lts as lts
-use Rattle.collect.proofs.may_erase.Reads as may-erase-reads
 
 abbrev Inv-loop : tie.InvT-loop
-Inv-loop words slots state slot₀ slot = ?
+Inv-loop words slots state slot₀ slot = (slot ≤ slots) × ((k : ℕ) → k < slot → mayErase slots (slotAt words) (stateAt state) k ≡ false)
 
 abbrev μ-loop : tie.MeasureT-loop
-μ-loop words slots state slot₀ slot = ?
+μ-loop words slots state slot₀ slot = slots - slot
 
--- src/lib.rt:167:5
 loop-holds : tie.Need-loop-holds Inv-loop μ-loop
-loop-holds c = ?
+loop-holds c = (omega arith, λ k h. absurd (omega arith))
 
--- src/lib.rt:168:12
 may-erase-requires : tie.Need-may-erase-requires Inv-loop μ-loop
-may-erase-requires c κs = ?
+may-erase-requires c κs = (c .before .before .before .before .pre, c .loop-test .taken)
 
--- src/lib.rt:169:13
 returns : tie.Need-returns Inv-loop μ-loop
-returns c = ?
+returns c =
+    let l = c .before .before .before .loop in
+    sym (first-is _ _ (l .slot) (c .before .before .loop-test .taken) (sym (c .before .may-erase .ensures) ∙ c .if1 .taken) (l .inv .1))
 
--- src/lib.rt:171:9
 add-slot : tie.Need-add-slot Inv-loop μ-loop
-add-slot c = ?
+add-slot c = omega arith
 
--- src/lib.rt:167:5
 loop-less : tie.Need-loop-less Inv-loop μ-loop
-loop-less c = ?
+loop-less c = omega arith
 
--- src/lib.rt:167:5
 loop-again : tie.Need-loop-again Inv-loop μ-loop
-loop-again c = ?
+loop-again c = (omega arith, none-more _ _ (c .before .before .before .loop .inv .1) (sym (c .before .may-erase .ensures) ∙ c .if1 .left))
 
--- src/lib.rt:162:1
 returns-2 : tie.Need-returns-2 Inv-loop μ-loop
-returns-2 c = ?
+returns-2 c = let l = c .before .loop in sym (first-none _ _ (λ k h. l .inv .1 k (omega arith)))
 
 pub first-erasable-spec : {M : Type 1} → statement M
 first-erasable-spec =

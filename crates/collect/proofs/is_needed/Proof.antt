@@ -10,10 +10,6 @@ use Rattle.collect.specs.Permission.{outreaches, isShielded}
 use Rattle.collect.specs.SearchLaws.{outreached-not-needed, shields-needed, nothing-shielded}
 use Rattle.collect.proofs.is_needed.Statement.{statement}
 use Rattle.collect.proofs.is_needed.Tie as tie
-use Rattle.collect.proofs.is_needed.Reads as reads
-use Rattle.collect.proofs.is_needed.Lts as lts
-use Rattle.collect.proofs.slot_outreaches.Reads as slot-outreaches-reads
-use Rattle.collect.proofs.slot_shielded.Reads as slot-shielded-reads
 
 abbrev Inv-loop : tie.InvT-loop
 Inv-loop words slots state straddler needed link other₀ other =
@@ -29,49 +25,38 @@ Inv-search words slots state straddler needed₀ link₀ needed link =
 abbrev μ-search : tie.MeasureT-search
 μ-search words slots state straddler needed₀ link₀ needed link = slots - link
 
--- src/lib.rt:101:5
 search-holds : tie.Need-search-holds Inv-loop μ-loop Inv-search μ-search
 search-holds c = (omega arith, refl, some-zero _)
 
--- src/lib.rt:102:12
 slot-shielded-requires : tie.Need-slot-shielded-requires Inv-loop μ-loop Inv-search μ-search
 slot-shielded-requires c κs = (c .before .before .before .before .pre, c .search-test .taken)
 
--- src/lib.rt:104:13
 loop-holds : tie.Need-loop-holds Inv-loop μ-loop Inv-search μ-search
 loop-holds c = (omega arith, some-zero _)
 
--- src/lib.rt:105:20
 slot-outreaches-requires : tie.Need-slot-outreaches-requires Inv-loop μ-loop Inv-search μ-search
 slot-outreaches-requires c κs = let p = c .before .before .before .before .before .before .before .before .pre in let h = p .slots-in in omega arith
 
--- src/lib.rt:108:17
 add-other : tie.Need-add-other Inv-loop μ-loop Inv-search μ-search
 add-other c = omega arith
 
--- src/lib.rt:104:13
 loop-less : tie.Need-loop-less Inv-loop μ-loop Inv-search μ-search
 loop-less c = omega arith
 
--- src/lib.rt:104:13
 loop-again : tie.Need-loop-again Inv-loop μ-loop Inv-search μ-search
 loop-again c = (omega arith, some-more _ _ (c .before .before .before .loop .inv .1) (sym (c .before .slot-outreaches .ensures) ∙ c .if2 .left))
 
--- src/lib.rt:113:9
 add-link : tie.Need-add-link Inv-loop μ-loop Inv-search μ-search
 add-link c = omega arith
 
--- src/lib.rt:101:5
 search-less : tie.Need-search-less Inv-loop μ-loop Inv-search μ-search
 search-less c = omega arith
 
--- src/lib.rt:101:5
 search-again : tie.Need-search-again Inv-loop μ-loop Inv-search μ-search
 search-again c =
     let l = c .before .before .before .search in
     (omega arith, l .inv .1, some-more _ _ (l .inv .2) (sym (c .before .slot-shielded .ensures) ∙ c .if1 .left))
 
--- src/lib.rt:95:1
 returns : tie.Need-returns Inv-loop μ-loop Inv-search μ-search
 unfolding someRecord
 returns c =
@@ -79,13 +64,11 @@ returns c =
     let e : l .link ≡ c .before .before .before .before .args .slots = omega arith in
     l .inv .1 ∙ sym (nothing-shielded _ _ _ _ (rw e at (l .inv .2)))
 
--- src/lib.rt:95:1
 returns-2 : tie.Need-returns-2 Inv-loop μ-loop Inv-search μ-search
 returns-2 c =
     c .before .before .before .before .before .before .before .search .inv .1
     ∙ sym (outreached-not-needed _ _ _ _ (c .before .before .before .loop .other) (c .before .before .loop-test .taken) (sym (c .before .slot-outreaches .ensures) ∙ c .if2 .taken))
 
--- src/lib.rt:95:1
 returns-3 : tie.Need-returns-3 Inv-loop μ-loop Inv-search μ-search
 unfolding someRecord
 returns-3 c =
