@@ -1,27 +1,26 @@
 -- A write completes a cycle exactly where each other page is written; the search for one that is not.
-use Prim.Native.Nat.{ℕ, zero, suc, _+_, _-_, _*_, _≤_, _<_}
+use Prim.Native.Nat.{ℕ, suc, _<_}
 use native.Mathlib.Omega.{arith}
 use native.Mathlib.Numerals.{add-one}
-use mathlib.Core.Path.{_≡_, refl, sym, ap, _∙_, subst, fun-ext}
+use mathlib.Core.Path.{_≡_, refl, sym, ap, _∙_, subst}
 use mathlib.Core.Logic.{_↔_}
 use mathlib.Core.List.{List}
-use mathlib.Core.Bool.{Bool, true, false, cond}
-use lib.Dec.{ltb, eqb}
-use lib.ListN.{length, getD}
-use borrow.Author.Tests.{eqb-true, eqb-false, eq-eqb, ne-eqb, lt-ltb, le-ltb}
-use Rattle.bounded.specs.Choice.{on-lt, on-eq, on-test, never, same-test}
-use Rattle.bounded.specs.Below.{allBelow, someBelow, firstBelow}
-use Rattle.bounded.specs.BelowLaws.{below-suc, all-zero, all-more, all-at, all-of, all-fails, some-of, some-at, some-none, some-not-at, some-cong, first-is, first-passes, first-found, first-none-before, first-le}
-use Rattle.bounded.specs.Parts.{putPart, update}
+use mathlib.Core.Bool.{true, false, cond}
+use lib.Dec.{eqb}
+use borrow.Author.Tests.{eqb-true}
+use Rattle.bounded.specs.Choice.{on-lt, on-eq, on-test, never}
+use Rattle.bounded.specs.Below.{allBelow}
+use Rattle.bounded.specs.BelowLaws.{all-zero, all-more, all-at, all-of, some-at}
+use Rattle.bounded.specs.Parts.{putPart}
 use Rattle.bounded.specs.PartsLaws.{update-same, update-other}
 use Rattle.state.specs.declared.PageState.{PageState}
-use Rattle.state.specs.State.{pageWords, stateAt, stateWords, inFlight, isWritten}
-use Rattle.state.specs.StateLaws.{StateFacts, state-sound-facts, stateAt-words, stateWords-at, stateWords-cong, put-stateWords, length-stateWords}
+use Rattle.state.specs.State.{pageWords, stateAt, stateWords, isWritten}
+use Rattle.state.specs.StateLaws.{StateFacts, stateWords-at, stateWords-cong, put-stateWords}
 use Rattle.state.specs.Cycle.{along, onCycle, cycleWritten}
-use Rattle.state.specs.Change.{placeOf, following, launchedPage, launched, writtenPage, marked, completes, committedPage, completed, withdrawnPage, withdrawn, afterWrite}
-use Rattle.state.specs.CycleLaws.{Flies, along-zero, along-suc, along-front, along-flies, along-marked, next-apart, next-flies, lap-positive, lap-le, lap-home, lap-first, lap-apart, in-lap, on-cycle-of, on-cycle-at, on-cycle-lap, on-cycle-flies, on-cycle-refl, on-cycle-next, on-cycle-sym, on-cycle-same, on-cycle-marked}
-use Rattle.state.specs.WalkLaws.{steps-start, steps-next, steps-last, steps-below, steps-there, walkable-facts, walkable-flies, pages-in}
-use Rattle.state.specs.Walk.{pagesIn, lap, steps, walked, writtenTo, endedPage, cycleEnded, launchedFirst, left, Walkable, Walking, Searching, Launchable}
+use Rattle.state.specs.Change.{writtenPage, marked, completes, committedPage, completed, afterWrite}
+use Rattle.state.specs.CycleLaws.{Flies, along-marked, next-apart, next-flies, on-cycle-of, on-cycle-flies, on-cycle-refl, on-cycle-next, on-cycle-same, on-cycle-marked}
+use Rattle.state.specs.WalkLaws.{steps-start, steps-next, steps-last, steps-below, steps-there, walkable-facts, walkable-flies}
+use Rattle.state.specs.Walk.{lap, steps, writtenTo, endedPage, cycleEnded, left, Walkable, Searching}
 
 -- "If its whole ring is then written": each page but p is
 module _ (P : ℕ) (st : ℕ → PageState) (sound : StateFacts P st) (p : ℕ) (f : Flies P st p) where

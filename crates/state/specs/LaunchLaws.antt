@@ -1,27 +1,24 @@
--- A walk along a list launches exactly the listed pages.
-use Prim.Native.Nat.{ℕ, zero, suc, _+_, _-_, _*_, _≤_, _<_}
+-- A walk along a list launches exactly the listed pages, and leaves a sound state sound.
+use Prim.Native.Nat.{ℕ, _+_, _*_, _≤_, _<_}
 use native.Mathlib.Omega.{arith}
-use native.Mathlib.Numerals.{add-one}
-use mathlib.Core.Path.{_≡_, refl, sym, ap, _∙_, subst, fun-ext}
-use mathlib.Core.Logic.{_↔_}
+use mathlib.Core.Path.{_≡_, refl, sym, ap, _∙_, subst}
 use mathlib.Core.List.{List}
-use mathlib.Core.Bool.{Bool, true, false, cond}
+use mathlib.Core.Bool.{true, false, cond}
 use lib.Dec.{ltb, eqb}
 use lib.ListN.{length, getD}
-use borrow.Author.Tests.{eqb-true, eqb-false, eq-eqb, ne-eqb, lt-ltb, le-ltb}
-use Rattle.bounded.specs.Choice.{on-lt, on-eq, on-test, never, same-test}
-use Rattle.bounded.specs.Limits.{highestVersion}
-use Rattle.bounded.specs.Below.{allBelow, someBelow, firstBelow}
-use Rattle.bounded.specs.BelowLaws.{below-suc, all-zero, all-more, all-at, all-of, all-fails, some-of, some-at, some-none, some-not-at, some-cong, first-is, first-passes, first-found, first-none-before, first-le}
+use borrow.Author.Tests.{eqb-true, eq-eqb, ne-eqb, lt-ltb, le-ltb}
+use Rattle.bounded.specs.Choice.{on-lt, on-eq, never}
+use Rattle.bounded.specs.Limits.{noNumber, highestVersion}
+use Rattle.bounded.specs.Below.{firstBelow}
+use Rattle.bounded.specs.BelowLaws.{first-is, first-passes}
 use Rattle.bounded.specs.Parts.{putPart, update}
 use Rattle.bounded.specs.PartsLaws.{update-same, update-other}
 use Rattle.state.specs.declared.PageState.{PageState}
-use Rattle.state.specs.State.{pageWords, stateAt, stateWords, inFlight, isWritten}
-use Rattle.state.specs.StateLaws.{StateFacts, state-sound-facts, stateAt-words, stateWords-at, stateWords-cong, put-stateWords, length-stateWords}
-use Rattle.state.specs.Cycle.{along, onCycle, cycleWritten}
-use Rattle.state.specs.Change.{placeOf, following, launchedPage, launched, writtenPage, marked, completes, committedPage, completed, withdrawnPage, withdrawn, afterWrite}
-use Rattle.state.specs.CycleLaws.{Flies, along-zero, along-suc, along-front, along-flies, along-marked, next-apart, next-flies, lap-positive, lap-le, lap-home, lap-first, lap-apart, in-lap, on-cycle-of, on-cycle-at, on-cycle-lap, on-cycle-flies, on-cycle-refl, on-cycle-next, on-cycle-sym, on-cycle-same, on-cycle-marked}
-use Rattle.state.specs.Walk.{pagesIn, lap, steps, walked, writtenTo, endedPage, launchedFirst, left, Walkable, Walking, Launchable, Launching}
+use Rattle.state.specs.State.{pageWords, stateAt, stateWords, inFlight}
+use Rattle.state.specs.StateLaws.{number-flies, PageFacts, StateFacts, stateAt-words, stateWords-at, stateWords-cong, put-stateWords, length-stateWords}
+use Rattle.state.specs.Change.{placeOf, following, launchedPage, launched}
+use Rattle.state.specs.CycleLaws.{next-flies}
+use Rattle.state.specs.Walk.{launchedFirst, Launchable, Launching}
 
 module _ (P : ℕ) (st : ℕ → PageState) (pages : List ℕ) (ok : Launchable P st pages) where
   pub place-listed : (i : ℕ) → i < length pages → placeOf pages (getD pages i 0) ≡ i
@@ -114,3 +111,118 @@ module _ (P : ℕ) (entry pages : List ℕ) (fits : length entry ≡ 4 * P) (ok 
         where
           page : t ≡ launchedPage (stateAt entry (getD pages i 0)) (following pages i)
           page = e ∙ ap (launchedPage s) n ∙ ap (λ (x : PageState). launchedPage x (following pages i)) launching-reads
+
+-- ---- a sound state stays sound
+
+-- the place behind place i of n, round the list
+behindPlace : ℕ → ℕ → ℕ
+behindPlace n i = cond (ltb (i + 1) n) (i + 1) 0
+
+behind-below : (n i : ℕ) → i < n → behindPlace n i < n
+unfolding behindPlace
+behind-below n i l = on-lt (i + 1) n (λ b. rw (lt-ltb (i + 1) n b) b) (λ b. rw (le-ltb (i + 1) n b) (omega arith))
+
+behind-apart : (n i j : ℕ) → i < n → j < n → behindPlace n i ≡ behindPlace n j → i ≡ j
+unfolding behindPlace
+behind-apart n i j li lj e =
+    on-lt (i + 1) n
+    (λ a. on-lt (j + 1) n (λ b. let x = inner i a in let y = inner j b in omega arith) (λ b. let x = inner i a in let y = last j b in absurd (omega arith)))
+    (λ a. on-lt (j + 1) n (λ b. let x = last i a in let y = inner j b in absurd (omega arith)) (λ b. omega arith))
+  where
+    inner : (k : ℕ) → k + 1 < n → behindPlace n k ≡ k + 1
+    inner k h = rw (lt-ltb (k + 1) n h)
+
+    last : (k : ℕ) → n ≤ k + 1 → behindPlace n k ≡ 0
+    last k h = rw (le-ltb (k + 1) n h)
+
+module _ (P : ℕ) (small : P ≤ noNumber) (st : ℕ → PageState) (sound : StateFacts P st) (pages : List ℕ) (ok : Launchable P st pages) where
+  -- a listed page has a listed next page
+  nextOf : ℕ → ℕ
+  nextOf p = following pages (placeOf pages p)
+
+  next-listed : (p : ℕ) → placeOf pages p < length pages → nextOf p ≡ getD pages (behindPlace (length pages) (placeOf pages p)) 0
+  unfolding nextOf following behindPlace
+  next-listed p l = refl
+
+  next-place : (p : ℕ) → placeOf pages p < length pages → placeOf pages (nextOf p) ≡ behindPlace (length pages) (placeOf pages p)
+  next-place p l = ap (placeOf pages) (next-listed p l) ∙ place-listed P st pages ok (behindPlace (length pages) (placeOf pages p)) (behind-below (length pages) (placeOf pages p) l)
+
+  next-in : (p : ℕ) → placeOf pages p < length pages → placeOf pages (nextOf p) < length pages
+  next-in p l = subst (λ (x : ℕ). x < length pages) (sym (next-place p l)) (behind-below (length pages) (placeOf pages p) l)
+
+  next-in-range : (p : ℕ) → placeOf pages p < length pages → nextOf p < P
+  next-in-range p l = subst (λ (x : ℕ). x < P) (sym (next-listed p l)) (ok .in-range (behindPlace (length pages) (placeOf pages p)) (behind-below (length pages) (placeOf pages p) l))
+
+  rested : (p : ℕ) → placeOf pages p < length pages → inFlight (st p) ≡ false
+  rested p l = subst (λ (x : ℕ). inFlight (st x) ≡ false) (listed-place P st pages ok p l) (ok .resting (placeOf pages p) l)
+
+  launched-on : (p : ℕ) → placeOf pages p < length pages → launched pages st p ≡ launchedPage (st p) (nextOf p)
+  unfolding launched nextOf
+  launched-on p l = rw (lt-ltb (placeOf pages p) (length pages) l)
+
+  launched-off : (p : ℕ) → length pages ≤ placeOf pages p → launched pages st p ≡ st p
+  unfolding launched
+  launched-off p l = rw (le-ltb (placeOf pages p) (length pages) l)
+
+  launched-next : (p : ℕ) → placeOf pages p < length pages → launched pages st p .next ≡ nextOf p
+  unfolding launchedPage
+  launched-next p l = ap (λ (s : PageState). s .next) (launched-on p l)
+
+  launched-flies : (p : ℕ) → placeOf pages p < length pages → inFlight (launched pages st p) ≡ true
+  launched-flies p l = number-flies (launched pages st p) (λ e. let a = launched-next p l in let b = next-in-range p l in omega arith)
+
+  -- a page in flight before is not listed, nor is its next page
+  flying-off : (p : ℕ) → inFlight (st p) ≡ true → length pages ≤ placeOf pages p
+  flying-off p e = on-lt (placeOf pages p) (length pages) (λ l. absurd (never e (rested p l))) (λ l. l)
+
+  launched-facts : (p : ℕ) → p < P → PageFacts P (launched pages st) (launched pages st p)
+  unfolding launchedPage
+  launched-facts p b =
+      on-lt (placeOf pages p) (length pages)
+      (λ l. subst (λ (s : PageState). PageFacts P (launched pages st) s) (sym (launched-on p l))
+      (record {
+        committed-used = let h = sound .page p b .committed-used in omega arith;
+        used-highest = let h = version p l in omega arith;
+        flies-below-used = λ e. let h = sound .page p b .committed-used in omega arith;
+        next-below = λ e. next-in-range p l;
+        next-flies = λ e. launched-flies (nextOf p) (next-in p l);
+        written-bit = omega arith;
+        written-flies = λ e. absurd (omega arith);
+      }))
+      (λ l. subst (λ (s : PageState). PageFacts P (launched pages st) s) (sym (launched-off p l))
+      (record {
+        committed-used = sound .page p b .committed-used;
+        used-highest = sound .page p b .used-highest;
+        flies-below-used = sound .page p b .flies-below-used;
+        next-below = sound .page p b .next-below;
+        next-flies = λ e. let g = sound .page p b .next-flies e in ap inFlight (launched-off (st p .next) (flying-off (st p .next) g)) ∙ g;
+        written-bit = sound .page p b .written-bit;
+        written-flies = sound .page p b .written-flies;
+      }))
+    where
+      version : (p : ℕ) → placeOf pages p < length pages → st p .used < highestVersion
+      version p l = subst (λ (x : ℕ). st x .used < highestVersion) (listed-place P st pages ok p l) (ok .version-left (placeOf pages p) l)
+
+  -- no listed page's next is the next of a page in flight before
+  mixed : (p q : ℕ) → q < P → placeOf pages p < length pages → length pages ≤ placeOf pages q → inFlight (launched pages st q) ≡ true → launched pages st p .next ≡ launched pages st q .next → ⊥
+  mixed p q b l m f e =
+      let u : launched pages st q ≡ st q = launched-off q m in
+      let g : inFlight (st (st q .next)) ≡ true = sound .page q b .next-flies (ap inFlight (sym u) ∙ f) in
+      let same : nextOf p ≡ st q .next = sym (launched-next p l) ∙ e ∙ ap (λ (s : PageState). s .next) u in
+      never g (subst (λ (x : ℕ). inFlight (st x) ≡ false) same (rested (nextOf p) (next-in p l)))
+
+  launched-apart : (p q : ℕ) → p < P → q < P → inFlight (launched pages st p) ≡ true → inFlight (launched pages st q) ≡ true → launched pages st p .next ≡ launched pages st q .next → p ≡ q
+  launched-apart p q bp bq fp fq e =
+      on-lt (placeOf pages p) (length pages)
+      (λ l. on-lt (placeOf pages q) (length pages)
+      (λ m. let same : placeOf pages p ≡ placeOf pages q = behind-apart (length pages) (placeOf pages p) (placeOf pages q) l m
+      (sym (next-place p l) ∙ ap (placeOf pages) (sym (launched-next p l) ∙ e ∙ launched-next q m) ∙ next-place q m) in
+      sym (listed-place P st pages ok p l) ∙ ap (λ (k : ℕ). getD pages k 0) same ∙ listed-place P st pages ok q m)
+      (λ m. absurd (mixed p q bq l m fq e)))
+      (λ l. on-lt (placeOf pages q) (length pages)
+      (λ m. absurd (mixed q p bp m l fp (sym e)))
+      (λ m. let u = launched-off p l in let v = launched-off q m in
+      sound .apart p q bp bq (ap inFlight (sym u) ∙ fp) (ap inFlight (sym v) ∙ fq) (ap (λ (s : PageState). s .next) (sym u) ∙ e ∙ ap (λ (s : PageState). s .next) v)))
+
+  pub launched-sound : StateFacts P (launched pages st)
+  launched-sound = record { page = launched-facts; apart = launched-apart }

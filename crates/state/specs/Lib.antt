@@ -8,3 +8,4 @@ pub mod CycleLaws
 pub mod WalkLaws
 pub mod CompletionLaws
 pub mod LaunchLaws
+pub mod ChangeLaws

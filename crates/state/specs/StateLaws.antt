@@ -1,9 +1,9 @@
 -- The words of a state and the state are the same thing; and what a sound state is, as facts.
-use Prim.Native.Nat.{ℕ, zero, suc, _+_, _*_, _≤_, _<_}
+use Prim.Native.Nat.{ℕ, _+_, _*_, _≤_, _<_}
 use native.Mathlib.Nat.{add-zero}
 use native.Mathlib.Numerals.{add-one, add-two, add-three}
 use native.Mathlib.Omega.{arith}
-use mathlib.Core.Path.{_≡_, refl, sym, ap, ap₂, _∙_, subst, fun-ext}
+use mathlib.Core.Path.{_≡_, refl, sym, ap, _∙_, fun-ext}
 use mathlib.Core.Logic.{_⊎_, inl, inr, _↔_}
 use mathlib.Core.List.{List, [], _∷_, append-assoc}
 use mathlib.Core.Bool.{Bool, true, false, not, _&&_, _||_}
@@ -15,8 +15,8 @@ use Rattle.bounded.specs.Limits.{noNumber, highestVersion}
 use Rattle.bounded.specs.Choice.{on-lt, on-eq, on-test, never, both, both-left, both-right, either, either-left, either-right, not-yes, not-no}
 use Rattle.bounded.specs.Below.{allBelow}
 use Rattle.bounded.specs.BelowLaws.{all-at, all-of}
-use Rattle.bounded.specs.Parts.{part, putAt, putPart, joinParts, update}
-use Rattle.bounded.specs.PartsLaws.{update-same, update-other, part-put-same, part-put-other, part-length, part-at, length-putPart, length-joinParts, part-joinParts, joinParts-cong, joinParts-parts, put-joinParts, parts-ext}
+use Rattle.bounded.specs.Parts.{part, putAt, putPart, update}
+use Rattle.bounded.specs.PartsLaws.{update-same, update-other, part-put-same, part-put-other, part-length, part-at, length-putPart, length-joinParts, part-joinParts, joinParts-cong, joinParts-parts}
 use Rattle.state.specs.declared.PageState.{PageState}
 use Rattle.state.specs.State.{pageWords, pageOf, stateAt, stateWords, inFlight, isWritten, versionsSound, flightSound, writtenSound, pageSound, shareNext, nextsApart, stateSound}
 

@@ -1,26 +1,23 @@
 -- A walk along a cycle, one page a step, changes exactly the pages of the cycle.
-use Prim.Native.Nat.{ℕ, zero, suc, _+_, _-_, _*_, _≤_, _<_}
+use Prim.Native.Nat.{ℕ, suc, _*_, _<_}
 use native.Mathlib.Omega.{arith}
-use native.Mathlib.Numerals.{add-one}
-use mathlib.Core.Path.{_≡_, refl, sym, ap, _∙_, subst, fun-ext}
-use mathlib.Core.Logic.{_↔_}
+use mathlib.Core.Path.{_≡_, refl, sym, ap, _∙_, subst}
 use mathlib.Core.List.{List}
-use mathlib.Core.Bool.{Bool, true, false, cond}
-use lib.Dec.{ltb, eqb}
-use lib.ListN.{length, getD}
-use borrow.Author.Tests.{eqb-true, eqb-false, eq-eqb, ne-eqb, lt-ltb, le-ltb}
-use Rattle.bounded.specs.Choice.{on-lt, on-eq, on-test, never, same-test}
-use Rattle.bounded.specs.Below.{allBelow, someBelow, firstBelow}
-use Rattle.bounded.specs.BelowLaws.{below-suc, all-zero, all-more, all-at, all-of, all-fails, some-of, some-at, some-none, some-not-at, some-cong, first-is, first-passes, first-found, first-none-before, first-le}
+use mathlib.Core.Bool.{true, cond}
+use lib.Dec.{eqb}
+use lib.ListN.{length}
+use borrow.Author.Tests.{eq-eqb, ne-eqb}
+use Rattle.bounded.specs.Choice.{on-lt, on-eq, on-test}
+use Rattle.bounded.specs.Below.{someBelow}
+use Rattle.bounded.specs.BelowLaws.{some-of, some-none, first-is}
 use Rattle.bounded.specs.Parts.{putPart, update}
 use Rattle.bounded.specs.PartsLaws.{update-same, update-other}
 use Rattle.state.specs.declared.PageState.{PageState}
-use Rattle.state.specs.State.{pageWords, stateAt, stateWords, inFlight, isWritten}
+use Rattle.state.specs.State.{pageWords, stateAt, stateWords}
 use Rattle.state.specs.StateLaws.{StateFacts, state-sound-facts, stateAt-words, stateWords-at, stateWords-cong, put-stateWords, length-stateWords}
-use Rattle.state.specs.Cycle.{along, onCycle, cycleWritten}
-use Rattle.state.specs.Change.{placeOf, following, launchedPage, launched, writtenPage, marked, completes, committedPage, completed, withdrawnPage, withdrawn, afterWrite}
-use Rattle.state.specs.CycleLaws.{Flies, along-zero, along-suc, along-front, along-flies, along-marked, next-apart, next-flies, lap-positive, lap-le, lap-home, lap-first, lap-apart, in-lap, on-cycle-of, on-cycle-at, on-cycle-lap, on-cycle-flies, on-cycle-refl, on-cycle-next, on-cycle-sym, on-cycle-same, on-cycle-marked}
-use Rattle.state.specs.Walk.{pagesIn, lap, steps, walked, writtenTo, endedPage, launchedFirst, left, Walkable, Walking, Searching, Launchable}
+use Rattle.state.specs.Cycle.{along, onCycle}
+use Rattle.state.specs.CycleLaws.{Flies, along-zero, along-suc, lap-positive, lap-le, lap-home, lap-first, lap-apart, in-lap, on-cycle-at, on-cycle-lap, on-cycle-flies, on-cycle-refl, on-cycle-next}
+use Rattle.state.specs.Walk.{pagesIn, lap, steps, walked, left, Walkable, Walking}
 
 pub pages-in : (P : ℕ) (words : List ℕ) → length words ≡ 4 * P → pagesIn words ≡ P
 unfolding pagesIn

@@ -1,3 +1,4 @@
+-- `state::next_apart` meets its contract. The loop's invariant: no page below the counter shares the next page.
 use mathlib.Core.Path.{_≡_, sym, ap₂, _∙_}
 use Rattle.bounded.specs.Choice.{not-yes, not-no}
 use Prim.Native.Nat.{_≤_, _-_}
@@ -28,7 +29,9 @@ shares-next-requires : tie.Need-shares-next-requires Inv-loop μ-loop
 shares-next-requires c κs = tt
 
 returns : tie.Need-returns Inv-loop μ-loop
-returns c = sym (all-fails _ _ (c .before .before .before .before .loop .lower) (omega arith) (not-yes (sym (c .before .shares-next .ensures ∙ ap₂ shareNext (c .before .before .page-at2 .ensures) (c .before .before .before .before .before .page-at .ensures)) ∙ c .if1 .taken)))
+returns c =
+    let answer = c .before .shares-next .ensures ∙ ap₂ shareNext (c .before .before .page-at2 .ensures) (c .before .before .before .before .before .page-at .ensures) in
+    sym (all-fails _ _ (c .before .before .before .before .loop .lower) (omega arith) (not-yes (sym answer ∙ c .if1 .taken)))
 
 add-lower : tie.Need-add-lower Inv-loop μ-loop
 add-lower c = omega arith
@@ -37,10 +40,15 @@ loop-less : tie.Need-loop-less Inv-loop μ-loop
 loop-less c = omega arith
 
 loop-again : tie.Need-loop-again Inv-loop μ-loop
-loop-again c = (omega arith, all-more _ _ (c .before .before .before .before .loop .inv .1) (not-no (sym (c .before .shares-next .ensures ∙ ap₂ shareNext (c .before .before .page-at2 .ensures) (c .before .before .before .before .before .page-at .ensures)) ∙ c .if1 .left)))
+loop-again c =
+    let answer = c .before .shares-next .ensures ∙ ap₂ shareNext (c .before .before .page-at2 .ensures) (c .before .before .before .before .before .page-at .ensures) in
+    (omega arith, all-more _ _ (c .before .before .before .before .loop .inv .1) (not-no (sym answer ∙ c .if1 .left)))
 
 returns-2 : tie.Need-returns-2 Inv-loop μ-loop
-returns-2 c = let l = c .before .loop in let e : l .lower ≡ c .before .before .before .before .args .page = omega arith in sym (rw e at (l .inv .1))
+returns-2 c =
+    let l = c .before .loop in
+    let e : l .lower ≡ c .before .before .before .before .args .page = omega arith in
+    sym (rw e at (l .inv .1))
 
 pub next-apart-spec : {M : Type 1} → statement M
 next-apart-spec =

@@ -1,3 +1,4 @@
+-- `state::nexts_apart` meets its contract. The loop's invariant: every page below the counter is apart from those below it.
 use Prim.Native.Nat.{_≤_, _-_}
 use native.Mathlib.Omega.{arith}
 use mathlib.Core.Path.{_≡_, sym}
@@ -36,7 +37,10 @@ loop-again c = (omega arith, all-more _ _ (c .before .before .before .loop .inv 
 
 returns-2 : tie.Need-returns-2 Inv-loop μ-loop
 unfolding nextsApart
-returns-2 c = let l = c .before .loop in let e : l .page ≡ c .before .before .before .args .pages = omega arith in sym (rw e at (l .inv .1))
+returns-2 c =
+    let l = c .before .loop in
+    let e : l .page ≡ c .before .before .before .args .pages = omega arith in
+    sym (rw e at (l .inv .1))
 
 pub nexts-apart-spec : {M : Type 1} → statement M
 nexts-apart-spec =

@@ -1,3 +1,4 @@
+-- `state::pages_sound` meets its contract. The loop's invariant: every page below the counter is sound.
 use Prim.Native.Nat.{_≤_, _-_}
 use native.Mathlib.Omega.{arith}
 use mathlib.Core.Path.{_≡_, sym}
@@ -34,7 +35,10 @@ loop-again : tie.Need-loop-again Inv-loop μ-loop
 loop-again c = (omega arith, all-more _ _ (c .before .before .before .loop .inv .1) (said-yes (c .before .page-sound .ensures) (c .if1 .left)))
 
 returns-2 : tie.Need-returns-2 Inv-loop μ-loop
-returns-2 c = let l = c .before .loop in let e : l .page ≡ c .before .before .before .args .pages = omega arith in sym (rw e at (l .inv .1))
+returns-2 c =
+    let l = c .before .loop in
+    let e : l .page ≡ c .before .before .before .args .pages = omega arith in
+    sym (rw e at (l .inv .1))
 
 pub pages-sound-spec : {M : Type 1} → statement M
 pages-sound-spec =

@@ -1,3 +1,4 @@
+-- `state::put_page` meets its contract. The four stores write the page's words.
 use Rattle.state.specs.StateLaws.{sets-put}
 use native.Mathlib.Omega.{arith}
 use lib.ListN.{length-set}
@@ -6,37 +7,37 @@ use Rattle.state.proofs.put_page.Statement.{statement}
 use Rattle.state.proofs.put_page.Tie as tie
 
 mul-at : tie.Need-mul-at
-mul-at c = search needs
+mul-at c = omega arith
 
 mul-state : tie.Need-mul-state
-mul-state c = search needs
+mul-state c = omega arith
 
 slice-write-state : tie.Need-slice-write-state
-slice-write-state c = search needs
+slice-write-state c = omega arith
 
 add-state : tie.Need-add-state
-add-state c = search needs
+add-state c = omega arith
 
 mul-state-2 : tie.Need-mul-state-2
-mul-state-2 c = search needs
+mul-state-2 c = omega arith
 
 slice-write-state-2 : tie.Need-slice-write-state-2
 slice-write-state-2 c = simp length-set (omega arith)
 
 add-state-2 : tie.Need-add-state-2
-add-state-2 c = search needs
+add-state-2 c = omega arith
 
 mul-state-3 : tie.Need-mul-state-3
-mul-state-3 c = search needs
+mul-state-3 c = omega arith
 
 slice-write-state-3 : tie.Need-slice-write-state-3
 slice-write-state-3 c = simp length-set (omega arith)
 
 add-state-3 : tie.Need-add-state-3
-add-state-3 c = search needs
+add-state-3 c = omega arith
 
 mul-state-4 : tie.Need-mul-state-4
-mul-state-4 c = search needs
+mul-state-4 c = omega arith
 
 slice-write-state-4 : tie.Need-slice-write-state-4
 slice-write-state-4 c = simp length-set (omega arith)

@@ -1,18 +1,19 @@
+-- `state::state_sound` meets its contract. Each return is the test that decides it.
+use native.Mathlib.Omega.{arith}
 use Rattle.bounded.specs.Choice.{said-yes, said-no}
 use Rattle.state.specs.State.{stateSound}
-use borrow.Author.Needs.{needs}
 use Rattle.state.proofs.state_sound.Statement.{statement}
 use Rattle.state.proofs.state_sound.Tie as tie
 
 pages-sound-requires : tie.Need-pages-sound-requires
-pages-sound-requires c κs = search needs
+pages-sound-requires c κs = omega arith
 
 returns : tie.Need-returns
 unfolding stateSound
 returns c = rw (said-no (c .before .pages-sound .ensures) (c .if1 .taken))
 
 nexts-apart-requires : tie.Need-nexts-apart-requires
-nexts-apart-requires c κs = search needs
+nexts-apart-requires c κs = omega arith
 
 returns-2 : tie.Need-returns-2
 unfolding stateSound

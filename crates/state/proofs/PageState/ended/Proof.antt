@@ -1,4 +1,4 @@
-use mathlib.Core.Path.{refl}
+-- `state::PageState::ended` meets its contract. The page leaves flight as `commits` says.
 use Rattle.state.specs.Change.{atRest, committedPage, withdrawnPage}
 use Rattle.state.specs.Walk.{endedPage}
 use Rattle.state.proofs.PageState.ended.Statement.{statement}

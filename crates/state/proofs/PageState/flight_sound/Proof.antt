@@ -1,13 +1,13 @@
+-- `state::PageState::flight_sound` meets its contract. Each return is the test that decides it.
+use native.Mathlib.Omega.{arith}
 use borrow.Author.Tests.{le-ltb, lt-ltb}
 use Rattle.bounded.specs.Choice.{said-yes, said-no}
-use mathlib.Core.Path.{_∙_, ap, sym}
-use Rattle.state.specs.State.{flightSound, inFlight, stateAt}
-use borrow.Author.Needs.{needs}
+use Rattle.state.specs.State.{flightSound}
 use Rattle.state.proofs.PageState.flight_sound.Statement.{statement}
 use Rattle.state.proofs.PageState.flight_sound.Tie as tie
 
 in-flight-requires : tie.Need-in-flight-requires
-in-flight-requires c κs = search needs
+in-flight-requires c κs = tt
 
 returns : tie.Need-returns
 unfolding flightSound
@@ -22,10 +22,10 @@ unfolding flightSound
 returns-3 c = rw (said-yes (c .before .before .before .before .before .in-flight .ensures) (c .before .before .before .before .if1 .left), lt-ltb _ _ (c .before .before .if2 .left), le-ltb _ _ (c .if3 .taken))
 
 page-at-requires : tie.Need-page-at-requires
-page-at-requires c κs = search needs
+page-at-requires c κs = omega arith
 
 in-flight-requires-2 : tie.Need-in-flight-requires-2
-in-flight-requires-2 c κs = search needs
+in-flight-requires-2 c κs = tt
 
 returns-4 : tie.Need-returns-4
 unfolding flightSound

@@ -1,3 +1,4 @@
+-- `state::PageState::in_flight` meets its contract. The test is the definition.
 use mathlib.Core.Path.{refl}
 use Rattle.state.specs.State.{inFlight}
 use Rattle.state.proofs.PageState.in_flight.Statement.{statement}

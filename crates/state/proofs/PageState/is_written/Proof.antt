@@ -1,3 +1,4 @@
+-- `state::PageState::is_written` meets its contract. The test is the definition.
 use mathlib.Core.Path.{refl}
 use Rattle.state.specs.State.{isWritten}
 use Rattle.state.proofs.PageState.is_written.Statement.{statement}

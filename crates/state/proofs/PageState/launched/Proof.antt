@@ -1,11 +1,12 @@
+-- `state::PageState::launched` meets its contract. The version left keeps used + 1 from wrapping.
+use native.Mathlib.Omega.{arith}
 use mathlib.Core.Path.{refl}
 use Rattle.state.specs.Change.{launchedPage}
-use borrow.Author.Needs.{needs}
 use Rattle.state.proofs.PageState.launched.Statement.{statement}
 use Rattle.state.proofs.PageState.launched.Tie as tie
 
 add-t3 : tie.Need-add-t3
-add-t3 c = search needs
+add-t3 c = omega arith
 
 returns : tie.Need-returns
 unfolding launchedPage

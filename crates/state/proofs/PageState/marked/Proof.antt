@@ -1,3 +1,4 @@
+-- `state::PageState::marked` meets its contract. The page with written 1.
 use mathlib.Core.Path.{refl}
 use Rattle.state.specs.Change.{writtenPage}
 use Rattle.state.proofs.PageState.marked.Statement.{statement}

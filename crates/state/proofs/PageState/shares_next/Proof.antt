@@ -1,18 +1,18 @@
+-- `state::PageState::shares_next` meets its contract. Each return is the test that decides it.
 use Rattle.bounded.specs.Choice.{said-yes, said-no}
 use Rattle.state.specs.State.{shareNext}
-use borrow.Author.Needs.{needs}
 use Rattle.state.proofs.PageState.shares_next.Statement.{statement}
 use Rattle.state.proofs.PageState.shares_next.Tie as tie
 
 in-flight-requires : tie.Need-in-flight-requires
-in-flight-requires c κs = search needs
+in-flight-requires c κs = tt
 
 returns : tie.Need-returns
 unfolding shareNext
 returns c = rw (said-no (c .before .in-flight .ensures) (c .if1 .taken))
 
 in-flight-requires-2 : tie.Need-in-flight-requires-2
-in-flight-requires-2 c κs = search needs
+in-flight-requires-2 c κs = tt
 
 returns-2 : tie.Need-returns-2
 unfolding shareNext

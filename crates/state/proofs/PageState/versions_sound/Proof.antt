@@ -1,3 +1,4 @@
+-- `state::PageState::versions_sound` meets its contract. Each return is the test that decides it.
 use borrow.Author.Tests.{lt-leb, le-leb}
 use Rattle.state.specs.State.{versionsSound}
 use Rattle.state.proofs.PageState.versions_sound.Statement.{statement}

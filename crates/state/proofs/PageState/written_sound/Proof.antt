@@ -1,7 +1,6 @@
+-- `state::PageState::written_sound` meets its contract. Each return is the test that decides it.
 use borrow.Author.Tests.{eq-eqb, ne-eqb}
-use mathlib.Core.Path.{_∙_}
 use Rattle.state.specs.State.{writtenSound}
-use borrow.Author.Needs.{needs}
 use Rattle.state.proofs.PageState.written_sound.Statement.{statement}
 use Rattle.state.proofs.PageState.written_sound.Tie as tie
 
@@ -14,7 +13,7 @@ unfolding writtenSound
 returns-2 c = rw (ne-eqb _ _ (c .before .before .if1 .left), ne-eqb _ _ (c .if2 .taken))
 
 in-flight-requires : tie.Need-in-flight-requires
-in-flight-requires c κs = search needs
+in-flight-requires c κs = tt
 
 returns-3 : tie.Need-returns-3
 unfolding writtenSound

@@ -1,6 +1,7 @@
+-- `state::cycle::completes` meets its contract. The loop's invariant: the pages from behind the page up to the walk's are written. The measure: the steps left of the lap.
 use native.Mathlib.Omega.{arith}
-use mathlib.Core.Path.{_≡_, sym, ap, _∙_}
-use Rattle.state.specs.State.{stateAt, isWritten}
+use mathlib.Core.Path.{sym}
+use Rattle.state.specs.State.{stateAt}
 use Rattle.state.specs.Walk.{pagesIn, left, Searching}
 use Rattle.state.specs.CompletionLaws.{searching-starts, searching-below, searching-more, searching-less, searching-fails, searching-ends}
 use Rattle.bounded.specs.Choice.{said-yes, said-no}
@@ -26,13 +27,28 @@ is-written-requires : tie.Need-is-written-requires Inv-loop μ-loop
 is-written-requires c κs = tt
 
 returns : tie.Need-returns Inv-loop μ-loop
-returns c = sym (searching-fails _ _ _ (c .before .before .before .before .before .before .before .pre) _ (c .before .before .before .before .loop .inv) (c .before .before .before .loop-test .taken) _ (c .before .before .page-at2 .ensures) (said-no (c .before .is-written .ensures) (c .if1 .taken)))
+returns c =
+    let w = c .before .before .before .before .before .before .before .pre in
+    let h = c .before .before .before .before .loop .inv in
+    let away = c .before .before .before .loop-test .taken in
+    let read = c .before .before .page-at2 .ensures in
+    sym (searching-fails _ _ _ w _ h away _ read (said-no (c .before .is-written .ensures) (c .if1 .taken)))
 
 loop-less : tie.Need-loop-less Inv-loop μ-loop
-loop-less c = searching-less _ _ _ (c .before .before .before .before .before .before .before .pre) _ (c .before .before .before .before .loop .inv) (c .before .before .before .loop-test .taken) _ (c .before .before .page-at2 .ensures)
+loop-less c =
+    let w = c .before .before .before .before .before .before .before .pre in
+    let h = c .before .before .before .before .loop .inv in
+    let away = c .before .before .before .loop-test .taken in
+    let read = c .before .before .page-at2 .ensures in
+    searching-less _ _ _ w _ h away _ read
 
 loop-again : tie.Need-loop-again Inv-loop μ-loop
-loop-again c = searching-more _ _ _ (c .before .before .before .before .before .before .before .pre) _ (c .before .before .before .before .loop .inv) (c .before .before .before .loop-test .taken) _ (c .before .before .page-at2 .ensures) (said-yes (c .before .is-written .ensures) (c .if1 .left))
+loop-again c =
+    let w = c .before .before .before .before .before .before .before .pre in
+    let h = c .before .before .before .before .loop .inv in
+    let away = c .before .before .before .loop-test .taken in
+    let read = c .before .before .page-at2 .ensures in
+    searching-more _ _ _ w _ h away _ read (said-yes (c .before .is-written .ensures) (c .if1 .left))
 
 returns-2 : tie.Need-returns-2 Inv-loop μ-loop
 returns-2 c = sym (searching-ends _ _ _ (c .before .before .before .before .pre) _ (c .before .loop .inv) (c .loop-test .left))

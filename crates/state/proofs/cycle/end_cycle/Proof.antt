@@ -1,3 +1,4 @@
+-- `state::cycle::end_cycle` meets its contract. The loop's invariant: the pages from the page up to the walk's have left flight. The measure: the steps left of the lap.
 use native.Mathlib.Omega.{arith}
 use mathlib.Core.Path.{sym, _∙_}
 use Rattle.state.specs.State.{stateAt}
@@ -16,26 +17,51 @@ loop-holds : tie.Need-loop-holds Inv-loop μ-loop
 loop-holds c = walking-starts _ _ _ (c .before .pre) _
 
 page-at-requires : tie.Need-page-at-requires Inv-loop μ-loop
-page-at-requires c κs = let w = c .before .before .before .pre in let h = c .before .loop .inv in omega (arith, walking-below _ _ _ w _ _ _ h, walking-length _ _ _ w _ _ _ h)
+page-at-requires c κs =
+    let w = c .before .before .before .pre in
+    let h = c .before .loop .inv in
+    omega (arith, walking-below _ _ _ w _ _ _ h, walking-length _ _ _ w _ _ _ h)
 
 ended-requires : tie.Need-ended-requires Inv-loop μ-loop
 ended-requires c κs = tt
 
 put-page-requires : tie.Need-put-page-requires Inv-loop μ-loop
-put-page-requires c κs = let w = c .before .before .before .before .before .before .pre in let h = c .before .before .before .before .loop .inv in omega (arith, walking-below _ _ _ w _ _ _ h, walking-length _ _ _ w _ _ _ h)
+put-page-requires c κs =
+    let w = c .before .before .before .before .before .before .pre in
+    let h = c .before .before .before .before .loop .inv in
+    omega (arith, walking-below _ _ _ w _ _ _ h, walking-length _ _ _ w _ _ _ h)
 
 same-length : tie.Need-same-length Inv-loop μ-loop
-same-length c = c .before .before .before .put-page .kept .0 ∙ walking-length _ _ _ (c .before .before .before .before .before .before .before .before .before .before .pre) _ _ _ (c .before .before .before .before .before .before .before .before .loop .inv) ∙ sym (c .before .before .before .before .before .before .before .before .before .before .pre .fits)
+same-length c =
+    let w = c .before .before .before .before .before .before .before .before .before .before .pre in
+    let h = c .before .before .before .before .before .before .before .before .loop .inv in
+    c .before .before .before .put-page .kept .0 ∙ walking-length _ _ _ w _ _ _ h ∙ sym (w .fits)
 
 returns : tie.Need-returns Inv-loop μ-loop
 unfolding cycleEnded
-returns c = walking-ends _ _ _ (c .before .before .before .before .before .before .before .before .before .before .pre) _ _ _ (c .before .before .before .before .before .before .before .before .loop .inv) _ (c .before .before .before .before .before .before .page-at .ensures) _ _ (c .before .before .before .before .ended .ensures) (c .before .before .before .put-page .ensures) (c .if1 .taken)
+returns c =
+    let w = c .before .before .before .before .before .before .before .before .before .before .pre in
+    let h = c .before .before .before .before .before .before .before .before .loop .inv in
+    let read = c .before .before .before .before .before .before .page-at .ensures in
+    let made = c .before .before .before .before .ended .ensures in
+    let put = c .before .before .before .put-page .ensures in
+    walking-ends _ _ _ w _ _ _ h _ read _ _ made put (c .if1 .taken)
 
 loop-less : tie.Need-loop-less Inv-loop μ-loop
-loop-less c = walking-less _ _ _ (c .before .before .before .before .before .before .before .before .before .before .pre) _ _ _ (c .before .before .before .before .before .before .before .before .loop .inv) _ (c .before .before .before .before .before .before .page-at .ensures) (c .if1 .left)
+loop-less c =
+    let w = c .before .before .before .before .before .before .before .before .before .before .pre in
+    let h = c .before .before .before .before .before .before .before .before .loop .inv in
+    let read = c .before .before .before .before .before .before .page-at .ensures in
+    walking-less _ _ _ w _ _ _ h _ read (c .if1 .left)
 
 loop-again : tie.Need-loop-again Inv-loop μ-loop
-loop-again c = walking-more _ _ _ (c .before .before .before .before .before .before .before .before .before .before .pre) _ _ _ (c .before .before .before .before .before .before .before .before .loop .inv) _ (c .before .before .before .before .before .before .page-at .ensures) _ _ (c .before .before .before .before .ended .ensures) (c .before .before .before .put-page .ensures) (c .if1 .left)
+loop-again c =
+    let w = c .before .before .before .before .before .before .before .before .before .before .pre in
+    let h = c .before .before .before .before .before .before .before .before .loop .inv in
+    let read = c .before .before .before .before .before .before .page-at .ensures in
+    let made = c .before .before .before .before .ended .ensures in
+    let put = c .before .before .before .put-page .ensures in
+    walking-more _ _ _ w _ _ _ h _ read _ _ made put (c .if1 .left)
 
 pub end-cycle-spec : {M : Type 1} → statement M
 end-cycle-spec =

@@ -1,3 +1,4 @@
+-- `state::cycle::withdraw_cycle` meets its contract. The cycle ends without committing.
 use Rattle.state.specs.Change.{withdrawn}
 use Rattle.state.specs.Walk.{endedPage, cycleEnded}
 use borrow.Author.Needs.{needs}

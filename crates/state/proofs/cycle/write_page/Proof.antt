@@ -1,3 +1,5 @@
+-- `state::cycle::write_page` meets its contract. The search decides which of the two states is left.
+use native.Mathlib.Omega.{arith}
 use mathlib.Core.Path.{sym, _∙_}
 use Rattle.state.specs.CompletionLaws.{written-done, written-not}
 use borrow.Author.Needs.{needs}
@@ -14,22 +16,28 @@ same-length : tie.Need-same-length
 same-length c = search needs
 
 returns : tie.Need-returns
-returns c = let done = sym (c .before .before .before .before .before .completes .ensures) ∙ c .before .before .before .before .if1 .taken in (sym done, written-done _ _ _ (c .before .before .before .before .before .before .before .before .pre) done _ (c .before .before .end-cycle .ensures))
+returns c =
+    let done = sym (c .before .before .before .before .before .completes .ensures) ∙ c .before .before .before .before .if1 .taken in
+    (sym done, written-done _ _ _ (c .before .before .before .before .before .before .before .before .pre) done _ (c .before .before .end-cycle .ensures))
 
 page-at-requires : tie.Need-page-at-requires
-page-at-requires c κs = search needs
+page-at-requires c κs = omega arith
 
 marked-requires : tie.Need-marked-requires
-marked-requires c κs = search needs
+marked-requires c κs = tt
 
 put-page-requires : tie.Need-put-page-requires
-put-page-requires c κs = search needs
+put-page-requires c κs = omega arith
 
 same-length-2 : tie.Need-same-length-2
 same-length-2 c = search needs
 
 returns-2 : tie.Need-returns-2
-returns-2 c = let not-done = sym (c .before .before .before .before .before .before .before .before .completes .ensures) ∙ c .before .before .before .before .before .before .before .if1 .left in (sym not-done, written-not _ _ _ (c .before .before .before .before .before .before .before .before .before .before .before .pre) not-done _ _ _ (c .before .before .before .before .before .page-at .ensures) (c .before .before .before .marked .ensures) (c .before .before .put-page .ensures))
+returns-2 c =
+    let not-done = sym (c .before .before .before .before .before .before .before .before .completes .ensures) ∙ c .before .before .before .before .before .before .before .if1 .left in
+    let read = c .before .before .before .before .before .page-at .ensures in
+    let made = c .before .before .before .marked .ensures in
+    (sym not-done, written-not _ _ _ (c .before .before .before .before .before .before .before .before .before .before .before .pre) not-done _ _ _ read made (c .before .before .put-page .ensures))
 
 pub write-page-spec : {M : Type 1} → statement M
 write-page-spec =

@@ -1,27 +1,28 @@
+-- `state::launch::following` meets its contract. Each return is the test that decides it.
+use native.Mathlib.Omega.{arith}
 use borrow.Author.Tests.{lt-ltb, le-ltb}
 use Rattle.state.specs.Change.{following}
-use borrow.Author.Needs.{needs}
 use Rattle.state.proofs.launch.following.Statement.{statement}
 use Rattle.state.proofs.launch.following.Tie as tie
 
 add-if1 : tie.Need-add-if1
-add-if1 c = search needs
+add-if1 c = omega arith
 
 add-result : tie.Need-add-result
-add-result c = search needs
+add-result c = omega arith
 
 mul-result : tie.Need-mul-result
-mul-result c = search needs
+mul-result c = omega arith
 
 shared-slice-read-result : tie.Need-shared-slice-read-result
-shared-slice-read-result c = search needs
+shared-slice-read-result c = omega arith
 
 returns : tie.Need-returns
 unfolding following
 returns c = rw (lt-ltb _ _ (c .before .if1 .taken))
 
 shared-slice-read-result-2 : tie.Need-shared-slice-read-result-2
-shared-slice-read-result-2 c = search needs
+shared-slice-read-result-2 c = omega arith
 
 returns-2 : tie.Need-returns-2
 unfolding following
