@@ -1,10 +1,11 @@
 -- Storing or blanking slot k changes slot k to that record and bytes and no other slot; and what a list of steps leaves.
-use Prim.Native.Nat.{ℕ, suc, _*_, _≤_, _<_}
+use Prim.Native.Nat.{ℕ, zero, suc, _+_, _*_, _≤_, _<_}
 use native.Mathlib.Omega.{arith}
+use native.Mathlib.Numerals.{add-one}
 use mathlib.Core.Path.{_≡_, refl, sym, ap, _∙_, subst, fun-ext}
 use mathlib.Core.Logic.{⊎-elim}
 use mathlib.Core.List.{List, [], _∷_, _++_, map, List·Memᴰ, List·Memᴰ·head, List·Memᴰ·tail, List·Memᴰ·not-nil, List·Memᴰ·cases-cons}
-use lib.ListN.{length, getD, replicate, length-replicate}
+use lib.ListN.{length, take, getD, replicate, length-replicate}
 use Rattle.bounded.specs.Limits.{highestVersion}
 use Rattle.bounded.specs.Choice.{on-eq}
 use Rattle.bounded.specs.Parts.{part, putPart, update}
@@ -89,6 +90,15 @@ module _ (w S : ℕ) (f : Flash) (size : Sized w S f) (k : ℕ) (inside : k < S)
   unfolding apply putSlot
   blank-bytes = bytes-put w S k (replicate w 255) (f .contents) inside (length-replicate w 255) (size .contents-sized)
 
+-- words and contents with slot k written are the flash after the step
+pub stored-flash : (w : ℕ) (f : Flash) (k : ℕ) (r : Record) (bytes words contents : List ℕ) → words ≡ putPart 5 k (wordsOf r) (f .words) → contents ≡ putPart w k bytes (f .contents) → record { words = words; contents = contents } ≡ apply w f (Step.Store k r bytes)
+unfolding apply putSlot
+stored-flash w f k r bytes words contents e h = rw (e, h)
+
+pub blanked-flash : (w : ℕ) (f : Flash) (k : ℕ) (words contents : List ℕ) → words ≡ putPart 5 k (wordsOf blankRecord) (f .words) → contents ≡ putPart w k (replicate w 255) (f .contents) → record { words = words; contents = contents } ≡ apply w f (Step.Blank k)
+unfolding apply putSlot
+blanked-flash w f k words contents e h = rw (e, h)
+
 -- equal tables have equal slots
 at-slot : {A : Type 0} {f g : ℕ → A} → f ≡ g → (i : ℕ) → f i ≡ g i
 at-slot {A} e i = ap (λ (t : ℕ → A). t i) e
@@ -99,6 +109,21 @@ pub apply-append : (w : ℕ) (f : Flash) (first then : List Step) → applyAll w
 unfolding applyAll
 apply-append w f [] then = refl
 apply-append w f (s ∷ first) then = apply-append w (apply w f s) first then
+
+-- a counting loop that blanks the listed slots: at 0, and one slot more
+pub blanks-none : (w : ℕ) (f : Flash) (slots : List ℕ) → applyAll w f (map Step.Blank (take 0 slots)) ≡ f
+unfolding applyAll
+blanks-none w f [] = refl
+blanks-none w f (k ∷ slots) = refl
+
+pub blanks-more : (w : ℕ) (f : Flash) (slots : List ℕ) (i : ℕ) → i < length slots → applyAll w f (map Step.Blank (take (i + 1) slots)) ≡ apply w (applyAll w f (map Step.Blank (take i slots))) (Step.Blank (getD slots i 0))
+unfolding applyAll
+blanks-more w f slots i h = rw add-one (one-more f slots i h)
+  where
+    one-more : (f : Flash) (slots : List ℕ) (i : ℕ) → i < length slots → applyAll w f (map Step.Blank (take (suc i) slots)) ≡ apply w (applyAll w f (map Step.Blank (take i slots))) (Step.Blank (getD slots i 0))
+    one-more f [] i h = absurd (omega arith)
+    one-more f (k ∷ slots) zero h = blanks-none w (apply w f (Step.Blank k)) slots
+    one-more f (k ∷ slots) (suc i) h = one-more (apply w f (Step.Blank k)) slots i (omega arith)
 
 -- slot i is "blank with bytes 255"
 pub record Blanked (w : ℕ) (f : Flash) (i : ℕ) : Type 0 where

@@ -15,7 +15,7 @@ use Rattle.bounded.specs.BelowLaws.{all-at, all-of, all-fails, some-of, some-at
 use Rattle.record.specs.declared.Record.{Record}
 use Rattle.record.specs.declared.Slot.{Slot}
 use Rattle.record.specs.declared.Slot.the-variants.{Blank, Holds}
-use Rattle.record.specs.Slot.{wordsOf, recordOf, allBlank, slotOf, blankRecord, recordSound, holds, someRecord, straddles}
+use Rattle.record.specs.Slot.{wordsOf, recordOf, allBlank, slotOf, blankRecord, formattedRecord, plannedRecord, recordSound, slotSound, isBlank, holds, someRecord, straddles}
 
 -- ---- soundness
 
@@ -91,6 +91,41 @@ module _ (P : ℕ) (r : Record) where
   -- the test is exactly document 01's sentence
   pub sound-exactly : (recordSound P r ≡ true) ↔ SoundRecord P r
   sound-exactly = (sound-facts, sound-test)
+
+-- the record that format stores, and the one that a write plans from a sound state, are sound
+pub formatted-sound : (P i : ℕ) → i < P → recordSound P (formattedRecord i) ≡ true
+unfolding formattedRecord
+formatted-sound P i h =
+    sound-test P (formattedRecord i) (record {
+      page-below = h;
+      next-below = h;
+      v-most = omega arith;
+      c-most = omega arith;
+      nv-most = omega arith;
+      c-before-v = inr (refl, refl);
+      own-link = λ e. refl;
+    })
+
+pub planned-sound :
+    (P page used committed next usedOfNext : ℕ)
+    → page < P
+    → next < P
+    → used ≤ highestVersion
+    → usedOfNext ≤ highestVersion
+    → committed < used
+    → (next ≡ page → usedOfNext ≡ used)
+    → recordSound P (plannedRecord page used committed next usedOfNext) ≡ true
+unfolding plannedRecord
+planned-sound P page used committed next usedOfNext hp hn hu hv hc own =
+    sound-test P (plannedRecord page used committed next usedOfNext) (record {
+      page-below = hp;
+      next-below = hn;
+      v-most = hu;
+      c-most = omega arith;
+      nv-most = hv;
+      c-before-v = inl hc;
+      own-link = own;
+    })
 
 -- ---- straddling
 
@@ -191,6 +226,16 @@ slot-of-words r h =
 pub slot-of-blank : slotOf (wordsOf blankRecord) ≡ Blank
 unfolding slotOf wordsOf blankRecord allBlank allBelow
 slot-of-blank = refl
+
+pub is-blank-exactly : (s : Slot) → (isBlank s ≡ true) ↔ (s ≡ Blank)
+unfolding isBlank
+is-blank-exactly Blank = (λ e. refl, λ e. refl)
+is-blank-exactly (Holds r) = (λ e. absurd (false≢true e), λ e. absurd (let z : _≡_ {A = ℕ} 0 1 = cc in omega arith))
+
+-- what a sound slot holds is a sound record
+pub held-sound : (P : ℕ) {s : Slot} (r : Record) → s ≡ Holds r → slotSound P s ≡ true → recordSound P r ≡ true
+unfolding slotSound
+held-sound P r e h = rw e at h
 
 -- ---- records in a table
 

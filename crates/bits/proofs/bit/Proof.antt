@@ -1,3 +1,4 @@
+-- A mask of the lowest bit is the remainder by 2.
 use Prim.Native.Nat.{_/_, _%_, _^_}
 use lib.ListN.{getD}
 use borrow.Author.Needs.{needs}

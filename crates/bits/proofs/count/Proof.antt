@@ -1,7 +1,9 @@
+-- Any length but 32 is refused; else the second number is what was counted.
 use borrow.Author.Needs.{needs}
 use borrow.Author.Tests.{eq-eqb, ne-eqb}
 use native.Mathlib.Omega.{arith}
-use mathlib.Core.Path.{_≡_, refl}
+use Prim.Native.Nat.{ℕ}
+use mathlib.Core.Path.{_≡_, refl, subst}
 use lib.ListN.{length}
 use Rattle.bounded.specs.Limits.{width}
 use Rattle.outcome.specs.Reply.{Replies, reply-refused, reply-done}
@@ -16,7 +18,7 @@ returns : tie.Need-returns
 unfolding countOutcome countAnswer
 returns c =
     let bytes = c .before .before .before .args .bytes .now in
-    let q : 1 ≡ countAnswer width bytes = rw (ne-eqb (length bytes) width (c .before .if1 .taken)) in
+    let q : 1 ≡ countAnswer width bytes = rw (ne-eqb (length bytes) width (λ e. omega arith)) in
     reply-refused (c .reply .result) 1 0 (setBits bytes) (tt {0}) (tt {0}) (c .reply .ensures) q (λ e. omega arith)
 
 count-bits-requires : tie.Need-count-bits-requires
@@ -30,8 +32,8 @@ unfolding countOutcome countAnswer
 returns-2 c =
     let bytes = c .before .before .before .before .args .bytes .now in
     let n = c .before .count-bits in
-    let q : 0 ≡ countAnswer width bytes = rw (eq-eqb (length bytes) width (c .before .before .if1 .left)) in
-    let e : Replies (c .reply2 .result) 0 (setBits bytes) = rw (n .ensures) at (c .reply2 .ensures) in
+    let q : 0 ≡ countAnswer width bytes = rw (eq-eqb (length bytes) width (omega arith)) in
+    let e : Replies (c .reply2 .result) 0 (setBits bytes) = subst (λ (x : ℕ). Replies (c .reply2 .result) 0 x) (n .ensures) (c .reply2 .ensures) in
     reply-done (c .reply2 .result) 0 0 (setBits bytes) (tt {0}) (tt {0}) e q refl
 
 pub count-spec : {M : Type 1} → statement M

@@ -1,4 +1,5 @@
-use Prim.Native.Nat.{ℕ, _*_, _≤_, _-_}
+-- The invariant: what is counted is the sum over the bits passed, and so at most their number.
+use Prim.Native.Nat.{ℕ, _+_, _*_, _≤_, _-_}
 use native.Mathlib.Omega.{arith}
 use mathlib.Core.Path.{_≡_, sym, ap, ap₂, _∙_}
 use lib.ListN.{length}

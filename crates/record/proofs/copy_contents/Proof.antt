@@ -1,3 +1,4 @@
+-- The invariant: the first i elements are copied, and the rest is as it was.
 use Prim.Native.Nat.{ℕ, _≤_, _-_}
 use native.Mathlib.Omega.{arith}
 use mathlib.Core.Path.{_≡_, refl, ap, _∙_}

@@ -1,3 +1,4 @@
+-- Each lent part comes back as its writer leaves it, and the rest of its slice is as it was.
 use borrow.Author.Needs.{needs}
 use mathlib.Core.Path.{refl}
 use Rattle.record.specs.Slot.{wordsOf}
