@@ -2,9 +2,6 @@
 use record::Record;
 use record::Slot;
 
-// Bytes of contents a slot has.
-const WIDTH: usize = 32;
-
 // The slot that a refused suggest names.
 const NO_SLOT: u32 = 4294967295;
 
@@ -20,7 +17,7 @@ ghost use Rattle.volume.specs.ListLaws.{Listed};
 ghost use Rattle.collect.specs.Erase.{eraseAnswer, eraseSteps, eraseOutcome};
 ghost use Rattle.collect.specs.EraseLaws.{flash, ListedIn};
 ghost use Rattle.collect.specs.Suggest.{SuggestOutcome};
-ghost use Rattle.collect.specs.SuggestLaws.{suggestRefusal};
+ghost use Rattle.collect.specs.SuggestLaws.{sizesFit};
 ghost use Rattle.record.specs.Slot.{holds, slotAt};
 ghost use Rattle.state.specs.State.{stateAt};
 ghost use Rattle.collect.specs.Permission.{isObsolete, isExposed, outreaches, isShielded, isNeeded, isCurrent, mayEraseRecord, mayErase, mayEraseAll};
@@ -192,7 +189,7 @@ fn blank_slot(words: &mut [u32], contents: &mut [u8], slot: u32)
     requires { ⌜ width * slot + width ≤ length (now contents) ⌝ }
     ensures { λ _. ⌜ flash (now (words .exit)) (now (contents .exit)) ≡ apply width (flash (now (words .entry)) (now (contents .entry))) (Step.Blank slot) ⌝ }
 {
-    let ones = [255u8; WIDTH];
+    let ones = [255u8; volume::WIDTH];
     record::put_slot(words, contents, slot, Record::BLANK, &ones);
 }
 
@@ -219,7 +216,7 @@ fn erase_answer(
 ) -> u32
     ensures { λ r. ⌜ r ≡ eraseAnswer width pages slots (volume (now (words .entry)) (now (contents .entry)) (now (state .entry))) (now (list .entry)) ⌝ }
 {
-    if !volume::volume_fits(WIDTH as u32, pages, slots, words, contents, state) {
+    if !volume::volume_fits(volume::WIDTH as u32, pages, slots, words, contents, state) {
         return 1;
     }
     if !table::table_sound(words, pages, slots) {
@@ -256,35 +253,31 @@ pub fn erase(
     outcome::reply(0, 0)
 }
 
-// The refusals of a suggest that come before its search: the first that holds, or 0.
-fn suggest_refusal(pages: u32, slots: u32, words: &[u32], state: &[u32]) -> u32
-    ensures { λ r. ⌜ r ≡ suggestRefusal pages slots (now (words .entry)) (now (state .entry)) ⌝ }
+// P, S and the lengths of the words and the state are right.
+fn sizes_fit(pages: u32, slots: u32, words: &[u32], state: &[u32]) -> bool
+    ensures { λ r. ⌜ r ≡ sizesFit pages slots (now (words .entry)) (now (state .entry)) ⌝ }
 {
     if !volume::sizes_ok(pages, slots) {
-        return 1;
+        return false;
     }
     if !volume::words_fit(words, slots) {
-        return 1;
+        return false;
     }
-    if !volume::state_fits(state, pages) {
-        return 1;
-    }
-    if !table::table_sound(words, pages, slots) {
-        return 2;
-    }
-    if !state::state_sound(state, pages) {
-        return 5;
-    }
-    0
+    volume::state_fits(state, pages)
 }
 
-// Some slot that may be erased: the lowest.
+// Suggest some slot that may be erased: the lowest.
 pub fn suggest(pages: u32, slots: u32, words: &[u32], state: &[u32]) -> u64
     ensures { λ r. ⌜ SuggestOutcome pages slots (now (words .entry)) (now (state .entry)) (returned r tt) ⌝ }
 {
-    let refusal = suggest_refusal(pages, slots, words, state);
-    if refusal != 0 {
-        return outcome::reply(refusal, NO_SLOT);
+    if !sizes_fit(pages, slots, words, state) {
+        return outcome::reply(1, NO_SLOT);
+    }
+    if !table::table_sound(words, pages, slots) {
+        return outcome::reply(2, NO_SLOT);
+    }
+    if !state::state_sound(state, pages) {
+        return outcome::reply(5, NO_SLOT);
     }
     let slot = first_erasable(words, slots, state);
     if slot >= slots {
