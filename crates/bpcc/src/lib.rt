@@ -1,16 +1,71 @@
-// The C interface. No call is exported yet; the functions here pin theorems in their contracts.
+// The C interface: every call, exported. The functions `star_cases` and `promise_3` pin theorems in their contracts.
+ghost use mathlib.Core.Path.{_≡_};
+ghost use Rattle.bounded.specs.Limits.{width};
+ghost use Rattle.outcome.specs.Outcome.{returned};
 ghost use Rattle.outcome.specs.Row.{RowsHold};
+ghost use Rattle.record.specs.Flash.{flash};
+ghost use Rattle.bits.specs.Bits.{countOutcome};
+ghost use Rattle.volume.specs.Volume.{volume};
+ghost use Rattle.volume.specs.Format.{formatOutcome};
+ghost use Rattle.volume.specs.Read.{readOutcome};
 ghost use Rattle.volume.specs.Cases.{boundRows};
+ghost use Rattle.collect.specs.Erase.{eraseOutcome};
+ghost use Rattle.collect.specs.Suggest.{SuggestOutcome};
 ghost use Rattle.atomicity.specs.StarCases.{starTable};
 ghost use Rattle.atomicity.specs.Promise.{Promise3};
+
+// Format a volume.
+#[no_mangle]
+pub extern "C" fn bpcc_format(pages: u32, slots: u32, words: &mut [u32], contents: &mut [u8], state: &mut [u32]) -> u64
+    ensures { λ r. ⌜ returned r (volume (now (words .exit)) (now (contents .exit)) (now (state .exit)))
+        ≡ formatOutcome width pages slots (volume (now (words .entry)) (now (contents .entry)) (now (state .entry))) ⌝ }
+{
+    volume::format(pages, slots, words, contents, state)
+}
+
+// Erase a list of slots.
+#[no_mangle]
+pub extern "C" fn bpcc_erase(pages: u32, slots: u32, words: &mut [u32], contents: &mut [u8], state: &[u32], list: &[u32]) -> u64
+    ensures { λ r. ⌜ returned r (flash (now (words .exit)) (now (contents .exit)))
+        ≡ eraseOutcome width pages slots (volume (now (words .entry)) (now (contents .entry)) (now (state .entry))) (now (list .entry)) ⌝ }
+{
+    collect::erase(pages, slots, words, contents, state, list)
+}
+
+// Suggest some slot that may be erased.
+#[no_mangle]
+pub extern "C" fn bpcc_suggest(pages: u32, slots: u32, words: &[u32], state: &[u32]) -> u64
+    ensures { λ r. ⌜ SuggestOutcome pages slots (now (words .entry)) (now (state .entry)) (returned r tt) ⌝ }
+{
+    collect::suggest(pages, slots, words, state)
+}
+
+// Count the set bits of a slot's contents.
+#[no_mangle]
+pub extern "C" fn bpcc_count(bytes: &[u8]) -> u64
+    ensures { λ r. ⌜ returned r tt ≡ countOutcome width (now (bytes .entry)) ⌝ }
+{
+    bits::count(bytes)
+}
+
+// Read a page's committed contents.
+#[no_mangle]
+pub extern "C" fn bpcc_read(pages: u32, slots: u32, words: &[u32], contents: &[u8], state: &[u32], page: u32, out: &mut [u8]) -> u64
+    ensures { λ r. ⌜ returned r (now (out .exit))
+        ≡ readOutcome width pages slots (volume (now (words .entry)) (now (contents .entry)) (now (state .entry))) page (now (out .entry)) ⌝ }
+{
+    volume::read(pages, slots, words, contents, state, page, out)
+}
 
 // Document 01's ★ cases hold of the definitions that the calls' contracts cite, and so do the bounds of P and S.
 pub fn star_cases()
     ensures cases { λ _. ⌜ RowsHold starTable ⌝ }
     ensures bounds { λ _. ⌜ RowsHold boundRows ⌝ }
-{}
+{
+}
 
 // Promise 3, whole: one theorem over all lists of calls and crashes.
 pub fn promise_3()
     ensures { λ _. ⌜ Promise3 ⌝ }
-{}
+{
+}
