@@ -1,6 +1,20 @@
 //! Native tests of the C library against a second implementation, and that implementation.
 
 pub mod calls;
+pub mod cases;
+pub mod compare;
+pub mod differential;
+#[cfg(feature = "exports")]
+pub mod exports;
+pub mod impostors;
+pub mod inputs;
+pub mod ledger;
+#[cfg(feature = "library")]
+pub mod library;
 pub mod models;
 pub mod random;
 pub mod reference;
+pub mod runs;
+pub mod script;
+pub mod scripts;
+pub mod volume;

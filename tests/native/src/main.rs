@@ -1,7 +1,239 @@
-use native::models::*;
-fn main() {
-    for (p, v, r) in [(2,2,Rule::Right),(2,3,Rule::Right),(3,2,Rule::Right),(2,3,Rule::CheckNone),(2,4,Rule::CheckHigh),(2,4,Rule::Right)] {
-        let t = std::time::Instant::now();
-        println!("{p} {v} {r:?} {:?} {:?}", walk(&native::reference::Reference, p, v, r), t.elapsed());
+//! Runs the native tests, all groups or those named, and counts.
+
+use native::calls::Calls;
+use native::compare::Compared;
+use native::impostors::{Impostor, FAULTS, LOSING};
+use native::models::{walk, Rule};
+use native::random::Random;
+use native::reference::Reference;
+use native::runs::{run, Tally};
+use native::{cases, differential, script, scripts};
+use std::panic::{catch_unwind, AssertUnwindSafe};
+use std::time::Instant;
+
+#[cfg(feature = "library")]
+use native::library::Library as Tested;
+#[cfg(not(feature = "library"))]
+use native::reference::Reference as Tested;
+
+/// The implementation under test: the C library with the feature `library`, else the second implementation itself.
+const TESTED: &dyn Calls = &Tested;
+
+/// Passed and failed tests of a group.
+#[derive(Default)]
+struct Group {
+    passed: u32,
+    failed: u32,
+}
+
+impl Group {
+    /// Runs a test, which fails by panicking and otherwise says what it saw.
+    fn test(&mut self, name: &str, body: impl FnOnce() -> String) {
+        let start = Instant::now();
+        match catch_unwind(AssertUnwindSafe(body)) {
+            Ok(saw) => {
+                self.passed += 1;
+                println!("ok      {name} ({saw}{}{:.1} s)", if saw.is_empty() { "" } else { "; " }, start.elapsed().as_secs_f32());
+            }
+            Err(panic) => {
+                self.failed += 1;
+                println!("FAILED  {name}: {}", message(&*panic));
+            }
+        }
     }
+
+    /// Runs a test that sees nothing worth a word.
+    fn plain(&mut self, name: &str, body: impl FnOnce()) {
+        self.test(name, || {
+            body();
+            String::new()
+        });
+    }
+}
+
+fn message(panic: &dyn std::any::Any) -> &str {
+    let owned = panic.downcast_ref::<String>().map(String::as_str);
+    owned.or(panic.downcast_ref::<&str>().copied()).unwrap_or("a panic without words")
+}
+
+/// Document 01's cases, by the implementation under test and by the second one.
+fn cases_group(group: &mut Group) {
+    type Case = (&'static str, fn(&dyn Calls));
+    let all: [Case; 6] = [
+        ("cases 1 to 5 and 11: what recovery finds", cases::recoveries),
+        ("cases 9 and 10: what recovery refuses", cases::refused_recoveries),
+        ("cases 6 to 8: needed straddlers", cases::needed_straddlers),
+        ("case 12: the last version", cases::last_version),
+        ("sizes", cases::sizes),
+        ("a transaction all written", cases::all_written),
+    ];
+    for (name, case) in all {
+        group.plain(name, || case(TESTED));
+        group.plain(&format!("{name}, second implementation"), || case(&Reference));
+    }
+}
+
+/// The nine calls against the second implementation.
+fn calls_group(group: &mut Group) {
+    let compared = Compared::new(TESTED);
+    for seed in 1..=10 {
+        group.plain(&format!("all calls on 40,000 volumes, seed {seed}"), || differential::compare(&compared, 40_000, seed));
+    }
+    group.test("each answer of each call seen at least 100 times, and no other", || {
+        differential::assert_all_seen(&compared);
+        let counts = |(call, answers): (&str, &[u32])| {
+            let seen: Vec<String> = answers.iter().map(|&a| format!("{a}: {}", compared.seen(call, a))).collect();
+            format!("\n          {call} {}", seen.join(", "))
+        };
+        differential::ANSWERS.map(counts).concat()
+    });
+    group.plain("format at the limits of the sizes", || differential::compare_sizes(&compared));
+    group.plain("count of every bit and every byte", || differential::compare_counts(&compared));
+    group.plain("the largest volume, one transaction over all pages", || differential::compare_largest(&compared));
+}
+
+/// Many runs with crashes over small volumes.
+fn small_runs(calls: &dyn Calls, pages: u32, seeds: u64, events: u32) -> Tally {
+    let mut all = Tally::default();
+    for seed in 0..seeds {
+        let slots = pages + 1 + (seed as u32 * 7) % (24 - pages);
+        all.add(run(calls, pages, slots, events, 1, seed * 1000 + u64::from(pages)));
+    }
+    all
+}
+
+fn told(all: Tally) -> String {
+    format!("{} accepted, {} refused, {} crashes, {} completed, {} recoveries compared", all.accepted, all.refused, all.crashes, all.completed, all.checks)
+}
+
+/// Promise 3: runs with crashes at every point against the ledger.
+fn runs_group(group: &mut Group) {
+    for pages in 1..=6 {
+        group.test(&format!("400 runs of 400 calls and crashes, {pages} pages, up to 24 slots"), || told(small_runs(TESTED, pages, 400, 400)));
+    }
+    group.test("runs of 20,000 calls and crashes, 6 pages, 24 slots", || {
+        let mut all = Tally::default();
+        (1..=4).for_each(|seed| all.add(run(TESTED, 6, 24, 20_000, 1, seed)));
+        told(all)
+    });
+    for seed in 1..=3 {
+        group.test(&format!("3,000 calls and crashes, 256 pages, 1,024 slots, seed {seed}"), || told(run(TESTED, 256, 1024, 3000, 100, seed)));
+    }
+    group.test("a volume with no slot to spare", || told(run(TESTED, 4, 4, 2000, 1, 1)));
+}
+
+/// The paper's Tables 3 and 4.
+fn models_group(group: &mut Group) {
+    for (pages, versions, states, depth) in [(2, 2, 403, 10), (2, 3, 8_599, 14), (2, 4, 186_657, 18), (3, 2, 11_783, 14)] {
+        group.test(&format!("{pages} pages, MaxVers {versions}: {states} states"), || {
+            let found = walk(TESTED, pages, versions, Rule::Right);
+            assert_eq!(found.fault, None);
+            assert_eq!((found.states, found.depth), (states, depth), "states and depth");
+            format!("depth {depth}")
+        });
+    }
+    for (rule, versions, depth, states) in [(Rule::CheckNone, 3, 9, 1_339), (Rule::CheckHigh, 4, 12, 21_745)] {
+        group.test(&format!("{rule:?}, 2 pages, MaxVers {versions}: a fault at depth {depth}"), || {
+            let found = walk(TESTED, 2, versions, rule);
+            let (at, broken) = found.fault.expect("a state that breaks an invariant");
+            assert_eq!((at, found.states), (depth, states), "depth and states");
+            format!("{states} states, {broken}")
+        });
+    }
+}
+
+/// Scripts through the program that BPCC_SCRIPT names, if any, and the second implementation.
+fn scripts_group(group: &mut Group) {
+    let program = std::env::var("BPCC_SCRIPT").ok();
+    let mut hand = Group::default();
+    for s in scripts::by_hand() {
+        let body = || {
+            scripts::assert_prints("the second implementation", &s.input, &script::run(&Reference, &s.input), &s.output);
+            scripts::assert_prints("over the calls under test", &s.input, &script::run(TESTED, &s.input), &s.output);
+            if let Some(program) = &program {
+                scripts::assert_prints("the program", &s.input, &scripts::printed_by(program, &s.input), &s.output);
+            }
+        };
+        match catch_unwind(AssertUnwindSafe(body)) {
+            Ok(()) => hand.passed += 1,
+            Err(panic) => {
+                hand.failed += 1;
+                println!("FAILED  script {}: {}", s.name, message(&*panic));
+            }
+        }
+    }
+    println!("ok      {} scripts written by hand", hand.passed);
+    group.passed += hand.passed;
+    group.failed += hand.failed;
+    for seed in 1..=4 {
+        group.test(&format!("150 generated scripts, seed {seed}"), || {
+            let mut random = Random::new(seed);
+            let mut lines = 0;
+            for i in 0..150 {
+                let length = 1 + random.below(if i % 10 == 0 { 400 } else { 80 });
+                lines += length;
+                compare_script(&program, &scripts::generated(&mut random, length));
+            }
+            format!("{lines} lines")
+        });
+    }
+    group.plain("a script of 200,000 lines", || compare_script(&program, &scripts::repeated(200_000)));
+}
+
+fn compare_script(program: &Option<String>, input: &[u8]) {
+    let expected = script::run(&Reference, input);
+    scripts::assert_prints("over the calls under test", input, &script::run(TESTED, input), &expected);
+    if let Some(program) = program {
+        scripts::assert_prints("the program", input, &scripts::printed_by(program, input), &expected);
+    }
+}
+
+/// Implementations that are wrong in one way are told from a right one.
+fn impostors_group(group: &mut Group) {
+    let caught = |body: &dyn Fn()| match catch_unwind(AssertUnwindSafe(body)) {
+        Ok(()) => panic!("not found"),
+        Err(panic) => message(&*panic).chars().take(60).collect(),
+    };
+    for fault in FAULTS {
+        group.test(&format!("{fault:?} differs"), || caught(&|| differential::compare(&Compared::new(&Impostor(fault)), 20_000, 1)));
+    }
+    for fault in LOSING {
+        group.test(&format!("{fault:?} loses a page in runs with crashes"), || {
+            caught(&|| {
+                for pages in (1..=6).rev() {
+                    small_runs(&Impostor(fault), pages, 100, 400);
+                }
+            })
+        });
+    }
+}
+
+fn main() {
+    std::panic::set_hook(Box::new(|_| {}));
+    let named: Vec<String> = std::env::args().skip(1).collect();
+    let groups: [(&str, fn(&mut Group)); 6] = [
+        ("cases", cases_group),
+        ("calls", calls_group),
+        ("runs", runs_group),
+        ("models", models_group),
+        ("scripts", scripts_group),
+        ("impostors", impostors_group),
+    ];
+    let mut all = Group::default();
+    for (name, body) in groups {
+        if !named.is_empty() && !named.iter().any(|n| n == name) {
+            continue;
+        }
+        println!("== {name}");
+        let mut group = Group::default();
+        if let Err(panic) = catch_unwind(AssertUnwindSafe(|| body(&mut group))) {
+            group.failed += 1;
+            println!("FAILED  {name}: {}", message(&*panic));
+        }
+        println!("{name}: {} passed, {} failed", group.passed, group.failed);
+        all.passed += group.passed;
+        all.failed += group.failed;
+    }
+    println!("{} passed, {} failed", all.passed, all.failed);
+    std::process::exit(i32::from(all.failed != 0 || all.passed == 0));
 }
