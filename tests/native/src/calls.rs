@@ -43,7 +43,17 @@ impl Reply {
 pub trait Calls {
     fn format(&self, pages: u32, slots: u32, words: &mut [u32], contents: &mut [u8], state: &mut [u32]) -> Reply;
     fn launch(&self, pages: u32, slots: u32, state: &mut [u32], list: &[u32]) -> Reply;
-    fn write(&self, pages: u32, slots: u32, words: &mut [u32], contents: &mut [u8], state: &mut [u32], page: u32, slot: u32, bytes: &[u8]) -> Reply;
+    fn write(
+        &self,
+        pages: u32,
+        slots: u32,
+        words: &mut [u32],
+        contents: &mut [u8],
+        state: &mut [u32],
+        page: u32,
+        slot: u32,
+        bytes: &[u8],
+    ) -> Reply;
     fn withdraw(&self, pages: u32, slots: u32, state: &mut [u32], page: u32) -> Reply;
     fn erase(&self, pages: u32, slots: u32, words: &mut [u32], contents: &mut [u8], state: &[u32], list: &[u32]) -> Reply;
     fn suggest(&self, pages: u32, slots: u32, words: &[u32], state: &[u32]) -> Reply;

@@ -1,7 +1,7 @@
 //! Document 01's table of cases, by the calls.
 
 use crate::calls::{Calls, Reply, SLOT_WORDS, WIDTH};
-use crate::reference::{entry, records, set_entry, Entry};
+use crate::rules::{entry, records, set_entry, Entry};
 use crate::volume::{Call, Volume};
 
 type Five = [u32; SLOT_WORDS];

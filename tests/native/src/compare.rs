@@ -2,7 +2,8 @@
 //! nothing touched beside them.
 
 use crate::calls::{Calls, Reply, NONE};
-use crate::reference::{may_erase, Reference};
+use crate::reference::Reference;
+use crate::rules::may_erase;
 use std::cell::RefCell;
 use std::collections::BTreeMap;
 use std::fmt::Debug;
@@ -105,7 +106,17 @@ impl Calls for Compared<'_> {
         self.same("launch", got, expected)
     }
 
-    fn write(&self, pages: u32, slots: u32, words: &mut [u32], contents: &mut [u8], state: &mut [u32], page: u32, slot: u32, bytes: &[u8]) -> Reply {
+    fn write(
+        &self,
+        pages: u32,
+        slots: u32,
+        words: &mut [u32],
+        contents: &mut [u8],
+        state: &mut [u32],
+        page: u32,
+        slot: u32,
+        bytes: &[u8],
+    ) -> Reply {
         let (mut w, mut c, mut s, mut b) = (Guarded::new(words), Guarded::new(contents), Guarded::new(state), Guarded::new(bytes));
         let got = self.tested.write(pages, slots, w.lent(), c.lent(), s.lent(), page, slot, b.lent());
         let expected = Reference.write(pages, slots, words, contents, state, page, slot, bytes);

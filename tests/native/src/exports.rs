@@ -6,7 +6,16 @@ use crate::reference::Reference;
 use std::slice::{from_raw_parts as lent, from_raw_parts_mut as lent_mut};
 
 #[no_mangle]
-pub unsafe extern "C" fn bpcc_format(pages: u32, slots: u32, words: *mut u32, nw: usize, contents: *mut u8, nc: usize, state: *mut u32, ns: usize) -> u64 {
+pub unsafe extern "C" fn bpcc_format(
+    pages: u32,
+    slots: u32,
+    words: *mut u32,
+    nw: usize,
+    contents: *mut u8,
+    nc: usize,
+    state: *mut u32,
+    ns: usize,
+) -> u64 {
     Reference.format(pages, slots, lent_mut(words, nw), lent_mut(contents, nc), lent_mut(state, ns)).to_u64()
 }
 
@@ -16,7 +25,20 @@ pub unsafe extern "C" fn bpcc_launch(pages: u32, slots: u32, state: *mut u32, ns
 }
 
 #[no_mangle]
-pub unsafe extern "C" fn bpcc_write(pages: u32, slots: u32, words: *mut u32, nw: usize, contents: *mut u8, nc: usize, state: *mut u32, ns: usize, page: u32, slot: u32, bytes: *const u8, nb: usize) -> u64 {
+pub unsafe extern "C" fn bpcc_write(
+    pages: u32,
+    slots: u32,
+    words: *mut u32,
+    nw: usize,
+    contents: *mut u8,
+    nc: usize,
+    state: *mut u32,
+    ns: usize,
+    page: u32,
+    slot: u32,
+    bytes: *const u8,
+    nb: usize,
+) -> u64 {
     Reference.write(pages, slots, lent_mut(words, nw), lent_mut(contents, nc), lent_mut(state, ns), page, slot, lent(bytes, nb)).to_u64()
 }
 
@@ -26,7 +48,18 @@ pub unsafe extern "C" fn bpcc_withdraw(pages: u32, slots: u32, state: *mut u32, 
 }
 
 #[no_mangle]
-pub unsafe extern "C" fn bpcc_erase(pages: u32, slots: u32, words: *mut u32, nw: usize, contents: *mut u8, nc: usize, state: *const u32, ns: usize, list: *const u32, nl: usize) -> u64 {
+pub unsafe extern "C" fn bpcc_erase(
+    pages: u32,
+    slots: u32,
+    words: *mut u32,
+    nw: usize,
+    contents: *mut u8,
+    nc: usize,
+    state: *const u32,
+    ns: usize,
+    list: *const u32,
+    nl: usize,
+) -> u64 {
     Reference.erase(pages, slots, lent_mut(words, nw), lent_mut(contents, nc), lent(state, ns), lent(list, nl)).to_u64()
 }
 
@@ -46,6 +79,18 @@ pub unsafe extern "C" fn bpcc_count(bytes: *const u8, nb: usize) -> u64 {
 }
 
 #[no_mangle]
-pub unsafe extern "C" fn bpcc_read(pages: u32, slots: u32, words: *const u32, nw: usize, contents: *const u8, nc: usize, state: *const u32, ns: usize, page: u32, out: *mut u8, no: usize) -> u64 {
+pub unsafe extern "C" fn bpcc_read(
+    pages: u32,
+    slots: u32,
+    words: *const u32,
+    nw: usize,
+    contents: *const u8,
+    nc: usize,
+    state: *const u32,
+    ns: usize,
+    page: u32,
+    out: *mut u8,
+    no: usize,
+) -> u64 {
     Reference.read(pages, slots, lent(words, nw), lent(contents, nc), lent(state, ns), page, lent_mut(out, no)).to_u64()
 }

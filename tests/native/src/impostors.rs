@@ -1,7 +1,8 @@
 //! Implementations that are wrong in one way each, as document 01 names them: the tests must tell every one from a right one.
 
 use crate::calls::{Calls, Reply, NONE, WIDTH};
-use crate::reference::{cycle, entry, may_erase, records, set_entry, set_slot, slot, Entry, Record, Reference};
+use crate::reference::Reference;
+use crate::rules::{cycle, entry, may_erase, records, set_entry, set_slot, slot, Entry, Record};
 
 #[derive(Clone, Copy, Debug, PartialEq, Eq)]
 pub enum Fault {
@@ -25,6 +26,9 @@ pub enum Fault {
     RecoverPutsEveryPageAtZero,
     RecoverTakesUsedFromVersionsAlone,
     RecoverFillsBeforeItRefuses,
+    RecoverCallsABrokenRingUncommitted,
+    RecoverStopsAtTheStartsPage,
+    RecoverLooksAtTheLowestLaterVersion,
     CountGivesZero,
     CountLooksAtOneBitOfEachByte,
     ReadDoesNothing,
@@ -32,7 +36,7 @@ pub enum Fault {
     RefusesBySlotsBeforeState,
 }
 
-pub const FAULTS: [Fault; 25] = [
+pub const FAULTS: [Fault; 28] = [
     Fault::FormatDoesNothing,
     Fault::LaunchDoesNothing,
     Fault::LaunchRefusesEveryList,
@@ -53,6 +57,9 @@ pub const FAULTS: [Fault; 25] = [
     Fault::RecoverPutsEveryPageAtZero,
     Fault::RecoverTakesUsedFromVersionsAlone,
     Fault::RecoverFillsBeforeItRefuses,
+    Fault::RecoverCallsABrokenRingUncommitted,
+    Fault::RecoverStopsAtTheStartsPage,
+    Fault::RecoverLooksAtTheLowestLaterVersion,
     Fault::CountGivesZero,
     Fault::CountLooksAtOneBitOfEachByte,
     Fault::ReadDoesNothing,
@@ -61,7 +68,8 @@ pub const FAULTS: [Fault; 25] = [
 ];
 
 /// The faults that lose a completed page, so that runs with crashes find them without a second implementation.
-pub const LOSING: [Fault; 8] = [
+pub const LOSING: [Fault; 9] = [
+    Fault::RecoverCallsABrokenRingUncommitted,
     Fault::WriteSkipsTheFlash,
     Fault::WriteSkipsTheContents,
     Fault::WriteStoresTheWholeTransaction,
@@ -93,6 +101,43 @@ impl Impostor {
     }
 }
 
+/// Following links wrongly.
+impl Impostor {
+    /// The committed version by a faulty following of links, on a table whose links end.
+    fn committed(&self, words: &[u32], start: u32) -> u32 {
+        let table: Vec<Record> = records(words).into_iter().map(|(_, r)| r).collect();
+        let highest = |p: u32| *table.iter().filter(|r| r.p == p).max_by_key(|r| r.v).unwrap();
+        let own = highest(start);
+        let mut j = own;
+        let committed = loop {
+            let hv = highest(j.np).v;
+            if self.is(Fault::RecoverStopsAtTheStartsPage) && j.np == start {
+                break true;
+            }
+            if j.nv < hv {
+                let later = table.iter().filter(|k| k.p == j.np && k.v > j.nv).min_by_key(|k| k.v).unwrap();
+                break match self.0 {
+                    Fault::RecoverCallsABrokenRingUncommitted => false,
+                    Fault::RecoverLooksAtTheLowestLaterVersion => later.c >= j.nv,
+                    _ => !table.iter().any(|k| k.straddles(j)),
+                };
+            }
+            if j.nv > hv {
+                break false;
+            }
+            j = highest(j.np);
+            if j.p == start {
+                break true;
+            }
+        };
+        if committed {
+            own.v
+        } else {
+            own.c
+        }
+    }
+}
+
 impl Calls for Impostor {
     fn format(&self, pages: u32, slots: u32, words: &mut [u32], contents: &mut [u8], state: &mut [u32]) -> Reply {
         if self.is(Fault::FormatDoesNothing) {
@@ -113,17 +158,29 @@ impl Calls for Impostor {
         }
     }
 
-    fn write(&self, pages: u32, slots: u32, words: &mut [u32], contents: &mut [u8], state: &mut [u32], page: u32, to: u32, bytes: &[u8]) -> Reply {
+    fn write(
+        &self,
+        pages: u32,
+        slots: u32,
+        words: &mut [u32],
+        contents: &mut [u8],
+        state: &mut [u32],
+        page: u32,
+        to: u32,
+        bytes: &[u8],
+    ) -> Reply {
         let mut ring = Vec::new();
         if self.is(Fault::WriteStoresTheWholeTransaction) {
-            let accepted = Reference.write(pages, slots, &mut words.to_vec(), &mut contents.to_vec(), &mut state.to_vec(), page, to, bytes).answer == 0;
+            let accepted =
+                Reference.write(pages, slots, &mut words.to_vec(), &mut contents.to_vec(), &mut state.to_vec(), page, to, bytes).answer
+                    == 0;
             ring = if accepted { cycle(state, page) } else { Vec::new() };
         }
         let (mut w, mut c) = (words.to_vec(), contents.to_vec());
         let reply = match self.0 {
             Fault::WriteSkipsTheFlash => Reference.write(pages, slots, &mut w, &mut c, state, page, to, bytes),
             Fault::WriteSkipsTheContents => Reference.write(pages, slots, words, &mut c, state, page, to, bytes),
-            Fault::RefusesBySlotsBeforeState if !crate::reference::state_sound(pages.min(state.len() as u32 / 4), state) => {
+            Fault::RefusesBySlotsBeforeState if !crate::rules::state_sound(pages.min(state.len() as u32 / 4), state) => {
                 match Reference.write(pages, slots, &mut w, &mut c, &mut state.to_vec(), page, to, bytes) {
                     Reply { answer: 5, .. } if page >= pages => Reply::refused(6),
                     other => other,
@@ -140,7 +197,11 @@ impl Calls for Impostor {
             }
         }
         let early = self.is(Fault::WriteIsDoneTooEarly) && reply.answer == 0;
-        if early { Reply::done(1) } else { reply }
+        if early {
+            Reply::done(1)
+        } else {
+            reply
+        }
     }
 
     fn withdraw(&self, pages: u32, slots: u32, state: &mut [u32], page: u32) -> Reply {
@@ -205,7 +266,9 @@ impl Calls for Impostor {
         let reply = Reference.recover(pages, slots, words, state);
         match (self.0, reply.answer) {
             (Fault::RecoverDoesNothing, _) => state.copy_from_slice(&before),
-            (Fault::RecoverPutsEveryPageAtZero, 0) => (0..pages).for_each(|p| set_entry(state, p, Entry { committed: 0, used: 0, next: NONE, written: 0 })),
+            (Fault::RecoverPutsEveryPageAtZero, 0) => {
+                (0..pages).for_each(|p| set_entry(state, p, Entry { committed: 0, used: 0, next: NONE, written: 0 }))
+            }
             (Fault::RecoverTakesUsedFromVersionsAlone, 0) => {
                 for p in 0..pages {
                     let used = records(words).iter().filter(|(_, r)| r.p == p).map(|(_, r)| r.v).max().unwrap();
@@ -214,6 +277,16 @@ impl Calls for Impostor {
                 }
             }
             (Fault::RecoverFillsBeforeItRefuses, 14) => state[3] = 0,
+            (
+                Fault::RecoverCallsABrokenRingUncommitted | Fault::RecoverStopsAtTheStartsPage | Fault::RecoverLooksAtTheLowestLaterVersion,
+                0,
+            ) => {
+                for p in 0..pages {
+                    let committed = self.committed(words, p);
+                    let e = entry(state, p);
+                    set_entry(state, p, Entry { committed, ..e });
+                }
+            }
             _ => {}
         }
         reply

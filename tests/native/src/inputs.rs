@@ -2,21 +2,48 @@
 
 use crate::calls::{NONE, SLOT_WORDS, WIDTH};
 use crate::random::Random;
-use crate::reference::{entry, may_erase, records, set_entry, slot, state_sound, Entry, Record, Reference, LAST_VERSION};
+use crate::reference::Reference;
+use crate::rules::{entry, may_erase, records, set_entry, slot, state_sound, Entry, Record, LAST_VERSION};
 use crate::volume::{Call, Volume};
 
 /// The numbers at which something changes, for P pages and S slots.
 pub fn boundary(random: &mut Random, pages: u32, slots: u32) -> u32 {
     random.pick(&[
-        0, 1, 2, pages.wrapping_sub(1), pages, pages + 1, slots.wrapping_sub(1), slots, slots + 1, 255, 256, 257, 1023, 1024, 1025,
-        0x7FFF_FFFF, 0x8000_0000, 858_993_460, 134_217_728, NONE - 2, NONE - 1, NONE,
+        0,
+        1,
+        2,
+        pages.wrapping_sub(1),
+        pages,
+        pages + 1,
+        slots.wrapping_sub(1),
+        slots,
+        slots + 1,
+        255,
+        256,
+        257,
+        1023,
+        1024,
+        1025,
+        0x7FFF_FFFF,
+        0x8000_0000,
+        858_993_460,
+        134_217_728,
+        NONE - 2,
+        NONE - 1,
+        NONE,
     ])
 }
 
 /// A volume and state for one round of calls.
 pub fn volume(random: &mut Random) -> Volume {
     let large = random.one_in(2000);
-    let pages = if large { random.pick(&[255, 256]) } else if random.one_in(8) { 1 + random.below(8) } else { 1 + random.below(4) };
+    let pages = if large {
+        random.pick(&[255, 256])
+    } else if random.one_in(8) {
+        1 + random.below(8)
+    } else {
+        1 + random.below(4)
+    };
     let slots = if large { 1024 - random.below(2) } else { pages + random.below(9) };
     let mut v = match random.below(10) {
         0..=3 => reached(random, pages, slots),
@@ -114,7 +141,7 @@ fn linked_table(random: &mut Random, pages: u32, slots: u32) -> Volume {
 fn garbage(random: &mut Random, pages: u32, slots: u32) -> Volume {
     let mut v = Volume::zeroed(pages, slots);
     let wild = random.one_in(2);
-    let word = |random: &mut Random| if wild { random.next() as u32 } else { boundary(random, pages, slots) };
+    let word = |random: &mut Random| if wild { random.number() as u32 } else { boundary(random, pages, slots) };
     v.words.iter_mut().for_each(|w| *w = word(random));
     v.state.iter_mut().for_each(|w| *w = word(random));
     v.contents = random.bytes(v.contents.len());
@@ -145,17 +172,17 @@ fn sound_state(random: &mut Random, v: &mut Volume) {
         let own: Vec<u32> = table.iter().filter(|(_, r)| r.p == p).map(|(_, r)| r.v).collect();
         let held = !own.is_empty() && !random.one_in(5);
         let committed = if held { random.pick(&own).min(LAST_VERSION) } else { version(random) };
-        let used = if random.one_in(12) { random.pick(&[LAST_VERSION, LAST_VERSION - 1]) } else { committed.saturating_add(random.below(4)) };
+        let used =
+            if random.one_in(12) { random.pick(&[LAST_VERSION, LAST_VERSION - 1]) } else { committed.saturating_add(random.below(4)) };
         let used = used.clamp(committed, LAST_VERSION);
-        let at = flying.iter().position(|&q| q == p);
-        let e = match at {
+        let e = match flying.iter().position(|&q| q == p) {
             Some(at) if committed < LAST_VERSION => {
                 let written = u32::from(all_written || random.one_in(2));
                 Entry { committed, used: used.max(committed + 1), next: next[at], written }
             }
-            _ => Entry { committed, used, next: NONE, written: 0 },
+            Some(at) => Entry { committed: 0, used: 1, next: next[at], written: 0 },
+            None => Entry { committed, used, next: NONE, written: 0 },
         };
-        let e = if at.is_some() && !e.in_flight() { Entry { committed: 0, used: 1, next: next[at.unwrap()], written: 0 } } else { e };
         set_entry(&mut v.state, p, e);
     }
 }
@@ -213,13 +240,18 @@ pub fn page_and_slot_to_write(random: &mut Random, v: &Volume) -> (u32, u32) {
 }
 
 pub fn page_to_take(random: &mut Random, v: &Volume) -> u32 {
-    if random.one_in(10) { boundary(random, v.pages, v.slots) } else { random.below(v.pages) }
+    if random.one_in(10) {
+        boundary(random, v.pages, v.slots)
+    } else {
+        random.below(v.pages)
+    }
 }
 
 /// Slots that may be erased, or any that hold an obsolete or exposed record, or any at all.
 pub fn slots_to_erase(random: &mut Random, v: &Volume) -> Vec<u32> {
     let sound = records(&v.words).iter().all(|(_, r)| r.is_sound(v.pages));
-    let tried: Vec<u32> = if v.slots > 64 { (0..20).map(|i| (i * 53 + random.below(53)) % v.slots).collect() } else { (0..v.slots).collect() };
+    let tried: Vec<u32> =
+        if v.slots > 64 { (0..20).map(|i| (i * 53 + random.below(53)) % v.slots).collect() } else { (0..v.slots).collect() };
     let how = random.below(8);
     let goes = |k: u32| match slot(&v.words, k) {
         Some(_) if how < 4 => may_erase(&v.words, &v.state, k),

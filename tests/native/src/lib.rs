@@ -4,6 +4,7 @@ pub mod calls;
 pub mod cases;
 pub mod compare;
 pub mod differential;
+pub mod exhaustive;
 #[cfg(feature = "exports")]
 pub mod exports;
 pub mod impostors;
@@ -14,6 +15,7 @@ pub mod library;
 pub mod models;
 pub mod random;
 pub mod reference;
+pub mod rules;
 pub mod runs;
 pub mod script;
 pub mod scripts;

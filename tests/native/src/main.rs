@@ -7,7 +7,7 @@ use native::models::{walk, Rule};
 use native::random::Random;
 use native::reference::Reference;
 use native::runs::{run, Tally};
-use native::{cases, differential, script, scripts};
+use native::{cases, differential, exhaustive, script, scripts};
 use std::panic::{catch_unwind, AssertUnwindSafe};
 use std::time::Instant;
 
@@ -90,6 +90,12 @@ fn calls_group(group: &mut Group) {
     group.plain("format at the limits of the sizes", || differential::compare_sizes(&compared));
     group.plain("count of every bit and every byte", || differential::compare_counts(&compared));
     group.plain("the largest volume, one transaction over all pages", || differential::compare_largest(&compared));
+    for (pages, slots, highest) in [(1, 5, 4), (2, 5, 2), (2, 4, 3), (3, 4, 2)] {
+        group.test(&format!("every table of P = {pages}, S = {slots}, versions up to {highest}"), || {
+            format!("{} tables", exhaustive::tables(&compared, pages, slots, highest))
+        });
+    }
+    group.test("every state of two pages, words of five values", || format!("{} states", exhaustive::states(&compared)));
 }
 
 /// Many runs with crashes over small volumes.
@@ -103,22 +109,26 @@ fn small_runs(calls: &dyn Calls, pages: u32, seeds: u64, events: u32) -> Tally {
 }
 
 fn told(all: Tally) -> String {
-    format!("{} accepted, {} refused, {} crashes, {} completed, {} recoveries compared", all.accepted, all.refused, all.crashes, all.completed, all.checks)
+    format!(
+        "{} accepted, {} refused, {} crashes, {} completed, {} recoveries compared",
+        all.accepted, all.refused, all.crashes, all.completed, all.checks
+    )
 }
 
 /// Promise 3: runs with crashes at every point against the ledger.
 fn runs_group(group: &mut Group) {
     for pages in 1..=6 {
-        group.test(&format!("400 runs of 400 calls and crashes, {pages} pages, up to 24 slots"), || told(small_runs(TESTED, pages, 400, 400)));
+        group.test(&format!("400 runs of 400 calls and crashes, P = {pages}, S up to 24"), || told(small_runs(TESTED, pages, 400, 400)));
     }
-    group.test("runs of 20,000 calls and crashes, 6 pages, 24 slots", || {
+    group.test("4 runs of 20,000 calls and crashes, P = 6, S = 24", || {
         let mut all = Tally::default();
         (1..=4).for_each(|seed| all.add(run(TESTED, 6, 24, 20_000, 1, seed)));
         told(all)
     });
     for seed in 1..=3 {
-        group.test(&format!("3,000 calls and crashes, 256 pages, 1,024 slots, seed {seed}"), || told(run(TESTED, 256, 1024, 3000, 100, seed)));
+        group.test(&format!("3,000 calls and crashes, P = 256, S = 1,024, seed {seed}"), || told(run(TESTED, 256, 1024, 3000, 100, seed)));
     }
+    group.test("50 runs of 400 calls and crashes, P = 3, every call compared", || told(small_runs(&Compared::new(TESTED), 3, 50, 400)));
     group.test("a volume with no slot to spare", || told(run(TESTED, 4, 4, 2000, 1, 1)));
 }
 
@@ -211,7 +221,8 @@ fn impostors_group(group: &mut Group) {
 fn main() {
     std::panic::set_hook(Box::new(|_| {}));
     let named: Vec<String> = std::env::args().skip(1).collect();
-    let groups: [(&str, fn(&mut Group)); 6] = [
+    type Body = fn(&mut Group);
+    let groups: [(&str, Body); 6] = [
         ("cases", cases_group),
         ("calls", calls_group),
         ("runs", runs_group),

@@ -2,7 +2,7 @@
 //! done by the calls, each invariant checked, each permission compared with the listing's own operators.
 
 use crate::calls::{Calls, NONE, PAGE_WORDS, SLOT_WORDS, WIDTH};
-use crate::reference::{entry, records, set_slot, slot, Record};
+use crate::rules::{entry, records, set_slot, slot, Record};
 use std::collections::HashSet;
 
 /// Which obsolete records the walk erases besides the exposed ones: by the rule, or by one of the paper's two faults.
@@ -105,9 +105,7 @@ fn arrangements(list: &[u32]) -> Vec<Vec<u32>> {
 
 /// All nonempty subsets of a list.
 fn subsets(list: &[u32]) -> Vec<Vec<u32>> {
-    (1u32..1 << list.len())
-        .map(|mask| list.iter().enumerate().filter(|(i, _)| mask >> i & 1 == 1).map(|(_, &x)| x).collect())
-        .collect()
+    (1u32..1 << list.len()).map(|mask| list.iter().enumerate().filter(|(i, _)| mask >> i & 1 == 1).map(|(_, &x)| x).collect()).collect()
 }
 
 impl Model<'_> {
@@ -227,7 +225,7 @@ impl Model<'_> {
     fn writes(&self, s: &State, next: &mut Vec<State>) {
         let blank = (0..self.slots).find(|&k| slot(&s.words, k).is_none()).expect("a blank slot");
         for record in self.planned(s) {
-            let last = crate::reference::cycle(&s.state, record.p).iter().all(|&p| p == record.p || entry(&s.state, p).written == 1);
+            let last = crate::rules::cycle(&s.state, record.p).iter().all(|&p| p == record.p || entry(&s.state, p).written == 1);
             let mut t = s.clone();
             let mut contents = vec![0; WIDTH * self.slots as usize];
             let reply = self.calls.write(self.pages, self.slots, &mut t.words, &mut contents, &mut t.state, record.p, blank, &[7; WIDTH]);
@@ -240,7 +238,7 @@ impl Model<'_> {
     /// `NextAbortTransaction`, once for each transaction.
     fn aborts(&self, s: &State, next: &mut Vec<State>) {
         for p in 0..self.pages {
-            if entry(&s.state, p).in_flight() && crate::reference::cycle(&s.state, p).iter().all(|&q| q >= p) {
+            if entry(&s.state, p).in_flight() && crate::rules::cycle(&s.state, p).iter().all(|&q| q >= p) {
                 let mut t = s.clone();
                 let reply = self.calls.withdraw(self.pages, self.slots, &mut t.state, p);
                 assert_eq!(reply.answer, 0, "withdraw of a page in flight");
@@ -287,7 +285,11 @@ impl Model<'_> {
             assert_eq!(words, s.words, "a refused erase alters nothing");
         }
         let reply = self.calls.suggest(self.pages, self.slots, &s.words, &s.state);
-        let right = if collectable.is_empty() { reply.answer == 13 && reply.second == NONE } else { reply.answer == 0 && collectable.contains(&reply.second) };
+        let right = if collectable.is_empty() {
+            reply.answer == 13 && reply.second == NONE
+        } else {
+            reply.answer == 0 && collectable.contains(&reply.second)
+        };
         assert!(right, "suggest names a collectable record exactly where there is one");
     }
 }

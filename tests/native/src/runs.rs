@@ -4,7 +4,7 @@
 use crate::calls::{Calls, NONE, WIDTH};
 use crate::ledger::Ledger;
 use crate::random::Random;
-use crate::reference::{entry, may_erase, slot};
+use crate::rules::{entry, may_erase, slot};
 use crate::volume::{Call, Volume};
 
 /// What a run met, summed over runs.
@@ -107,7 +107,7 @@ impl Run<'_> {
         match self.random.below(4) {
             0 => state.fill(NONE),
             1 => state.fill(0),
-            2 => state.iter_mut().for_each(|w| *w = self.random.next() as u32),
+            2 => state.iter_mut().for_each(|w| *w = self.random.number() as u32),
             _ => state.iter_mut().for_each(|w| *w = if self.random.one_in(2) { *w } else { self.random.below(4) }),
         }
     }
@@ -159,7 +159,7 @@ impl Run<'_> {
             (0..1u64 << list.len()).map(some).collect()
         } else {
             let mut masks = vec![0, u64::MAX];
-            masks.extend((0..14).map(|_| self.random.next()));
+            masks.extend((0..14).map(|_| self.random.number()));
             masks.into_iter().map(some).collect()
         }
     }
@@ -238,7 +238,8 @@ impl Run<'_> {
             }
             2 => Call::Withdraw(self.any_page()),
             3 => {
-                let (may, kept): (Vec<u32>, Vec<u32>) = self.old_or_exposed().into_iter().partition(|&k| may_erase(&self.volume.words, &self.volume.state, k));
+                let (may, kept): (Vec<u32>, Vec<u32>) =
+                    self.old_or_exposed().into_iter().partition(|&k| may_erase(&self.volume.words, &self.volume.state, k));
                 let mut list = if self.random.one_in(2) { some_of(&mut self.random, may, 3).unwrap_or_default() } else { Vec::new() };
                 match some_of(&mut self.random, kept, 1) {
                     Some(needed) if !self.random.one_in(6) => list.extend(needed),
@@ -259,12 +260,20 @@ impl Run<'_> {
 
     fn any_page(&mut self) -> u32 {
         let p = self.volume.pages;
-        if self.random.one_in(12) { self.random.pick(&[p, p + 1, NONE, NONE - 1]) } else { self.random.below(p) }
+        if self.random.one_in(12) {
+            self.random.pick(&[p, p + 1, NONE, NONE - 1])
+        } else {
+            self.random.below(p)
+        }
     }
 
     fn any_slot(&mut self) -> u32 {
         let s = self.volume.slots;
-        if self.random.one_in(12) { self.random.pick(&[s, s + 1, NONE, NONE - 1]) } else { self.random.below(s) }
+        if self.random.one_in(12) {
+            self.random.pick(&[s, s + 1, NONE, NONE - 1])
+        } else {
+            self.random.below(s)
+        }
     }
 }
 

@@ -16,15 +16,68 @@ pub const SAMPLE: (&str, &str) = (
 
 /// Lines that mean nothing after an accepted format; each prints answer=line and ends the run.
 const MALFORMED: [&str; 62] = [
-    "", " ", "op", "op=", "op=formatpages=2 slots=4", "op=format", "op=format pages=2", "op=format slots=4 pages=2", "op=format pages=2  slots=4",
-    "op=format pages=2 slots=4 ", " op=format pages=2 slots=4", "op=format pages=2\tslots=4", "op=format pages=2 slots=4\r", "op=format pages=2 slots=4 width=64",
-    "op=format pages=+2 slots=4", "op=format pages=-2 slots=4", "op=format pages=0x2 slots=4", "op=format pages= slots=4", "op=format pages=2 slots=",
-    "op=format pages=4294967296 slots=4", "op=format pages=2 slots=99999999999999999999", "op=format pages=2 slots=4294967296", "op=format pages=1,2 slots=4", "OP=format pages=2 slots=4", "op=Format pages=2 slots=4",
-    "op=launch", "op=launch pages=", "op=launch pages=,", "op=launch pages=0,", "op=launch pages=,0", "op=launch pages=0,,1", "op=launch pages=0, 1", "op=launch page=0",
-    "op=launch pages=0 1", "op=launch pages=4294967296", "op=launch pages=0;1", "op=launch pages=0\0", "op=launch pages=0 slots=4", "op=write page=0 slot=2", "op=write page=0 slot=2 fill=256",
-    "op=write page=0 slot=2 fill=", "op=write page=0 slot=2 fill=0 ", "op=write slot=2 page=0 fill=0", "op=write page=0,1 slot=2 fill=0", "op=write page=0 slot=2 fill=4294967296", "op=write pages=0 slot=2 fill=0",
-    "op=withdraw", "op=withdraw page=", "op=withdraw pages=0", "op=withdraw page=0,1", "op=erase", "op=erase slots=", "op=erase slot=0", "op=erase slots=0,1,",
-    "op=cut ", "op=cuts", "op=cut page=0", "op=recover state=1", "op=list pages=0", "op=suggest", "op=count fill=3", "op=read page=0",
+    "",
+    " ",
+    "op",
+    "op=",
+    "op=formatpages=2 slots=4",
+    "op=format",
+    "op=format pages=2",
+    "op=format slots=4 pages=2",
+    "op=format pages=2  slots=4",
+    "op=format pages=2 slots=4 ",
+    " op=format pages=2 slots=4",
+    "op=format pages=2\tslots=4",
+    "op=format pages=2 slots=4\r",
+    "op=format pages=2 slots=4 width=64",
+    "op=format pages=+2 slots=4",
+    "op=format pages=-2 slots=4",
+    "op=format pages=0x2 slots=4",
+    "op=format pages= slots=4",
+    "op=format pages=2 slots=",
+    "op=format pages=4294967296 slots=4",
+    "op=format pages=2 slots=99999999999999999999",
+    "op=format pages=2 slots=4294967296",
+    "op=format pages=1,2 slots=4",
+    "OP=format pages=2 slots=4",
+    "op=Format pages=2 slots=4",
+    "op=launch",
+    "op=launch pages=",
+    "op=launch pages=,",
+    "op=launch pages=0,",
+    "op=launch pages=,0",
+    "op=launch pages=0,,1",
+    "op=launch pages=0, 1",
+    "op=launch page=0",
+    "op=launch pages=0 1",
+    "op=launch pages=4294967296",
+    "op=launch pages=0;1",
+    "op=launch pages=0\0",
+    "op=launch pages=0 slots=4",
+    "op=write page=0 slot=2",
+    "op=write page=0 slot=2 fill=256",
+    "op=write page=0 slot=2 fill=",
+    "op=write page=0 slot=2 fill=0 ",
+    "op=write slot=2 page=0 fill=0",
+    "op=write page=0,1 slot=2 fill=0",
+    "op=write page=0 slot=2 fill=4294967296",
+    "op=write pages=0 slot=2 fill=0",
+    "op=withdraw",
+    "op=withdraw page=",
+    "op=withdraw pages=0",
+    "op=withdraw page=0,1",
+    "op=erase",
+    "op=erase slots=",
+    "op=erase slot=0",
+    "op=erase slots=0,1,",
+    "op=cut ",
+    "op=cuts",
+    "op=cut page=0",
+    "op=recover state=1",
+    "op=list pages=0",
+    "op=suggest",
+    "op=count fill=3",
+    "op=read page=0",
 ];
 
 /// A script that has a name, and what it prints.
@@ -49,9 +102,15 @@ pub fn by_hand() -> Vec<Script> {
     for line in MALFORMED {
         all.push(script(&format!("malformed {line:?}"), &format!("{FORMAT}{line}\n{FORMAT}"), "answer=0\nanswer=line\n"));
     }
-    for other in ["op=launch pages=0", "op=write page=0 slot=1 fill=1", "op=withdraw page=0", "op=erase slots=0", "op=cut", "op=recover", "op=list"] {
+    for other in
+        ["op=launch pages=0", "op=write page=0 slot=1 fill=1", "op=withdraw page=0", "op=erase slots=0", "op=cut", "op=recover", "op=list"]
+    {
         all.push(script(&format!("{other} before format"), &format!("{other}\n{FORMAT}"), "answer=line\n"));
-        all.push(script(&format!("{other} after a refused format"), &format!("op=format pages=0 slots=4\n{other}\n"), "answer=1\nanswer=line\n"));
+        all.push(script(
+            &format!("{other} after a refused format"),
+            &format!("op=format pages=0 slots=4\n{other}\n"),
+            "answer=1\nanswer=line\n",
+        ));
     }
     for bytes in [&b"op=list\xC3\xA9\n"[..], b"\xFF\n", b"op=\x00list\n", b"\x80", b"\x00"] {
         all.push(Script { name: format!("bytes {bytes:?}"), input: bytes.to_vec(), output: b"answer=line\n".to_vec() });
@@ -163,7 +222,7 @@ fn next_line(random: &mut Random, v: &mut Volume) -> String {
         7..=11 => Call::Erase(shortened(inputs::slots_to_erase(random, v))),
         _ => {
             let (page, slot) = inputs::page_and_slot_to_write(random, v);
-            Call::Write { page, slot, bytes: vec![random.next() as u8; WIDTH] }
+            Call::Write { page, slot, bytes: vec![random.number() as u8; WIDTH] }
         }
     };
     v.call(&Reference, &call);
@@ -188,7 +247,7 @@ fn shortened(mut list: Vec<u32>) -> Vec<u32> {
 /// Alters, inserts, removes or repeats one byte in the second half.
 fn spoil(random: &mut Random, bytes: &mut Vec<u8>) {
     let at = bytes.len() / 2 + random.below(bytes.len() as u32 / 2) as usize;
-    let byte = if random.one_in(2) { random.next() as u8 } else { random.pick(b" ,=0123456789\n\r\t\0opz") };
+    let byte = if random.one_in(2) { random.number() as u8 } else { random.pick(b" ,=0123456789\n\r\t\0opz") };
     match random.below(4) {
         0 => bytes[at] = byte,
         1 => bytes.insert(at, byte),
@@ -199,11 +258,7 @@ fn spoil(random: &mut Random, bytes: &mut Vec<u8>) {
 
 /// What a program prints on an input.
 pub fn printed_by(program: &str, input: &[u8]) -> Vec<u8> {
-    let mut child = Command::new(program)
-        .stdin(Stdio::piped())
-        .stdout(Stdio::piped())
-        .spawn()
-        .unwrap_or_else(|e| panic!("{program}: {e}"));
+    let mut child = Command::new(program).stdin(Stdio::piped()).stdout(Stdio::piped()).spawn().unwrap_or_else(|e| panic!("{program}: {e}"));
     let mut stdin = child.stdin.take().unwrap();
     let output = std::thread::scope(|scope| {
         // A run that ends at a line stops reading, so the rest of the input may find no reader.
@@ -222,5 +277,11 @@ pub fn assert_prints(name: &str, input: &[u8], got: &[u8], expected: &[u8]) {
     let (g, e) = (String::from_utf8_lossy(got), String::from_utf8_lossy(expected));
     let at = g.lines().zip(e.lines()).take_while(|(a, b)| a == b).count();
     let tail = &input[..input.len().min(2000)];
-    panic!("{name}: line {} prints {:?} for {:?}; script {:?}", at + 1, g.lines().nth(at), e.lines().nth(at), String::from_utf8_lossy(tail));
+    panic!(
+        "{name}: line {} prints {:?} for {:?}; script {:?}",
+        at + 1,
+        g.lines().nth(at),
+        e.lines().nth(at),
+        String::from_utf8_lossy(tail)
+    );
 }

@@ -1,7 +1,7 @@
 //! A volume with its state, and the calls that a run makes on it.
 
 use crate::calls::{Calls, Reply, NONE, PAGE_WORDS, SLOT_WORDS, WIDTH};
-use crate::reference::slot;
+use crate::rules::slot;
 
 /// A call of a run, with its arguments.
 #[derive(Clone, Debug)]
@@ -59,7 +59,9 @@ impl Volume {
         let (p, s) = (self.pages, self.slots);
         match call {
             Call::Launch(list) => calls.launch(p, s, &mut self.state, list),
-            Call::Write { page, slot, bytes } => calls.write(p, s, &mut self.words, &mut self.contents, &mut self.state, *page, *slot, bytes),
+            Call::Write { page, slot, bytes } => {
+                calls.write(p, s, &mut self.words, &mut self.contents, &mut self.state, *page, *slot, bytes)
+            }
             Call::Withdraw(page) => calls.withdraw(p, s, &mut self.state, *page),
             Call::Erase(list) => calls.erase(p, s, &mut self.words, &mut self.contents, &self.state, list),
             Call::Recover => calls.recover(p, s, &self.words, &mut self.state),
