@@ -187,7 +187,23 @@ fn scripts_group(group: &mut Group) {
             format!("{lines} lines")
         });
     }
-    group.plain("a script of 200,000 lines", || compare_script(&program, &scripts::repeated(200_000)));
+    group.test("a script of 200,000 lines", || {
+        let input = scripts::repeated(200_000);
+        compare_script(&None, &input);
+        let start = Instant::now();
+        compare_script(&program, &input);
+        format!("at least {:.0} lines a second", 200_000.0 / start.elapsed().as_secs_f32())
+    });
+    if let Some(program) = &program {
+        for piece in [1, 7, 100] {
+            group.plain(&format!("input in pieces of {piece} bytes"), || {
+                for s in scripts::by_hand().into_iter().filter(|s| s.input.len() < 2000) {
+                    let input = &s.input[..];
+                    scripts::assert_prints(&s.name, input, &scripts::printed_in_pieces(program, input, piece), &s.output);
+                }
+            });
+        }
+    }
 }
 
 fn compare_script(program: &Option<String>, input: &[u8]) {

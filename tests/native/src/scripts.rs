@@ -166,6 +166,16 @@ fn long_lines() -> Vec<Script> {
         script("100,000 bytes", &format!("{FORMAT}{}\n", padded(100_000)), "answer=0\nanswer=line\n"),
         script("64 entries", &format!("{large}op=launch pages={}\n", list(64)), "answer=0\nanswer=0\n"),
         script("65 entries", &format!("{large}op=launch pages={}\n", list(65)), "answer=0\nanswer=line\n"),
+        script(
+            "64 entries over 512 bytes",
+            &format!("{large}op=erase slots={}\n", vec!["4294967295"; 64].join(",")),
+            "answer=0\nanswer=line\n",
+        ),
+        script(
+            "44 entries of ten digits",
+            &format!("{large}op=erase slots={}\n", vec!["4294967295"; 44].join(",")),
+            "answer=0\nanswer=6\n",
+        ),
         script("64 slots", &format!("{large}op=erase slots={}\n", list(64)), "answer=0\nanswer=12\n"),
         script("65 slots", &format!("{large}op=erase slots={}\n", list(65)), "answer=0\nanswer=line\n"),
     ]
@@ -256,13 +266,27 @@ fn spoil(random: &mut Random, bytes: &mut Vec<u8>) {
     }
 }
 
-/// What a program prints on an input.
+/// What a program prints on an input that it is given whole.
 pub fn printed_by(program: &str, input: &[u8]) -> Vec<u8> {
+    printed_in_pieces(program, input, input.len().max(1))
+}
+
+/// What a program prints on an input that reaches it in pieces of so many bytes.
+pub fn printed_in_pieces(program: &str, input: &[u8], piece: usize) -> Vec<u8> {
     let mut child = Command::new(program).stdin(Stdio::piped()).stdout(Stdio::piped()).spawn().unwrap_or_else(|e| panic!("{program}: {e}"));
     let mut stdin = child.stdin.take().unwrap();
     let output = std::thread::scope(|scope| {
-        // A run that ends at a line stops reading, so the rest of the input may find no reader.
-        scope.spawn(move || drop(stdin.write_all(input)));
+        scope.spawn(move || {
+            for part in input.chunks(piece) {
+                // A run that ends at a line stops reading, so the rest of the input may find no reader.
+                if stdin.write_all(part).is_err() {
+                    return;
+                }
+                if part.len() < input.len() {
+                    std::thread::sleep(std::time::Duration::from_micros(50));
+                }
+            }
+        });
         child.wait_with_output().expect("the program runs")
     });
     assert!(output.status.code().is_some(), "{program} was ended by a signal");
