@@ -2,9 +2,11 @@
 
 use crate::calls::{Calls, Reply, WIDTH};
 use crate::compare::Compared;
+use crate::harness::said;
 use crate::inputs;
 use crate::random::Random;
 use crate::volume::Volume;
+use std::panic::{catch_unwind, AssertUnwindSafe};
 
 /// Document 01's table of which call gives which number.
 pub const ANSWERS: [(&str, &[u32]); 9] = [
@@ -32,7 +34,11 @@ pub fn compare(compared: &Compared, rounds: u32, seed: u64) {
         if random.one_in(10) {
             inputs::resize(&mut random, &mut volume);
         }
-        one_round(compared, &volume, &choices);
+        let round = catch_unwind(AssertUnwindSafe(|| one_round(compared, &volume, &choices)));
+        if let Err(panic) = round {
+            let input = if volume.slots <= 64 { format!("{volume:?} {choices:?}") } else { String::from("a large volume") };
+            panic!("{} on {input}", said(&*panic));
+        }
     }
 }
 
@@ -51,6 +57,7 @@ pub fn assert_all_seen(compared: &Compared) {
 }
 
 /// Arguments for one round.
+#[derive(Debug)]
 struct Choices {
     launch: Vec<u32>,
     erase: Vec<u32>,

@@ -4,8 +4,19 @@ use crate::calls::{Calls, Reply, NONE, WIDTH};
 use crate::reference::Reference;
 use crate::rules::{cycle, entry, may_erase, records, set_entry, set_slot, slot, Entry, Record};
 
-#[derive(Clone, Copy, Debug, PartialEq, Eq)]
-pub enum Fault {
+macro_rules! faults {
+    ($($name:ident,)*) => {
+        /// What is wrong.
+        #[derive(Clone, Copy, Debug, PartialEq, Eq)]
+        pub enum Fault {
+            $($name,)*
+        }
+
+        pub const FAULTS: &[Fault] = &[$(Fault::$name,)*];
+    };
+}
+
+faults! {
     FormatDoesNothing,
     LaunchDoesNothing,
     LaunchRefusesEveryList,
@@ -35,37 +46,6 @@ pub enum Fault {
     ReadTakesTheHighestSlot,
     RefusesBySlotsBeforeState,
 }
-
-pub const FAULTS: [Fault; 28] = [
-    Fault::FormatDoesNothing,
-    Fault::LaunchDoesNothing,
-    Fault::LaunchRefusesEveryList,
-    Fault::WriteStoresTheWholeTransaction,
-    Fault::WriteSkipsTheFlash,
-    Fault::WriteSkipsTheContents,
-    Fault::WriteIsDoneTooEarly,
-    Fault::WithdrawDoesNothing,
-    Fault::WithdrawForgetsOnePage,
-    Fault::EraseDoesNothing,
-    Fault::EraseKeepsTheContents,
-    Fault::EraseJudgesAfterBlanking,
-    Fault::EraseIgnoresStraddlers,
-    Fault::EraseLooksAtHighestLinksOnly,
-    Fault::SuggestSaysNothingToErase,
-    Fault::SuggestNamesABlankSlot,
-    Fault::RecoverDoesNothing,
-    Fault::RecoverPutsEveryPageAtZero,
-    Fault::RecoverTakesUsedFromVersionsAlone,
-    Fault::RecoverFillsBeforeItRefuses,
-    Fault::RecoverCallsABrokenRingUncommitted,
-    Fault::RecoverStopsAtTheStartsPage,
-    Fault::RecoverLooksAtTheLowestLaterVersion,
-    Fault::CountGivesZero,
-    Fault::CountLooksAtOneBitOfEachByte,
-    Fault::ReadDoesNothing,
-    Fault::ReadTakesTheHighestSlot,
-    Fault::RefusesBySlotsBeforeState,
-];
 
 /// The faults that lose a completed page, so that runs with crashes find them without a second implementation.
 pub const LOSING: [Fault; 9] = [

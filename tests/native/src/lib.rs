@@ -7,6 +7,8 @@ pub mod differential;
 pub mod exhaustive;
 #[cfg(feature = "exports")]
 pub mod exports;
+pub mod hand_scripts;
+pub mod harness;
 pub mod impostors;
 pub mod inputs;
 pub mod ledger;

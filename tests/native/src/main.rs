@@ -2,12 +2,13 @@
 
 use native::calls::Calls;
 use native::compare::Compared;
+use native::harness::{said, Group};
 use native::impostors::{Impostor, FAULTS, LOSING};
 use native::models::{walk, Rule};
 use native::random::Random;
 use native::reference::Reference;
 use native::runs::{run, Tally};
-use native::{cases, differential, exhaustive, script, scripts};
+use native::{cases, differential, exhaustive, hand_scripts, script, scripts};
 use std::panic::{catch_unwind, AssertUnwindSafe};
 use std::time::Instant;
 
@@ -18,43 +19,6 @@ use native::reference::Reference as Tested;
 
 /// The implementation under test: the C library with the feature `library`, else the second implementation itself.
 const TESTED: &dyn Calls = &Tested;
-
-/// Passed and failed tests of a group.
-#[derive(Default)]
-struct Group {
-    passed: u32,
-    failed: u32,
-}
-
-impl Group {
-    /// Runs a test, which fails by panicking and otherwise says what it saw.
-    fn test(&mut self, name: &str, body: impl FnOnce() -> String) {
-        let start = Instant::now();
-        match catch_unwind(AssertUnwindSafe(body)) {
-            Ok(saw) => {
-                self.passed += 1;
-                println!("ok      {name} ({saw}{}{:.1} s)", if saw.is_empty() { "" } else { "; " }, start.elapsed().as_secs_f32());
-            }
-            Err(panic) => {
-                self.failed += 1;
-                println!("FAILED  {name}: {}", message(&*panic));
-            }
-        }
-    }
-
-    /// Runs a test that sees nothing worth a word.
-    fn plain(&mut self, name: &str, body: impl FnOnce()) {
-        self.test(name, || {
-            body();
-            String::new()
-        });
-    }
-}
-
-fn message(panic: &dyn std::any::Any) -> &str {
-    let owned = panic.downcast_ref::<String>().map(String::as_str);
-    owned.or(panic.downcast_ref::<&str>().copied()).unwrap_or("a panic without words")
-}
 
 /// Document 01's cases, by the implementation under test and by the second one.
 fn cases_group(group: &mut Group) {
@@ -156,7 +120,7 @@ fn models_group(group: &mut Group) {
 fn scripts_group(group: &mut Group) {
     let program = std::env::var("BPCC_SCRIPT").ok();
     let mut hand = Group::default();
-    for s in scripts::by_hand() {
+    for s in hand_scripts::by_hand() {
         let body = || {
             scripts::assert_prints("the second implementation", &s.input, &script::run(&Reference, &s.input), &s.output);
             scripts::assert_prints("over the calls under test", &s.input, &script::run(TESTED, &s.input), &s.output);
@@ -168,7 +132,7 @@ fn scripts_group(group: &mut Group) {
             Ok(()) => hand.passed += 1,
             Err(panic) => {
                 hand.failed += 1;
-                println!("FAILED  script {}: {}", s.name, message(&*panic));
+                println!("FAILED  script {}: {}", s.name, said(&*panic));
             }
         }
     }
@@ -197,7 +161,7 @@ fn scripts_group(group: &mut Group) {
     if let Some(program) = &program {
         for piece in [1, 7, 100] {
             group.plain(&format!("input in pieces of {piece} bytes"), || {
-                for s in scripts::by_hand().into_iter().filter(|s| s.input.len() < 2000) {
+                for s in hand_scripts::by_hand().into_iter().filter(|s| s.input.len() < 2000) {
                     let input = &s.input[..];
                     scripts::assert_prints(&s.name, input, &scripts::printed_in_pieces(program, input, piece), &s.output);
                 }
@@ -218,9 +182,9 @@ fn compare_script(program: &Option<String>, input: &[u8]) {
 fn impostors_group(group: &mut Group) {
     let caught = |body: &dyn Fn()| match catch_unwind(AssertUnwindSafe(body)) {
         Ok(()) => panic!("not found"),
-        Err(panic) => message(&*panic).chars().take(60).collect(),
+        Err(panic) => said(&*panic).chars().take(60).collect(),
     };
-    for fault in FAULTS {
+    for &fault in FAULTS {
         group.test(&format!("{fault:?} differs"), || caught(&|| differential::compare(&Compared::new(&Impostor(fault)), 20_000, 1)));
     }
     for fault in LOSING {
@@ -255,7 +219,7 @@ fn main() {
         let mut group = Group::default();
         if let Err(panic) = catch_unwind(AssertUnwindSafe(|| body(&mut group))) {
             group.failed += 1;
-            println!("FAILED  {name}: {}", message(&*panic));
+            println!("FAILED  {name}: {}", said(&*panic));
         }
         println!("{name}: {} passed, {} failed", group.passed, group.failed);
         all.passed += group.passed;

@@ -2,10 +2,12 @@
 //! each call every crash that it may meet.
 
 use crate::calls::{Calls, NONE, WIDTH};
+use crate::harness::said;
 use crate::ledger::Ledger;
 use crate::random::Random;
 use crate::rules::{entry, may_erase, slot};
 use crate::volume::{Call, Volume};
+use std::panic::{catch_unwind, AssertUnwindSafe};
 
 /// What a run met, summed over runs.
 #[derive(Default, Debug, Clone, Copy)]
@@ -51,10 +53,15 @@ pub fn run(calls: &dyn Calls, pages: u32, slots: u32, events: u32, every: u32, s
     let mut run = Run { calls, random, volume, ledger: Ledger::new(pages), lost: false, calm, weights, tally: Tally::default() };
     for i in 0..events {
         let check = i % every == 0 || i + 1 == events;
-        run.event(check);
-        if check {
-            let (volume, ledger) = (run.volume.clone(), run.ledger.clone());
-            run.check(volume, &ledger, "after the list");
+        let event = AssertUnwindSafe(|| {
+            run.event(check);
+            if check {
+                let (volume, ledger) = (run.volume.clone(), run.ledger.clone());
+                run.check(volume, &ledger, "after the list");
+            }
+        });
+        if let Err(panic) = catch_unwind(event) {
+            panic!("P = {pages}, S = {slots}, seed {seed}, event {i}: {}", said(&*panic));
         }
     }
     run.tally
