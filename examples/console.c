@@ -135,7 +135,8 @@ static void piston(uint8_t *bytes, uint32_t page, uint32_t n) {
     }
 }
 
-/* Stores a set of pistons as one transaction. Writing stops after `pieces`, and the organist's set is withdrawn; else 1: stored. */
+/* Stores a set of pistons as one transaction, and gives 1; where only some pieces of it are to be written, withdraws it after
+ * these, and gives 0. */
 static int store(const uint32_t *set, uint32_t count, uint32_t n, uint32_t pieces) {
     uint64_t reply = bpcc_launch(PAGES, SLOTS, STATE, set, count);
     uint32_t i;
@@ -213,13 +214,27 @@ static int whole(uint32_t *kept, const struct note *last) {
     return (int)(old | new_set);
 }
 
-/* Kills the console `kills` times at a random step, powers up after each, and compares. */
+/* Reads the console's notes to their end: the last one, and what each piston holds by the sets that were stored. */
+static struct note follow(int notes, uint32_t *kept, unsigned *sets) {
+    struct note note, last = {0, 0, 0};
+    while (read(notes, &note, sizeof note) == (ssize_t)sizeof note) {
+        uint32_t page;
+        last = note;
+        *sets += note.stored;
+        for (page = 0; note.stored && page < PAGES; page++) {
+            kept[page] = (note.set >> page & 1) ? note.n : kept[page];
+        }
+    }
+    return last;
+}
+
+/* Kills the console so many times at a random step, powers up after each, and compares. */
 static int trial(const char *path, unsigned kills, unsigned seed) {
-    uint32_t kept[PAGES] = {0}, page, n = 1;
-    unsigned kill, sets = 0;
+    uint32_t kept[PAGES] = {0}, n = 1;
+    unsigned i, sets = 0;
     make_flash(path);
-    for (kill = 0; kill < kills; kill++) {
-        struct note note, last = {0, 0, 0};
+    for (i = 1; i <= kills; i++) {
+        struct note last;
         int ends[2], status;
         pid_t child;
         if (pipe(ends) != 0 || (child = fork()) < 0) {
@@ -227,24 +242,22 @@ static int trial(const char *path, unsigned kills, unsigned seed) {
         }
         if (child == 0) {
             close(ends[0]);
-            srand(seed + kill);
+            srand(seed + i);
             steps_left = rand() % 120;
             play(path, ends[1], n);
         }
         close(ends[1]);
-        while (read(ends[0], &note, sizeof note) == (ssize_t)sizeof note) {
-            last = note;
-            n = note.n + 1;
-            sets += note.stored;
-            for (page = 0; note.stored && page < PAGES; page++) {
-                kept[page] = (note.set >> page & 1) ? note.n : kept[page];
-            }
-        }
+        last = follow(ends[0], kept, &sets);
         close(ends[0]);
+        n = last.n == 0 ? n : last.n + 1;
         waitpid(child, &status, 0);
+        if (!WIFSIGNALED(status)) {
+            printf("the console stopped by itself before kill %u\n", i);
+            return 1;
+        }
         power_up(path);
-        if (!WIFSIGNALED(status) || !whole(kept, &last)) {
-            printf("after kill %u a set came back in pieces\n", kill + 1);
+        if (!whole(kept, &last)) {
+            printf("after kill %u a set came back in pieces\n", i);
             return 1;
         }
         close(flash);

@@ -159,3 +159,15 @@ pub fn compare_largest(compared: &Compared) {
     assert_eq!(compared.read(pages, slots, &v.words, &v.contents, &v.state, 255, &mut out).answer, 0);
     assert_eq!(out, [255; WIDTH]);
 }
+
+/// Lists far longer than any that fits: the last entry out of range, or all in range with repeats.
+pub fn compare_long_lists(compared: &Compared) {
+    let (pages, slots) = (256, 1024);
+    let mut v = Volume::formatted(compared, pages, slots);
+    for last in [0, pages, slots] {
+        let mut list: Vec<u32> = (0..100_000).map(|i| i % pages).collect();
+        list.push(last);
+        assert_eq!(compared.launch(pages, slots, &mut v.state, &list).answer, 6);
+        assert_eq!(compared.erase(pages, slots, &mut v.words, &mut v.contents, &v.state, &list).answer, 6);
+    }
+}

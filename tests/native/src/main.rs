@@ -54,6 +54,7 @@ fn calls_group(group: &mut Group) {
     group.plain("format at the limits of the sizes", || differential::compare_sizes(&compared));
     group.plain("count of every bit and every byte", || differential::compare_counts(&compared));
     group.plain("the largest volume, one transaction over all pages", || differential::compare_largest(&compared));
+    group.plain("lists of 100,001 entries", || differential::compare_long_lists(&compared));
     for (pages, slots, highest) in [(1, 5, 4), (2, 5, 2), (2, 4, 3), (3, 4, 2)] {
         group.test(&format!("every table of P = {pages}, S = {slots}, versions up to {highest}"), || {
             format!("{} tables", exhaustive::tables(&compared, pages, slots, highest))
