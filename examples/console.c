@@ -1,0 +1,294 @@
+/*
+ * A small console over a simulated flash file. It stores sets of pistons, is killed at a random flash step, powers up again,
+ * and finds every set whole: all old or all new.
+ *
+ *   console FILE           powers up from FILE (made and formatted where it is missing) and lists the pistons
+ *   console FILE N SEED    stores random sets, N times killed; after each kill powers up and compares
+ *
+ * The driver is what firmware has to supply: load the flash at power-up, and program one slot at a time from the images in
+ * memory, wholly or not at all. POSIX for the processes; the use of the library is plain C99.
+ */
+#define _POSIX_C_SOURCE 200809L
+
+#include "bpcc.h"
+
+#include <fcntl.h>
+#include <signal.h>
+#include <stdio.h>
+#include <stdlib.h>
+#include <string.h>
+#include <sys/types.h>
+#include <sys/wait.h>
+#include <unistd.h>
+
+enum { PAGES = 8, SLOTS = 24, SLOT_BYTES = 64 };
+
+/* The images of the flash in memory, and the state. The console owns them and lends them to each call. */
+static uint32_t words[BPCC_SLOT_WORDS * SLOTS];
+static uint8_t contents[BPCC_WIDTH * SLOTS];
+static uint32_t state[BPCC_PAGE_WORDS * PAGES];
+
+#define WORDS words, BPCC_TABLE_WORDS(SLOTS)
+#define CONTENTS contents, BPCC_CONTENTS_BYTES(SLOTS)
+#define STATE state, BPCC_STATE_WORDS(PAGES)
+
+/* The file that stands for the chip. */
+static int flash = -1;
+
+/* The power fails at the step that finds 0 here; below 0 it holds. */
+static long steps_left = -1;
+
+static void stop(const char *what, uint64_t reply) {
+    fprintf(stderr, "console: %s: answer %lu\n", what, (unsigned long)bpcc_answer(reply));
+    exit(1);
+}
+
+/* A point at which the power may fail. */
+static void step(void) {
+    if (steps_left >= 0 && steps_left-- == 0) {
+        raise(SIGKILL);
+    }
+}
+
+/* Programs slot k from the images: the five words and the 32 bytes, in one piece. */
+static void program(uint32_t k) {
+    uint8_t piece[SLOT_BYTES] = {0};
+    memcpy(piece, words + BPCC_SLOT_WORDS * k, 4 * BPCC_SLOT_WORDS);
+    memcpy(piece + 4 * BPCC_SLOT_WORDS, contents + BPCC_WIDTH * k, BPCC_WIDTH);
+    step();
+    if (pwrite(flash, piece, sizeof piece, (off_t)k * SLOT_BYTES) != (ssize_t)sizeof piece) {
+        stop("the flash file takes no slot", 0);
+    }
+    step();
+}
+
+/* Makes a formatted flash file under another name and moves it into place, so that it is there whole or not at all. */
+static void make_flash(const char *path) {
+    char fresh[4096];
+    uint64_t reply = bpcc_format(PAGES, SLOTS, WORDS, CONTENTS, STATE);
+    uint32_t k;
+    if (bpcc_answer(reply) != BPCC_DONE) {
+        stop("format", reply);
+    }
+    snprintf(fresh, sizeof fresh, "%s.new", path);
+    flash = open(fresh, O_RDWR | O_CREAT | O_TRUNC, 0600);
+    for (k = 0; k < SLOTS; k++) {
+        program(k);
+    }
+    close(flash);
+    if (rename(fresh, path) != 0) {
+        stop("the flash file cannot be made", 0);
+    }
+}
+
+/* Power-up: load the flash, then recover. Nothing else is called before recovery has answered 0. */
+static void power_up(const char *path) {
+    uint64_t reply;
+    uint32_t k;
+    if (access(path, F_OK) != 0) {
+        make_flash(path);
+    }
+    flash = open(path, O_RDWR);
+    for (k = 0; k < SLOTS; k++) {
+        uint8_t piece[SLOT_BYTES];
+        if (pread(flash, piece, sizeof piece, (off_t)k * SLOT_BYTES) != (ssize_t)sizeof piece) {
+            stop("the flash file is too short", 0);
+        }
+        memcpy(words + BPCC_SLOT_WORDS * k, piece, 4 * BPCC_SLOT_WORDS);
+        memcpy(contents + BPCC_WIDTH * k, piece + 4 * BPCC_SLOT_WORDS, BPCC_WIDTH);
+    }
+    memset(state, 0xFF, sizeof state);
+    reply = bpcc_recover(PAGES, SLOTS, WORDS, STATE);
+    if (bpcc_answer(reply) != BPCC_DONE) {
+        stop("recover", reply);
+    }
+}
+
+/* A blank slot; where there is none, one that the library suggests is erased first. */
+static uint32_t blank_slot(uint32_t start) {
+    uint64_t reply;
+    uint32_t i, slot;
+    for (i = 0; i < SLOTS; i++) {
+        slot = (start + i) % SLOTS;
+        if (words[BPCC_SLOT_WORDS * slot] == BPCC_NONE) {
+            return slot;
+        }
+    }
+    reply = bpcc_suggest(PAGES, SLOTS, WORDS, STATE);
+    if (bpcc_answer(reply) != BPCC_DONE) {
+        stop("suggest", reply);
+    }
+    slot = bpcc_second(reply);
+    reply = bpcc_erase(PAGES, SLOTS, WORDS, CONTENTS, STATE, &slot, 1);
+    if (bpcc_answer(reply) != BPCC_DONE) {
+        stop("erase", reply);
+    }
+    program(slot);
+    return slot;
+}
+
+/* What a piston holds once it is stored as part of set number n. */
+static void piston(uint8_t *bytes, uint32_t page, uint32_t n) {
+    uint32_t i;
+    for (i = 0; i < BPCC_WIDTH; i++) {
+        bytes[i] = (uint8_t)(n >> (8 * (i % 4))) ^ (uint8_t)(n == 0 ? 0 : page * i);
+    }
+}
+
+/* Stores a set of pistons as one transaction, and gives 1; where only some pieces of it are to be written, withdraws it after
+ * these, and gives 0. */
+static int store(const uint32_t *set, uint32_t count, uint32_t n, uint32_t pieces) {
+    uint64_t reply = bpcc_launch(PAGES, SLOTS, STATE, set, count);
+    uint32_t i;
+    if (bpcc_answer(reply) != BPCC_DONE) {
+        stop("launch", reply);
+    }
+    for (i = 0; i < count && i < pieces; i++) {
+        uint8_t bytes[BPCC_WIDTH];
+        uint32_t slot = blank_slot((uint32_t)rand() % SLOTS);
+        piston(bytes, set[i], n);
+        reply = bpcc_write(PAGES, SLOTS, WORDS, CONTENTS, STATE, set[i], slot, bytes, sizeof bytes);
+        if (bpcc_answer(reply) != BPCC_DONE) {
+            stop("write", reply);
+        }
+        program(slot);
+    }
+    if (i == count) {
+        return 1;
+    }
+    reply = bpcc_withdraw(PAGES, SLOTS, STATE, set[0]);
+    if (bpcc_answer(reply) != BPCC_DONE) {
+        stop("withdraw", reply);
+    }
+    return 0;
+}
+
+/* What the console tells its observer: it is about to store a set (its pistons as bits), or the set is stored. */
+struct note {
+    uint32_t stored, n, set;
+};
+
+/* Stores random sets until the power fails. */
+static void play(const char *path, int notes, uint32_t n) {
+    power_up(path);
+    for (;; n++) {
+        struct note note = {0, n, 0};
+        uint32_t set[PAGES], i, count = 1 + (uint32_t)rand() % PAGES, first = (uint32_t)rand() % PAGES;
+        uint32_t stride = 1 + 2 * ((uint32_t)rand() % 4), pieces = rand() % 3 == 0 ? (uint32_t)rand() % count : count;
+        for (i = 0; i < count; i++) {
+            set[i] = (first + stride * i) % PAGES;
+            note.set |= UINT32_C(1) << set[i];
+        }
+        if (write(notes, &note, sizeof note) != (ssize_t)sizeof note) {
+            exit(1);
+        }
+        note.stored = (uint32_t)store(set, count, n, pieces);
+        step();
+        if (note.stored && write(notes, &note, sizeof note) != (ssize_t)sizeof note) {
+            exit(1);
+        }
+    }
+}
+
+/* Whether piston `page`, read after power-up, holds what set n stored. */
+static int holds(uint32_t page, uint32_t n) {
+    uint8_t out[BPCC_WIDTH], bytes[BPCC_WIDTH];
+    uint64_t reply = bpcc_read(PAGES, SLOTS, WORDS, CONTENTS, STATE, page, out, sizeof out);
+    if (bpcc_answer(reply) != BPCC_DONE) {
+        stop("read", reply);
+    }
+    piston(bytes, page, n);
+    return memcmp(out, bytes, sizeof out) == 0;
+}
+
+/* Every piston holds the set that stored it last; a set that was being stored is there whole or not at all. */
+static int whole(uint32_t *kept, const struct note *last) {
+    uint32_t page, old = 1, new_set = 1;
+    for (page = 0; page < PAGES; page++) {
+        old &= (uint32_t)holds(page, kept[page]);
+        new_set &= (uint32_t)holds(page, (last->set >> page & 1) ? last->n : kept[page]);
+    }
+    for (page = 0; new_set && page < PAGES; page++) {
+        kept[page] = (last->set >> page & 1) ? last->n : kept[page];
+    }
+    return (int)(old | new_set);
+}
+
+/* Reads the console's notes to their end: the last one, and what each piston holds by the sets that were stored. */
+static struct note follow(int notes, uint32_t *kept, unsigned *sets) {
+    struct note note, last = {0, 0, 0};
+    while (read(notes, &note, sizeof note) == (ssize_t)sizeof note) {
+        uint32_t page;
+        last = note;
+        *sets += note.stored;
+        for (page = 0; note.stored && page < PAGES; page++) {
+            kept[page] = (note.set >> page & 1) ? note.n : kept[page];
+        }
+    }
+    return last;
+}
+
+/* Kills the console so many times at a random step, powers up after each, and compares. */
+static int trial(const char *path, unsigned kills, unsigned seed) {
+    uint32_t kept[PAGES] = {0}, n = 1;
+    unsigned i, sets = 0;
+    make_flash(path);
+    for (i = 1; i <= kills; i++) {
+        struct note last;
+        int ends[2], status;
+        pid_t child;
+        if (pipe(ends) != 0 || (child = fork()) < 0) {
+            stop("no process", 0);
+        }
+        if (child == 0) {
+            close(ends[0]);
+            srand(seed + i);
+            steps_left = rand() % 120;
+            play(path, ends[1], n);
+        }
+        close(ends[1]);
+        last = follow(ends[0], kept, &sets);
+        close(ends[0]);
+        n = last.n == 0 ? n : last.n + 1;
+        waitpid(child, &status, 0);
+        if (!WIFSIGNALED(status)) {
+            printf("the console stopped by itself before kill %u\n", i);
+            return 1;
+        }
+        power_up(path);
+        if (!whole(kept, &last)) {
+            printf("after kill %u a set came back in pieces\n", i);
+            return 1;
+        }
+        close(flash);
+    }
+    printf("%u kills, %u sets stored, every set whole\n", kills, sets);
+    return 0;
+}
+
+/* Lists the pistons as they are after power-up. */
+static int list(const char *path) {
+    uint32_t page;
+    power_up(path);
+    for (page = 0; page < PAGES; page++) {
+        uint8_t out[BPCC_WIDTH];
+        uint64_t reply = bpcc_read(PAGES, SLOTS, WORDS, CONTENTS, STATE, page, out, sizeof out);
+        if (bpcc_answer(reply) != BPCC_DONE) {
+            stop("read", reply);
+        }
+        printf("piston %lu: version %lu, %lu stops drawn\n", (unsigned long)page, (unsigned long)state[BPCC_PAGE_WORDS * page],
+               (unsigned long)bpcc_second(bpcc_count(out, sizeof out)));
+    }
+    return 0;
+}
+
+int main(int argc, char **argv) {
+    if (argc == 2) {
+        return list(argv[1]);
+    }
+    if (argc == 4) {
+        return trial(argv[1], (unsigned)strtoul(argv[2], NULL, 10), (unsigned)strtoul(argv[3], NULL, 10));
+    }
+    fprintf(stderr, "usage: console FILE [KILLS SEED]\n");
+    return 2;
+}

@@ -1,0 +1,183 @@
+/*
+ * bpcc.h: pages kept in raw flash so that a set stored together comes back whole, all old or all new, wherever power fails
+ * (Back-Pointer Cyclic Commit). C99 and C++.
+ *
+ * A volume has P pages (1 to 256) and S slots (P to 1,024), both numbered from 0. The caller owns all memory and lends it:
+ *
+ *   words     BPCC_TABLE_WORDS(S) words, the slot table; slot k has words 5k to 5k+4
+ *   contents  BPCC_CONTENTS_BYTES(S) bytes; slot k has bytes 32k to 32k+31
+ *   state     BPCC_STATE_WORDS(P) words of working memory, lost when power fails; page p has words 4p to 4p+3:
+ *             the last committed version, the last used version, the next page of its transaction (BPCC_NONE: not in flight),
+ *             and written (0 or 1)
+ *
+ * The five words of a slot are its page p, its version v, its back pointer c (the page's last committed version at launch), the
+ * next page np and its version nv. A blank slot has BPCC_NONE in all five. Any other slot is a record, sound if p and np are
+ * below P, v, c and nv are at most 4,294,967,294, c is below v (or both are 0), and nv equals v where np equals p.
+ *
+ * A state is sound if, for each page, committed is at most used, used is at most 4,294,967,294, written is 0 or 1 and 0 where
+ * the page is not in flight; and a page in flight has committed below used and a next page below P that is also in flight; no
+ * two pages in flight share a next page.
+ *
+ * A buffer is a pointer and then its length, in elements. The one thing a caller must see to: each buffer is really there, as
+ * long as stated and aligned for its type, its pointer not null even where the length is 0, and no two buffers of one call
+ * overlap. What the buffers hold, and all numbers and lengths, may be anything: every call either is done or refuses.
+ *
+ * Every call returns the answer in the lower 32 bits (bpcc_answer) and a second number in the upper (bpcc_second). The answer
+ * is 0 or the first refusal, from the lowest number up, whose condition holds, each tried for all pages or slots before the
+ * next. After a refusal every buffer is as it was and the second number is 0 (of bpcc_suggest: BPCC_NONE).
+ */
+#ifndef BPCC_H
+#define BPCC_H
+
+#include <stddef.h>
+#include <stdint.h>
+
+#ifdef __cplusplus
+extern "C" {
+#endif
+
+/* Bytes of contents for each slot, and the length of what is written and read. */
+#define BPCC_WIDTH 32
+
+/* A word of a blank slot; in a state, not in flight; the slot that a refused bpcc_suggest names. */
+#define BPCC_NONE UINT32_C(4294967295)
+
+/* The most pages and slots of a volume. */
+#define BPCC_MAX_PAGES 256
+#define BPCC_MAX_SLOTS 1024
+
+/* Words of a slot in the table, and of a page in the state. */
+#define BPCC_SLOT_WORDS 5
+#define BPCC_PAGE_WORDS 4
+
+/* The lengths of words, contents and state for P pages and S slots. */
+#define BPCC_TABLE_WORDS(slots) (BPCC_SLOT_WORDS * (size_t)(slots))
+#define BPCC_CONTENTS_BYTES(slots) (BPCC_WIDTH * (size_t)(slots))
+#define BPCC_STATE_WORDS(pages) (BPCC_PAGE_WORDS * (size_t)(pages))
+
+/* The answers. */
+enum bpcc_answers {
+    BPCC_DONE = 0,
+    BPCC_WRONG_SIZE = 1,            /* P, S or a buffer's length is wrong (lists may have any length) */
+    BPCC_SLOT_UNSOUND = 2,          /* a slot neither blank nor sound */
+    BPCC_RECORDS_CLASH = 3,         /* two records with equal page and version, or a page with no record */
+    BPCC_LINKS_ASTRAY = 4,          /* the links run into a ring that lacks the start */
+    BPCC_STATE_UNSOUND = 5,         /* the state is not sound: recover first */
+    BPCC_WRONG_LIST = 6,            /* an empty list, a repeated entry, or a page or slot out of range */
+    BPCC_PAGE_IN_FLIGHT = 7,        /* a listed page is in flight */
+    BPCC_VERSIONS_EXHAUSTED = 8,    /* a listed page's used version is 4,294,967,294 */
+    BPCC_PAGE_NOT_IN_FLIGHT = 9,    /* the page is not in flight */
+    BPCC_PAGE_WRITTEN = 10,         /* the page is already written */
+    BPCC_SLOT_NOT_BLANK = 11,       /* the slot is not blank */
+    BPCC_MAY_NOT_ERASE = 12,        /* a listed slot may not be erased */
+    BPCC_NOTHING_TO_ERASE = 13,     /* no slot may be erased */
+    BPCC_NO_COMMITTED_RECORD = 14   /* no record with the committed version */
+};
+
+/* The answer, 0 for done. */
+static inline uint32_t bpcc_answer(uint64_t reply) {
+    return (uint32_t)(reply & UINT32_C(4294967295));
+}
+
+/* The second number: done of a write, the slot of a suggest, the set bits of a count; else 0. */
+static inline uint32_t bpcc_second(uint64_t reply) {
+    return (uint32_t)(reply >> 32);
+}
+
+/*
+ * Formats a volume. Slot i below P holds the record (i, 0, 0, i, 0) with 32 zero bytes; all other slots are blank with bytes
+ * 255; the state says 0, 0, not in flight, 0 for each page.
+ * Refuses: 1.
+ */
+uint64_t bpcc_format(uint32_t pages, uint32_t slots,
+                     uint32_t *words, size_t words_length,
+                     uint8_t *contents, size_t contents_length,
+                     uint32_t *state, size_t state_length);
+
+/*
+ * Launches a transaction over the listed pages, in a cycle in the list's order: each page's used version rises by 1, its next
+ * is the following page in the list (the last points to the first), written is 0. Flash is untouched.
+ * Refuses: 1, 5, 6, 7, 8.
+ */
+uint64_t bpcc_launch(uint32_t pages, uint32_t slots,
+                     uint32_t *state, size_t state_length,
+                     const uint32_t *list, size_t list_length);
+
+/*
+ * Writes a page of a transaction to a blank slot: the planned record (v = used of the page, c = its committed, np = its next,
+ * nv = used of np) and the 32 bytes. Nothing else in flash changes, and the page becomes written. If its whole transaction is
+ * then written, each of its pages gets committed = used and leaves flight, written 0, and the second number, done, is 1;
+ * else 0.
+ * Refuses: 1, 2, 5, 6, 9, 10, 11.
+ */
+uint64_t bpcc_write(uint32_t pages, uint32_t slots,
+                    uint32_t *words, size_t words_length,
+                    uint8_t *contents, size_t contents_length,
+                    uint32_t *state, size_t state_length,
+                    uint32_t page, uint32_t slot,
+                    const uint8_t *bytes, size_t bytes_length);
+
+/*
+ * Withdraws the transaction that holds the page: every page of it leaves flight, written 0; nothing else changes.
+ * Refuses: 1, 5, 6, 9.
+ */
+uint64_t bpcc_withdraw(uint32_t pages, uint32_t slots,
+                       uint32_t *state, size_t state_length,
+                       uint32_t page);
+
+/*
+ * Erases the listed slots: all become blank with bytes 255; nothing else changes. The permission is judged for every slot on
+ * the table before the call.
+ *
+ * A record is obsolete if v is below its page's committed version, exposed if above. K straddles I's link if K.p = I.np and
+ * K.c < I.nv < K.v. An obsolete K is needed if no record has the same page and c with a higher v, and K straddles some exposed
+ * record's link. A slot may be erased if it holds an obsolete record that is not needed, or an exposed record other than one
+ * whose page is in flight with v = used.
+ * Refuses: 1, 2, 5, 6, 12.
+ */
+uint64_t bpcc_erase(uint32_t pages, uint32_t slots,
+                    uint32_t *words, size_t words_length,
+                    uint8_t *contents, size_t contents_length,
+                    const uint32_t *state, size_t state_length,
+                    const uint32_t *list, size_t list_length);
+
+/*
+ * Names, as the second number, some slot that may be erased (which one is not fixed). Alters nothing.
+ * Refuses, with BPCC_NONE as the second number: 1, 2, 5, 13.
+ */
+uint64_t bpcc_suggest(uint32_t pages, uint32_t slots,
+                      const uint32_t *words, size_t words_length,
+                      const uint32_t *state, size_t state_length);
+
+/*
+ * Fills the state from the slot table alone; the old state may hold anything. Each page gets the version last committed, the
+ * highest version that any record gives it or links to as used, not in flight, written 0. The first call after power-up.
+ * Refuses: 1, 2, 3, 4, 14.
+ */
+uint64_t bpcc_recover(uint32_t pages, uint32_t slots,
+                      const uint32_t *words, size_t words_length,
+                      uint32_t *state, size_t state_length);
+
+/*
+ * Counts, as the second number, the set bits of 32 bytes (the drawn stops: stop s is bit s mod 8 of byte s div 8, lowest bit
+ * first). Alters nothing.
+ * Refuses: 1.
+ */
+uint64_t bpcc_count(const uint8_t *bytes, size_t bytes_length);
+
+/*
+ * Copies to out the 32 bytes of the lowest slot that holds the page at its committed version. Alters nothing else.
+ * Refuses: 1, 2, 5, 6, 14.
+ */
+uint64_t bpcc_read(uint32_t pages, uint32_t slots,
+                   const uint32_t *words, size_t words_length,
+                   const uint8_t *contents, size_t contents_length,
+                   const uint32_t *state, size_t state_length,
+                   uint32_t page,
+                   uint8_t *out, size_t out_length);
+
+#ifdef __cplusplus
+}
+#endif
+
+#endif

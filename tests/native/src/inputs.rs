@@ -1,0 +1,280 @@
+//! Volumes, states and arguments for the calls: reachable, sound, damaged and sheer garbage.
+
+use crate::calls::{NONE, SLOT_WORDS, WIDTH};
+use crate::random::Random;
+use crate::reference::Reference;
+use crate::rules::{entry, may_erase, records, set_entry, slot, state_sound, Entry, Record, LAST_VERSION};
+use crate::volume::{Call, Volume};
+
+/// The numbers at which something changes, for P pages and S slots.
+pub fn boundary(random: &mut Random, pages: u32, slots: u32) -> u32 {
+    random.pick(&[
+        0,
+        1,
+        2,
+        pages.wrapping_sub(1),
+        pages,
+        pages + 1,
+        slots.wrapping_sub(1),
+        slots,
+        slots + 1,
+        255,
+        256,
+        257,
+        1023,
+        1024,
+        1025,
+        0x7FFF_FFFF,
+        0x8000_0000,
+        858_993_460,
+        134_217_728,
+        NONE - 2,
+        NONE - 1,
+        NONE,
+    ])
+}
+
+/// A volume and state for one round of calls.
+pub fn volume(random: &mut Random) -> Volume {
+    let large = random.one_in(2000);
+    let pages = if large {
+        random.pick(&[255, 256])
+    } else if random.one_in(8) {
+        1 + random.below(8)
+    } else {
+        1 + random.below(4)
+    };
+    let slots = if large { 1024 - random.below(2) } else { pages + random.below(9) };
+    let mut v = match random.below(10) {
+        0..=3 => reached(random, pages, slots),
+        4..=5 => sound_table(random, pages, slots),
+        6..=8 => linked_table(random, pages, slots),
+        _ => garbage(random, pages, slots),
+    };
+    choose_state(random, &mut v);
+    if random.one_in(8) {
+        damage(random, pages, slots, &mut v.words);
+    }
+    if random.one_in(8) {
+        damage(random, pages, slots, &mut v.state);
+    }
+    v
+}
+
+/// What some calls leave of a formatted volume.
+fn reached(random: &mut Random, pages: u32, slots: u32) -> Volume {
+    let mut v = Volume::formatted(&Reference, pages, slots);
+    for _ in 0..random.below(40) {
+        let call = match random.below(8) {
+            0..=1 => Call::Launch(pages_to_launch(random, &v)),
+            2..=5 => {
+                let (page, slot) = page_and_slot_to_write(random, &v);
+                Call::Write { page, slot, bytes: random.bytes(WIDTH) }
+            }
+            6 if random.one_in(4) => Call::Withdraw(random.below(pages)),
+            6 if random.one_in(4) => Call::Recover,
+            _ => Call::Erase(slots_to_erase(random, &v)),
+        };
+        v.call(&Reference, &call);
+    }
+    v
+}
+
+/// A version, most often small, sometimes at the end of the range.
+fn version(random: &mut Random) -> u32 {
+    match random.below(12) {
+        0 => random.pick(&[LAST_VERSION, LAST_VERSION - 1, LAST_VERSION - 2]),
+        _ => random.below(5),
+    }
+}
+
+/// A sound record of a page.
+fn sound_record(random: &mut Random, pages: u32, p: u32) -> Record {
+    let v = version(random);
+    let c = if v == 0 { 0 } else { version(random) % v };
+    let np = random.below(pages);
+    let nv = if np == p { v } else { version(random) };
+    Record { p, v, c, np, nv }
+}
+
+/// Sound records and blank slots in any order, pages and versions repeated or missing.
+fn sound_table(random: &mut Random, pages: u32, slots: u32) -> Volume {
+    let mut v = Volume::with_records(pages, slots, &[]);
+    v.contents = random.bytes(v.contents.len());
+    for k in 0..slots as usize {
+        if !random.one_in(3) {
+            let p = random.below(pages);
+            let five = sound_record(random, pages, p).words();
+            v.words[SLOT_WORDS * k..][..SLOT_WORDS].copy_from_slice(&five);
+        }
+    }
+    v
+}
+
+/// At least one record for each page, no two with equal page and version, most links of highest records to highest versions.
+fn linked_table(random: &mut Random, pages: u32, slots: u32) -> Volume {
+    let highest: Vec<u32> = (0..pages).map(|_| 1 + version(random).min(LAST_VERSION - 1)).collect();
+    let mut held: Vec<Record> = Vec::new();
+    for p in 0..pages {
+        let v = highest[p as usize];
+        let np = random.below(pages);
+        let off = if random.one_in(6) { random.pick(&[1, NONE]) } else { 0 };
+        let nv = if np == p { v } else { highest[np as usize].wrapping_add(off).min(LAST_VERSION) };
+        let c = if random.one_in(3) { 0 } else { version(random) % v };
+        held.push(Record { p, v, c, np, nv });
+    }
+    while held.len() < slots as usize && !random.one_in(5) {
+        let below: Vec<u32> = held.iter().map(|r| r.c).chain([0]).collect();
+        let (p, v) = (random.below(pages), if random.one_in(2) { random.pick(&below) } else { random.below(5) });
+        if v < highest[p as usize] && !held.iter().any(|r| r.p == p && r.v == v) {
+            let np = random.below(pages);
+            let nv = if np == p { v } else { version(random) };
+            held.push(Record { p, v, c: if v == 0 { 0 } else { random.below(v) }, np, nv });
+        }
+    }
+    let mut fives: Vec<[u32; SLOT_WORDS]> = held.iter().map(|r| r.words()).collect();
+    fives.resize(slots as usize, [NONE; SLOT_WORDS]);
+    random.shuffle(&mut fives);
+    Volume::with_records(pages, slots, &fives)
+}
+
+fn garbage(random: &mut Random, pages: u32, slots: u32) -> Volume {
+    let mut v = Volume::zeroed(pages, slots);
+    let wild = random.one_in(2);
+    let word = |random: &mut Random| if wild { random.number() as u32 } else { boundary(random, pages, slots) };
+    v.words.iter_mut().for_each(|w| *w = word(random));
+    v.state.iter_mut().for_each(|w| *w = word(random));
+    v.contents = random.bytes(v.contents.len());
+    v
+}
+
+/// Keeps the volume's state, recovers it, makes a sound one, or loses it.
+fn choose_state(random: &mut Random, v: &mut Volume) {
+    match random.below(12) {
+        0..=3 if state_sound(v.pages, &v.state) => {}
+        4 => drop(v.call(&Reference, &Call::Recover)),
+        5 => v.state.fill(NONE),
+        _ => sound_state(random, v),
+    }
+}
+
+/// Any sound state, its committed versions often those of records.
+fn sound_state(random: &mut Random, v: &mut Volume) {
+    let table = records(&v.words);
+    let mut flying = random.subset(v.pages);
+    if random.one_in(2) {
+        flying.truncate(v.pages as usize / 2);
+    }
+    let mut next = flying.clone();
+    random.shuffle(&mut next);
+    let all_written = random.one_in(6);
+    for p in 0..v.pages {
+        let own: Vec<u32> = table.iter().filter(|(_, r)| r.p == p).map(|(_, r)| r.v).collect();
+        let held = !own.is_empty() && !random.one_in(5);
+        let committed = if held { random.pick(&own).min(LAST_VERSION) } else { version(random) };
+        let used =
+            if random.one_in(12) { random.pick(&[LAST_VERSION, LAST_VERSION - 1]) } else { committed.saturating_add(random.below(4)) };
+        let used = used.clamp(committed, LAST_VERSION);
+        let e = match flying.iter().position(|&q| q == p) {
+            Some(at) if committed < LAST_VERSION => {
+                let written = u32::from(all_written || random.one_in(2));
+                Entry { committed, used: used.max(committed + 1), next: next[at], written }
+            }
+            Some(at) => Entry { committed: 0, used: 1, next: next[at], written: 0 },
+            None => Entry { committed, used, next: NONE, written: 0 },
+        };
+        set_entry(&mut v.state, p, e);
+    }
+}
+
+/// Alters one to three words.
+fn damage(random: &mut Random, pages: u32, slots: u32, words: &mut [u32]) {
+    for _ in 0..1 + random.below(3) {
+        let at = random.below(words.len() as u32) as usize;
+        words[at] = match random.below(4) {
+            0 => boundary(random, pages, slots),
+            1 => words[at].wrapping_add(1),
+            2 => words[at].wrapping_sub(1),
+            _ => words[random.below(words.len() as u32) as usize],
+        };
+    }
+}
+
+/// A list of numbers below n as it is, or with a repeat, an entry out of range, or empty.
+fn spoiled(random: &mut Random, mut list: Vec<u32>, n: u32) -> Vec<u32> {
+    match random.below(24) {
+        0 => list.clear(),
+        1 if !list.is_empty() => list.push(list[0]),
+        2 => list.push(random.pick(&[n, n + 1, NONE, NONE - 1, 0x8000_0000])),
+        3 => list.insert(0, random.pick(&[n, NONE])),
+        4 if n < 300 => list = (0..n).collect(),
+        5 => list = (0..random.below(2 * n + 2)).map(|_| random.below(n)).collect(),
+        _ => {}
+    }
+    list
+}
+
+fn some_of(random: &mut Random, mut list: Vec<u32>) -> Vec<u32> {
+    random.shuffle(&mut list);
+    let kept = 1 + random.below(list.len() as u32);
+    list.truncate(kept as usize);
+    list
+}
+
+pub fn pages_to_launch(random: &mut Random, v: &Volume) -> Vec<u32> {
+    let free: Vec<u32> = (0..v.pages).filter(|&p| !entry(&v.state, p).in_flight()).collect();
+    let list = if random.one_in(4) || free.is_empty() { random.subset(v.pages) } else { some_of(random, free) };
+    spoiled(random, list, v.pages)
+}
+
+pub fn page_and_slot_to_write(random: &mut Random, v: &Volume) -> (u32, u32) {
+    let waiting: Vec<u32> = (0..v.pages).filter(|&p| entry(&v.state, p).in_flight() && entry(&v.state, p).written == 0).collect();
+    let blank = v.blank_slots();
+    let page = if random.one_in(5) || waiting.is_empty() { random.below(v.pages) } else { random.pick(&waiting) };
+    let slot = if random.one_in(5) || blank.is_empty() { random.below(v.slots) } else { random.pick(&blank) };
+    match random.below(20) {
+        0 => (boundary(random, v.pages, v.slots), slot),
+        1 => (page, boundary(random, v.pages, v.slots)),
+        _ => (page, slot),
+    }
+}
+
+pub fn page_to_take(random: &mut Random, v: &Volume) -> u32 {
+    if random.one_in(10) {
+        boundary(random, v.pages, v.slots)
+    } else {
+        random.below(v.pages)
+    }
+}
+
+/// Slots that may be erased, or any that hold an obsolete or exposed record, or any at all.
+pub fn slots_to_erase(random: &mut Random, v: &Volume) -> Vec<u32> {
+    let sound = records(&v.words).iter().all(|(_, r)| r.is_sound(v.pages));
+    let tried: Vec<u32> =
+        if v.slots > 64 { (0..20).map(|i| (i * 53 + random.below(53)) % v.slots).collect() } else { (0..v.slots).collect() };
+    let how = random.below(8);
+    let goes = |k: u32| match slot(&v.words, k) {
+        Some(_) if how < 4 => may_erase(&v.words, &v.state, k),
+        Some(r) => r.v != entry(&v.state, r.p).committed,
+        None => false,
+    };
+    let chosen: Vec<u32> = tried.into_iter().filter(|&k| sound && how < 7 && goes(k)).collect();
+    let list = some_of(random, if chosen.is_empty() { (0..v.slots).collect() } else { chosen });
+    spoiled(random, list, v.slots)
+}
+
+/// A wrong size or length for some call.
+pub fn resize(random: &mut Random, v: &mut Volume) {
+    fn cut<T: Copy + Default>(random: &mut Random, list: &mut Vec<T>) {
+        let n = list.len();
+        let wrong = random.pick(&[0, 1, n.saturating_sub(1), n + 1, n / 2, 2 * n, n.saturating_sub(4), n + 4, n + 5, n + 32]);
+        list.resize(wrong, T::default());
+    }
+    match random.below(5) {
+        0 => v.pages = boundary(random, v.pages, v.slots),
+        1 => v.slots = boundary(random, v.pages, v.slots),
+        2 => cut(random, &mut v.words),
+        3 => cut(random, &mut v.contents),
+        _ => cut(random, &mut v.state),
+    }
+}

@@ -1,0 +1,139 @@
+//! Document 01's script program over the calls: one call a line, decimal numbers, what each prints.
+
+use crate::calls::{Calls, NONE, WIDTH};
+use crate::rules::{entry, lowest_slot};
+use crate::volume::{Call, Volume};
+use std::io::{BufRead, Read, Write};
+
+/// "Lines have at most 512 bytes", the LF not counted.
+const LINE_BYTES: usize = 512;
+
+/// "Lists 1 to 64 entries."
+const LIST_ENTRIES: usize = 64;
+
+/// A line of a script.
+#[derive(Debug, PartialEq, Eq)]
+enum Line {
+    Format { pages: u32, slots: u32 },
+    Launch(Vec<u32>),
+    Write { page: u32, slot: u32, fill: u8 },
+    Withdraw(u32),
+    Erase(Vec<u32>),
+    Cut,
+    Recover,
+    List,
+}
+
+/// A decimal number of at most 4,294,967,295; leading zeros count for nothing.
+fn number(text: &str) -> Option<u32> {
+    if text.is_empty() || !text.bytes().all(|b| b.is_ascii_digit()) {
+        return None;
+    }
+    text.bytes().try_fold(0u32, |n, b| n.checked_mul(10)?.checked_add(u32::from(b - b'0')))
+}
+
+fn list(text: &str) -> Option<Vec<u32>> {
+    let entries: Vec<&str> = text.split(',').collect();
+    if entries.len() > LIST_ENTRIES {
+        return None;
+    }
+    entries.into_iter().map(number).collect()
+}
+
+/// The line's meaning, if it has one: fields as shown, one space between, nothing after the last.
+fn parse(line: &[u8]) -> Option<Line> {
+    if line.len() > LINE_BYTES {
+        return None;
+    }
+    let fields: Vec<&str> = std::str::from_utf8(line).ok()?.split(' ').collect();
+    let value = |i: usize, name: &str| fields[i].strip_prefix(name)?.strip_prefix('=');
+    let one = |i: usize, name: &str| number(value(i, name)?);
+    let many = |i: usize, name: &str| list(value(i, name)?);
+    match (value(0, "op")?, fields.len()) {
+        ("format", 3) => Some(Line::Format { pages: one(1, "pages")?, slots: one(2, "slots")? }),
+        ("launch", 2) => Some(Line::Launch(many(1, "pages")?)),
+        ("write", 4) => Some(Line::Write { page: one(1, "page")?, slot: one(2, "slot")?, fill: u8::try_from(one(3, "fill")?).ok()? }),
+        ("withdraw", 2) => Some(Line::Withdraw(one(1, "page")?)),
+        ("erase", 2) => Some(Line::Erase(many(1, "slots")?)),
+        ("cut", 1) => Some(Line::Cut),
+        ("recover", 1) => Some(Line::Recover),
+        ("list", 1) => Some(Line::List),
+        _ => None,
+    }
+}
+
+/// What a script prints.
+pub fn run(calls: &dyn Calls, input: &[u8]) -> Vec<u8> {
+    let mut printed = Vec::new();
+    run_through(calls, input, &mut printed).expect("memory takes every byte");
+    printed
+}
+
+/// Runs a script line by line from a reader to a writer.
+pub fn run_through(calls: &dyn Calls, mut input: impl BufRead, mut output: impl Write) -> std::io::Result<()> {
+    let mut volume = None;
+    loop {
+        let mut line = Vec::new();
+        // One byte more than a line with its LF may have.
+        if (&mut input).take(LINE_BYTES as u64 + 2).read_until(b'\n', &mut line)? == 0 {
+            return Ok(());
+        }
+        if line.last() == Some(&b'\n') {
+            line.pop();
+        }
+        match (parse(&line), &mut volume) {
+            (Some(Line::Format { pages, slots }), volume) => output.write_all(format(calls, pages, slots, volume).as_bytes())?,
+            (Some(line), Some(volume)) => output.write_all(step(calls, volume, line).as_bytes())?,
+            _ => return output.write_all(b"answer=line\n"),
+        }
+    }
+}
+
+/// "A refused later format leaves the volume as it was."
+fn format(calls: &dyn Calls, pages: u32, slots: u32, volume: &mut Option<Volume>) -> String {
+    let mut new = if pages <= 256 && slots <= 1024 { Volume::zeroed(pages, slots) } else { Volume::zeroed(1, 1) };
+    let answer = calls.format(pages, slots, &mut new.words, &mut new.contents, &mut new.state).answer;
+    if answer == 0 {
+        *volume = Some(new);
+    }
+    format!("answer={answer}\n")
+}
+
+/// What a line other than format does and prints.
+fn step(calls: &dyn Calls, volume: &mut Volume, line: Line) -> String {
+    let call = match line {
+        Line::Launch(pages) => Call::Launch(pages),
+        Line::Write { page, slot, fill } => {
+            let reply = volume.call(calls, &Call::Write { page, slot, bytes: vec![fill; WIDTH] });
+            return format!("answer={} done={}\n", reply.answer, reply.second);
+        }
+        Line::Withdraw(page) => Call::Withdraw(page),
+        Line::Erase(slots) => Call::Erase(slots),
+        Line::Recover => Call::Recover,
+        Line::Cut => {
+            volume.state.fill(NONE);
+            return String::from("answer=0\n");
+        }
+        Line::List => return listing(calls, volume).unwrap_or_else(|answer| format!("answer={answer}\n")),
+        Line::Format { .. } => unreachable!("format makes the volume"),
+    };
+    format!("answer={}\n", volume.call(calls, &call).answer)
+}
+
+/// One line for each page, or the number of the first read that is refused.
+fn listing(calls: &dyn Calls, volume: &Volume) -> Result<String, u32> {
+    let mut lines = String::new();
+    for page in 0..volume.pages {
+        let mut bytes = [0; WIDTH];
+        let reply = volume.read(calls, page, &mut bytes);
+        if reply.answer != 0 {
+            return Err(reply.answer);
+        }
+        let version = entry(&volume.state, page).committed;
+        let slot = lowest_slot(&volume.words, page, version).expect("a page that was read has a slot");
+        let drawn = calls.count(&bytes).second;
+        let is = if drawn == 0 { "empty" } else { "set" };
+        lines += &format!("page={page} version={version} slot={slot} drawn={drawn} state={is}\n");
+    }
+    Ok(lines + "answer=0\n")
+}
