@@ -3,7 +3,7 @@ ghost use mathlib.Core.Path.{_≡_};
 ghost use Rattle.bounded.specs.Limits.{width};
 ghost use Rattle.outcome.specs.Outcome.{returned};
 ghost use Rattle.outcome.specs.Row.{RowsHold};
-ghost use Rattle.record.specs.Flash.{flash};
+ghost use Rattle.collect.specs.EraseLaws.{flash};
 ghost use Rattle.bits.specs.Bits.{countOutcome};
 ghost use Rattle.volume.specs.Volume.{volume};
 ghost use Rattle.volume.specs.Format.{formatOutcome};
@@ -16,7 +16,13 @@ ghost use Rattle.atomicity.specs.Promise.{Promise3};
 
 // Format a volume.
 #[no_mangle]
-pub extern "C" fn bpcc_format(pages: u32, slots: u32, words: &mut [u32], contents: &mut [u8], state: &mut [u32]) -> u64
+pub extern "C" fn bpcc_format(
+    pages: u32,
+    slots: u32,
+    words: &mut [u32],
+    contents: &mut [u8],
+    state: &mut [u32],
+) -> u64
     ensures { λ r. ⌜ returned r (volume (now (words .exit)) (now (contents .exit)) (now (state .exit)))
         ≡ formatOutcome width pages slots (volume (now (words .entry)) (now (contents .entry)) (now (state .entry))) ⌝ }
 {
@@ -25,7 +31,14 @@ pub extern "C" fn bpcc_format(pages: u32, slots: u32, words: &mut [u32], content
 
 // Erase a list of slots.
 #[no_mangle]
-pub extern "C" fn bpcc_erase(pages: u32, slots: u32, words: &mut [u32], contents: &mut [u8], state: &[u32], list: &[u32]) -> u64
+pub extern "C" fn bpcc_erase(
+    pages: u32,
+    slots: u32,
+    words: &mut [u32],
+    contents: &mut [u8],
+    state: &[u32],
+    list: &[u32],
+) -> u64
     ensures { λ r. ⌜ returned r (flash (now (words .exit)) (now (contents .exit)))
         ≡ eraseOutcome width pages slots (volume (now (words .entry)) (now (contents .entry)) (now (state .entry))) (now (list .entry)) ⌝ }
 {
@@ -50,7 +63,15 @@ pub extern "C" fn bpcc_count(bytes: &[u8]) -> u64
 
 // Read a page's committed contents.
 #[no_mangle]
-pub extern "C" fn bpcc_read(pages: u32, slots: u32, words: &[u32], contents: &[u8], state: &[u32], page: u32, out: &mut [u8]) -> u64
+pub extern "C" fn bpcc_read(
+    pages: u32,
+    slots: u32,
+    words: &[u32],
+    contents: &[u8],
+    state: &[u32],
+    page: u32,
+    out: &mut [u8],
+) -> u64
     ensures { λ r. ⌜ returned r (now (out .exit))
         ≡ readOutcome width pages slots (volume (now (words .entry)) (now (contents .entry)) (now (state .entry))) page (now (out .entry)) ⌝ }
 {
@@ -61,11 +82,9 @@ pub extern "C" fn bpcc_read(pages: u32, slots: u32, words: &[u32], contents: &[u
 pub fn star_cases()
     ensures cases { λ _. ⌜ RowsHold starTable ⌝ }
     ensures bounds { λ _. ⌜ RowsHold boundRows ⌝ }
-{
-}
+{}
 
 // Promise 3, whole: one theorem over all lists of calls and crashes.
 pub fn promise_3()
     ensures { λ _. ⌜ Promise3 ⌝ }
-{
-}
+{}
