@@ -1,7 +1,7 @@
 -- Where launch, withdraw or write answers 0: what the functions that make its change require, and that they leave what the call says.
 use Prim.Native.Nat.{ℕ, suc, _+_, _*_, _≤_, _<_}
 use native.Mathlib.Omega.{arith}
-use mathlib.Core.Path.{_≡_, refl, sym, ap, _∙_, subst}
+use mathlib.Core.Path.{_≡_, sym, ap, subst}
 use mathlib.Core.List.{List}
 use mathlib.Core.Bool.{Bool, true, false, cond, not, _&&_}
 use lib.Dec.{ltb, eqb}
@@ -14,16 +14,16 @@ use Rattle.bounded.specs.Parts.{putPart}
 use Rattle.bounded.specs.PartsLaws.{part-inside}
 use Rattle.outcome.specs.Outcome.{_⇒_otherwise_, passed}
 use Rattle.record.specs.declared.Record.{Record}
-use Rattle.record.specs.Slot.{slotAt, isBlank, wordsOf}
+use Rattle.record.specs.Slot.{slotAt, wordsOf}
 use Rattle.record.specs.Flash.{apply, putSlot}
-use Rattle.state.specs.State.{stateAt, stateWords, stateSound, inFlight, isWritten}
+use Rattle.state.specs.State.{stateAt, stateWords, stateSound, inFlight}
 use Rattle.state.specs.StateLaws.{state-sound-facts}
 use Rattle.state.specs.Change.{launched, withdrawn, completes, afterWrite}
 use Rattle.state.specs.Walk.{pagesIn, Walkable, Launchable}
 use Rattle.state.specs.WalkLaws.{pages-in}
 use Rattle.table.specs.Table.{tableSound}
 use Rattle.volume.specs.Volume.{Volume, volume, volumeFits, sizesOk, stateFits, listOk}
-use Rattle.volume.specs.SizesLaws.{Fits, fits-facts, state-fits-exactly}
+use Rattle.volume.specs.SizesLaws.{fits-facts, state-fits-exactly}
 use Rattle.volume.specs.ListLaws.{Listed, list-facts}
 use Rattle.transact.specs.Launch.{somePage, usedUp, launchAnswer}
 use Rattle.transact.specs.Write.{planOf, writeAnswer, writeStep, writeDone, writeChange}
@@ -142,10 +142,13 @@ module _ (w P S : ℕ) (v : Volume) (page slot : ℕ) (bytes : List ℕ) where
         contents-in = rw e (omega arith);
       }
 
-  pub write-leaves : writeAnswer w P S v page slot bytes ≡ 0 → (r : Record) → r ≡ planOf (stateAt (v .state)) page → volume (putPart 5 slot (wordsOf r) (v .flash .words)) (putPart (length bytes) slot bytes (v .flash .contents)) (stateWords (pagesIn (v .state)) (afterWrite (pagesIn (v .state)) (stateAt (v .state)) page)) ≡ writeChange w P v page slot bytes
-  unfolding writeChange writeStep apply putSlot
-  write-leaves z r q = let f = write-accepted z in rw (q, f .bytes-sized, f .all-pages)
+  module _ (z : writeAnswer w P S v page slot bytes ≡ 0) where
+    -- the planned record and the bytes in the slot, and the page written
+    pub write-leaves : {words contents state : List ℕ} (r : Record) → r ≡ planOf (stateAt (v .state)) page → words ≡ putPart 5 slot (wordsOf r) (v .flash .words) → contents ≡ putPart (length bytes) slot bytes (v .flash .contents) → state ≡ stateWords (pagesIn (v .state)) (afterWrite (pagesIn (v .state)) (stateAt (v .state)) page) → volume words contents state ≡ writeChange w P v page slot bytes
+    unfolding writeChange writeStep apply putSlot
+    write-leaves r q a b c = let f = write-accepted z in rw (a, b, c, q, f .bytes-sized, f .all-pages)
 
-  pub write-completes : writeAnswer w P S v page slot bytes ≡ 0 → (b : Bool) → b ≡ completes (pagesIn (v .state)) (stateAt (v .state)) page → cond b 1 0 ≡ writeDone P (stateAt (v .state)) page
-  unfolding writeDone
-  write-completes z b q = let f = write-accepted z in rw (q, f .all-pages)
+    -- the second number, from the answer of the walk along the cycle
+    pub write-says : {b : Bool} (done : Bool) → b ≡ completes (pagesIn (v .state)) (stateAt (v .state)) page → b ≡ done → writeDone P (stateAt (v .state)) page ≡ cond done 1 0
+    unfolding writeDone
+    write-says {b} done q e = let f = write-accepted z in rw (← e, q, f .all-pages)

@@ -1,5 +1,5 @@
 use native.Mathlib.Omega.{arith}
-use mathlib.Core.Path.{sym, ap, _∙_}
+use mathlib.Core.Path.{ap}
 use borrow.Author.Needs.{needs}
 use Rattle.record.specs.Slot.{plannedRecord}
 use Rattle.state.specs.declared.PageState.{PageState}
@@ -12,7 +12,7 @@ page-at-requires : tie.Need-page-at-requires
 page-at-requires c κs = search needs
 
 page-at-requires-2 : tie.Need-page-at-requires-2
-page-at-requires-2 c κs = 
+page-at-requires-2 c κs =
     let w = c .before .before .pre in
     let n = walkable-facts _ _ _ w .page _ (w .below) .next-below (w .flies) in
     let q = w .fits in

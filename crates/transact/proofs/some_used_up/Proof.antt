@@ -47,9 +47,9 @@ loop-less c = omega arith
 
 loop-again : tie.Need-loop-again Inv-loop μ-loop
 loop-again c = (
-      omega arith,
-      some-more _ _ (c .before .before .before .before .before .loop .inv .1) (sym (c .before .used-up .ensures ∙ ap usedUp (c .before .before .page-at .ensures)) ∙ c .if1 .left),
-    )
+  omega arith,
+  some-more _ _ (c .before .before .before .before .before .loop .inv .1) (sym (c .before .used-up .ensures ∙ ap usedUp (c .before .before .page-at .ensures)) ∙ c .if1 .left),
+)
 
 returns-2 : tie.Need-returns-2 Inv-loop μ-loop
 unfolding somePage

@@ -22,33 +22,33 @@ state-fits-requires c κs = search needs
 returns-2 : tie.Need-returns-2
 unfolding withdrawAnswer
 returns-2 c = rw (
-      said-yes (c .before .before .before .sizes-ok .ensures) (c .before .before .if1 .left),
-      said-no (c .before .state-fits .ensures) (c .if2 .taken),
-    )
+  said-yes (c .before .before .before .sizes-ok .ensures) (c .before .before .if1 .left),
+  said-no (c .before .state-fits .ensures) (c .if2 .taken),
+)
 
 state-sound-requires : tie.Need-state-sound-requires
-state-sound-requires c κs = 
+state-sound-requires c κs =
     let e = state-fits-exactly _ _ .0 (said-yes (c .before .state-fits .ensures) (c .if2 .left)) in omega arith
 
 returns-3 : tie.Need-returns-3
 unfolding withdrawAnswer
 returns-3 c = rw (
-      said-yes (c .before .before .before .before .before .sizes-ok .ensures) (c .before .before .before .before .if1 .left),
-      said-yes (c .before .before .before .state-fits .ensures) (c .before .before .if2 .left),
-      said-no (c .before .state-sound .ensures) (c .if3 .taken),
-    )
+  said-yes (c .before .before .before .before .before .sizes-ok .ensures) (c .before .before .before .before .if1 .left),
+  said-yes (c .before .before .before .state-fits .ensures) (c .before .before .if2 .left),
+  said-no (c .before .state-sound .ensures) (c .if3 .taken),
+)
 
 returns-4 : tie.Need-returns-4
 unfolding withdrawAnswer
 returns-4 c = rw (
-      said-yes (c .before .before .before .before .before .before .sizes-ok .ensures) (c .before .before .before .before .before .if1 .left),
-      said-yes (c .before .before .before .before .state-fits .ensures) (c .before .before .before .if2 .left),
-      said-yes (c .before .before .state-sound .ensures) (c .before .if3 .left),
-      le-ltb _ _ (c .if4 .taken),
-    )
+  said-yes (c .before .before .before .before .before .before .sizes-ok .ensures) (c .before .before .before .before .before .if1 .left),
+  said-yes (c .before .before .before .before .state-fits .ensures) (c .before .before .before .if2 .left),
+  said-yes (c .before .before .state-sound .ensures) (c .before .if3 .left),
+  le-ltb _ _ (c .if4 .taken),
+)
 
 page-at-requires : tie.Need-page-at-requires
-page-at-requires c κs = 
+page-at-requires c κs =
     let e = state-fits-exactly _ _ .0 (said-yes (c .before .before .before .before .state-fits .ensures) (c .before .before .before .if2 .left)) in omega arith
 
 in-flight-requires : tie.Need-in-flight-requires
@@ -57,22 +57,22 @@ in-flight-requires c κs = search needs
 returns-5 : tie.Need-returns-5
 unfolding withdrawAnswer
 returns-5 c = rw (
-      said-yes (c .before .before .before .before .before .before .before .before .before .sizes-ok .ensures) (c .before .before .before .before .before .before .before .before .if1 .left),
-      said-yes (c .before .before .before .before .before .before .before .state-fits .ensures) (c .before .before .before .before .before .before .if2 .left),
-      said-yes (c .before .before .before .before .before .state-sound .ensures) (c .before .before .before .before .if3 .left),
-      lt-ltb _ _ (c .before .before .before .if4 .left),
-      said-no (c .before .in-flight .ensures ∙ ap inFlight (c .before .before .page-at .ensures)) (c .if5 .taken),
-    )
+  said-yes (c .before .before .before .before .before .before .before .before .before .sizes-ok .ensures) (c .before .before .before .before .before .before .before .before .if1 .left),
+  said-yes (c .before .before .before .before .before .before .before .state-fits .ensures) (c .before .before .before .before .before .before .if2 .left),
+  said-yes (c .before .before .before .before .before .state-sound .ensures) (c .before .before .before .before .if3 .left),
+  lt-ltb _ _ (c .before .before .before .if4 .left),
+  said-no (c .before .in-flight .ensures ∙ ap inFlight (c .before .before .page-at .ensures)) (c .if5 .taken),
+)
 
 returns-6 : tie.Need-returns-6
 unfolding withdrawAnswer
 returns-6 c = rw (
-      said-yes (c .before .before .before .before .before .before .before .before .before .sizes-ok .ensures) (c .before .before .before .before .before .before .before .before .if1 .left),
-      said-yes (c .before .before .before .before .before .before .before .state-fits .ensures) (c .before .before .before .before .before .before .if2 .left),
-      said-yes (c .before .before .before .before .before .state-sound .ensures) (c .before .before .before .before .if3 .left),
-      lt-ltb _ _ (c .before .before .before .if4 .left),
-      said-yes (c .before .in-flight .ensures ∙ ap inFlight (c .before .before .page-at .ensures)) (c .if5 .left),
-    )
+  said-yes (c .before .before .before .before .before .before .before .before .before .sizes-ok .ensures) (c .before .before .before .before .before .before .before .before .if1 .left),
+  said-yes (c .before .before .before .before .before .before .before .state-fits .ensures) (c .before .before .before .before .before .before .if2 .left),
+  said-yes (c .before .before .before .before .before .state-sound .ensures) (c .before .before .before .before .if3 .left),
+  lt-ltb _ _ (c .before .before .before .if4 .left),
+  said-yes (c .before .in-flight .ensures ∙ ap inFlight (c .before .before .page-at .ensures)) (c .if5 .left),
+)
 
 pub withdraw-answer-spec : {M : Type 1} → statement M
 withdraw-answer-spec =
