@@ -1,0 +1,35 @@
+use native.Mathlib.Omega.{arith}
+use mathlib.Core.Path.{ap}
+use borrow.Author.Needs.{needs}
+use Rattle.record.specs.Slot.{plannedRecord}
+use Rattle.state.specs.declared.PageState.{PageState}
+use Rattle.state.specs.WalkLaws.{walkable-facts}
+use Rattle.transact.specs.Write.{planOf}
+use Rattle.transact.proofs.plan_of.Statement.{statement}
+use Rattle.transact.proofs.plan_of.Tie as tie
+
+page-at-requires : tie.Need-page-at-requires
+page-at-requires c κs = search needs
+
+page-at-requires-2 : tie.Need-page-at-requires-2
+page-at-requires-2 c κs =
+    let w = c .before .before .pre in
+    let n = walkable-facts _ _ _ w .page _ (w .below) .next-below (w .flies) in
+    let q = w .fits in
+    omega (arith, ap (λ (s : PageState). s .next) (c .page-at .ensures))
+
+planned-requires : tie.Need-planned-requires
+planned-requires c κs = search needs
+
+returns : tie.Need-returns
+unfolding planOf plannedRecord
+returns c = rw (c .planned .ensures, c .before .page-at2 .ensures, c .before .before .page-at .ensures)
+
+pub plan-of-spec : {M : Type 1} → statement M
+plan-of-spec =
+    tie.close
+    (tie.spec
+    page-at-requires
+    page-at-requires-2
+    planned-requires
+    returns)
