@@ -2,21 +2,22 @@
 use Prim.Native.Nat.{ℕ, zero, suc, _+_, _-_, _≤_, _<_}
 use native.Mathlib.Omega.{arith}
 use mathlib.Core.Path.{_≡_, refl, sym, ap, _∙_, subst}
-use mathlib.Core.Logic.{_⊎_, inl, inr, _↔_}
-use mathlib.Core.Bool.{Bool, true, false}
+use mathlib.Core.Logic.{_↔_}
+use mathlib.Core.Bool.{true}
 use lib.Dec.{eqb}
-use borrow.Author.Tests.{eqb-true, eqb-false, eq-eqb, ne-eqb}
-use Rattle.bounded.specs.Choice.{on-lt, on-eq, on-test, never, same-test}
-use Rattle.bounded.specs.Below.{allBelow, someBelow, firstBelow}
-use Rattle.bounded.specs.BelowLaws.{all-at, all-of, all-cong, some-of, some-at, some-none, some-cong, first-le, first-passes, first-none-before, first-found}
+use borrow.Author.Tests.{eqb-true, eq-eqb}
+use Rattle.bounded.specs.Choice.{on-lt, on-eq, never, same-test}
+use Rattle.bounded.specs.Below.{someBelow, firstBelow}
+use Rattle.bounded.specs.BelowLaws.{all-at, all-of, some-of, some-at, some-cong, first-passes, first-none-before, first-found}
 use Rattle.bounded.specs.Parts.{update}
 use Rattle.bounded.specs.PartsLaws.{update-same, update-other}
 use Rattle.bounded.specs.Pigeonhole.{comes-back}
 use Rattle.state.specs.declared.PageState.{PageState}
 use Rattle.state.specs.State.{inFlight, isWritten}
-use Rattle.state.specs.StateLaws.{PageFacts, StateFacts}
+use Rattle.state.specs.StateLaws.{StateFacts}
 use Rattle.state.specs.Cycle.{along, onCycle, cycleWritten}
 use Rattle.state.specs.Change.{writtenPage, marked}
+use Rattle.state.specs.Walk.{lap}
 
 -- ---- walking
 
@@ -67,10 +68,6 @@ along-marked st p = along-cong (marked st p) st (marked-next st p)
 
 pub on-cycle-marked : (P : ℕ) (st : ℕ → PageState) (p q r : ℕ) → onCycle P (marked st p) q r ≡ onCycle P st q r
 on-cycle-marked P st p = on-cycle-cong P (marked st p) st (marked-next st p)
-
--- the steps from p to its first return
-unfoldable pub lap : ℕ → (ℕ → PageState) → ℕ → ℕ
-lap P st p = suc (firstBelow P (λ k. eqb (along st p (suc k)) p))
 
 -- a page in flight
 pub record Flies (P : ℕ) (st : ℕ → PageState) (p : ℕ) : Type 0 where

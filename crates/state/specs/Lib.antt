@@ -3,4 +3,9 @@ pub mod Cycle
 pub mod Change
 pub mod Computing
 pub mod StateLaws
+pub mod Walk
 pub mod CycleLaws
+pub mod WalkLaws
+pub mod CompletionLaws
+pub mod LaunchLaws
+pub mod ChangeLaws
