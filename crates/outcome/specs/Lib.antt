@@ -1,3 +1,4 @@
 pub mod Outcome
 pub mod Row
 pub mod Computing
+pub mod Reply

@@ -2,9 +2,9 @@
 use Prim.Native.Nat.{ℕ, suc, _+_, _*_, _-_, _≤_, _<_}
 use native.Mathlib.Omega.{arith}
 use native.Mathlib.Numerals.{add-one}
-use mathlib.Core.Path.{_≡_, refl, sym, ap, _∙_, subst}
-use mathlib.Core.List.{List, [], _∷_, _++_, append-nil}
-use lib.ListN.{length, take, drop, set, getD, drop-of-length-le}
+use mathlib.Core.Path.{_≡_, refl, subst}
+use mathlib.Core.List.{List, [], _∷_, append-nil}
+use lib.ListN.{length, set, getD, drop-of-length-le}
 use lib.Seq.{paste, paste-zero, paste-suc, length-paste, take-length}
 use borrow.Rule.Slice.PartMut.{putMid, post-is}
 use Rattle.bounded.specs.Parts.{putAt, putPart}

@@ -2,7 +2,8 @@
 // The definitions are in specs/.
 ghost use mathlib.Core.Path.{_≡_};
 ghost use Prim.Native.Nat.{_+_, _*_, _≤_};
-ghost use lib.ListN.{length};
+ghost use lib.ListN.{length, replicate};
+ghost use Rattle.bounded.specs.Limits.{width};
 ghost use Rattle.bounded.specs.Parts.{putPart};
 ghost use Rattle.record.specs.SlotLaws.{cBeforeV};
 ghost use Rattle.record.specs.Slot.{wordsOf, allBlank, slotOf, slotAt, bytesAt, blankRecord, formattedRecord, plannedRecord, recordSound, slotSound, isBlank, straddles};
@@ -217,6 +218,17 @@ pub fn put_slot(words: &mut [u32], contents: &mut [u8], slot: u32, record: Recor
     let b = w * (slot as usize);
     store_record(&mut words[a..a + 5], record);
     copy_contents(&mut contents[b..b + w], bytes);
+}
+
+// A slot blanked: all five words 4,294,967,295, "with bytes 255".
+pub fn blank_slot(words: &mut [u32], contents: &mut [u8], slot: u32)
+    requires { ⌜ 5 * slot + 5 ≤ length (now words) ⌝ }
+    requires { ⌜ width * slot + width ≤ length (now contents) ⌝ }
+    ensures { λ _. ⌜ now (words .exit) ≡ putPart 5 slot (wordsOf blankRecord) (now (words .entry)) ⌝ }
+    ensures { λ _. ⌜ now (contents .exit) ≡ putPart width slot (replicate width 255) (now (contents .entry)) ⌝ }
+{
+    let bytes = [255u8; 32];
+    put_slot(words, contents, slot, Record::BLANK, &bytes);
 }
 
 // A slot's bytes, copied out: bytes wk to wk+w-1, where w is the length of `out`.

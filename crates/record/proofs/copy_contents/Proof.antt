@@ -3,7 +3,7 @@ use native.Mathlib.Omega.{arith}
 use mathlib.Core.Path.{_≡_, refl, ap, _∙_}
 use mathlib.Core.List.{List}
 use lib.ListN.{length, set, getD, length-set}
-use Rattle.record.specs.CopyLaws.{copied, copied-none, copied-more, copied-length, copied-all}
+use Rattle.record.specs.CopyLaws.{copied, copied-none, copied-more, copied-all}
 use Rattle.record.proofs.copy_contents.Statement.{statement}
 use Rattle.record.proofs.copy_contents.Tie as tie
 

@@ -5,27 +5,25 @@ use Rattle.record.specs.SlotLaws.{cBeforeV}
 use Rattle.record.proofs.Record.is_sound.Statement.{statement}
 use Rattle.record.proofs.Record.is_sound.Tie as tie
 
-ruleset tests = (ne-eqb, eq-eqb, lt-ltb, le-ltb, le-leb, lt-leb)
-
 returns : tie.Need-returns
 unfolding recordSound
-returns c = search tests
+returns c = rw (le-ltb _ _ (c .if1 .taken))
 
 returns-2 : tie.Need-returns-2
 unfolding recordSound
-returns-2 c = search tests
+returns-2 c = rw (lt-ltb _ _ (c .before .before .if1 .left), le-ltb _ _ (c .if2 .taken))
 
 returns-3 : tie.Need-returns-3
 unfolding recordSound
-returns-3 c = search tests
+returns-3 c = rw (lt-ltb _ _ (c .before .before .before .before .if1 .left), lt-ltb _ _ (c .before .before .if2 .left), lt-leb _ _ (c .if3 .taken))
 
 returns-4 : tie.Need-returns-4
 unfolding recordSound
-returns-4 c = search tests
+returns-4 c = rw (lt-ltb _ _ (c .before .before .before .before .before .before .if1 .left), lt-ltb _ _ (c .before .before .before .before .if2 .left), le-leb _ _ (c .before .before .if3 .left), lt-leb _ _ (c .if4 .taken))
 
 returns-5 : tie.Need-returns-5
 unfolding recordSound
-returns-5 c = search tests
+returns-5 c = rw (lt-ltb _ _ (c .before .before .before .before .before .before .before .before .if1 .left), lt-ltb _ _ (c .before .before .before .before .before .before .if2 .left), le-leb _ _ (c .before .before .before .before .if3 .left), le-leb _ _ (c .before .before .if4 .left), lt-leb _ _ (c .if5 .taken))
 
 c-before-v-requires : tie.Need-c-before-v-requires
 c-before-v-requires c κs = tt
