@@ -13,6 +13,10 @@ pub record Volume : Type 0 where
   pub flash : Flash
   pub state : List ℕ
 
+-- the volume of these three buffers
+abbrev pub volume : (words contents state : List ℕ) → Volume
+volume words contents state = record { flash = record { words = words; contents = contents }; state = state }
+
 -- "P pages (pistons), 1 to 256 … S slots, P to 1,024"
 unfoldable pub sizesOk : (P S : ℕ) → Bool
 sizesOk P S = leb 1 P && (leb P maxPages && (leb P S && leb S maxSlots))

@@ -1,0 +1,15 @@
+use borrow.Author.Needs.{needs}
+use mathlib.Core.Path.{refl}
+use Rattle.volume.specs.Volume.{stateFits}
+use Rattle.volume.proofs.state_fits.Statement.{statement}
+use Rattle.volume.proofs.state_fits.Tie as tie
+
+mul-result : tie.Need-mul-result
+mul-result c = search needs
+
+returns : tie.Need-returns
+unfolding stateFits
+returns c = refl
+
+pub state-fits-spec : {M : Type 1} → statement M
+state-fits-spec = tie.close (tie.spec mul-result returns)

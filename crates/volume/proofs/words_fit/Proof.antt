@@ -1,0 +1,15 @@
+use borrow.Author.Needs.{needs}
+use mathlib.Core.Path.{refl}
+use Rattle.volume.specs.Volume.{wordsFit}
+use Rattle.volume.proofs.words_fit.Statement.{statement}
+use Rattle.volume.proofs.words_fit.Tie as tie
+
+mul-result : tie.Need-mul-result
+mul-result c = search needs
+
+returns : tie.Need-returns
+unfolding wordsFit
+returns c = refl
+
+pub words-fit-spec : {M : Type 1} → statement M
+words-fit-spec = tie.close (tie.spec mul-result returns)
