@@ -130,17 +130,27 @@ used-raised n k t r a b e hp hn ea eb =
 
 -- ---- the answer
 
--- the answer by the slot table, where the sizes are right
-unfoldable pub tableAnswer : (P S : ℕ) → (ℕ → Slot) → ℕ
-tableAnswer P S t =
-    not (tableSound P S t) ⇒ 2 otherwise
-    (someClash S t || not (allBelow P (hasRecord S t))) ⇒ 3 otherwise
+-- the answer by the links, where each page has a record
+unfoldable pub linksAnswer : (P S : ℕ) → (ℕ → Slot) → ℕ
+linksAnswer P S t =
     someBelow P (λ p. isAstray (walkOf P S t p .end)) ⇒ 4 otherwise
     not (allBelow P (λ p. hasVersion S t p (committedOf P S t p))) ⇒ 14 otherwise
     0
 
+-- the answer by the slot table, where the sizes are right
+unfoldable pub tableAnswer : (P S : ℕ) → (ℕ → Slot) → ℕ
+unfolding linksAnswer
+tableAnswer P S t =
+    not (tableSound P S t) ⇒ 2 otherwise
+    (someClash S t || not (allBelow P (hasRecord S t))) ⇒ 3 otherwise
+    linksAnswer P S t
+
+pub answer-by-links : (P S : ℕ) (t : ℕ → Slot) → tableSound P S t ≡ true → someClash S t ≡ false → allBelow P (hasRecord S t) ≡ true → linksAnswer P S t ≡ tableAnswer P S t
+unfolding tableAnswer
+answer-by-links P S t a b c = rw (a, b, c)
+
 pub answer-by-table : (P S : ℕ) (words state : List ℕ) → sizesOk P S ≡ true → wordsFit S words ≡ true → stateFits P state ≡ true → tableAnswer P S (slotAt words) ≡ recoverAnswer P S words state
-unfolding tableAnswer recoverAnswer
+unfolding linksAnswer tableAnswer recoverAnswer
 answer-by-table P S words state a b c = rw (a, b, c)
 
 -- the sizes are wrong
