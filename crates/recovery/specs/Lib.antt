@@ -5,3 +5,6 @@ pub mod Recover
 pub mod RecoverLaws
 pub mod Cases
 pub mod Computing
+pub mod Codes
+pub mod WalkLaws
+pub mod Tables

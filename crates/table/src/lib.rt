@@ -1,10 +1,15 @@
 // The slot table: soundness, equal page and version, the lowest slot of a version, each page's highest record.
 // The definitions are in specs/.
 ghost use mathlib.Core.Path.{_≡_};
-ghost use Prim.Native.Nat.{_+_, _*_, _≤_};
+ghost use Prim.Native.Nat.{_+_, _*_, _≤_, _<_};
 ghost use lib.ListN.{length};
 ghost use Rattle.record.specs.Slot.{slotAt, holds};
-ghost use Rattle.table.specs.Table.{tableSound, ofVersion, lowestSlot};
+ghost use mathlib.Core.Bool.{true};
+ghost use Rattle.bounded.specs.Below.{someBelow};
+ghost use Rattle.table.specs.Table.{tableSound, ofVersion, clash, someClash, lowestSlot, above};
+ghost use Rattle.table.specs.HighestSlot.{named, highestSlot};
+ghost use Rattle.table.specs.Tabulate.{tabulate};
+use record::Record;
 use record::Slot;
 
 // No "slot neither blank nor sound".
@@ -48,4 +53,99 @@ pub fn lowest_slot(words: &[u32], slots: u32, page: u32, version: u32) -> u32
         k += 1;
     }
     slots
+}
+
+// "two records with equal page and version"
+pub fn clashes(a: Slot, b: Slot) -> bool
+    ensures { λ r. ⌜ r ≡ clash a b ⌝ }
+{
+    let Slot::Holds(record) = b else {
+        return false;
+    };
+    holds_version(a, record.p, record.v)
+}
+
+// Some slot below k clashes with slot k.
+fn some_clash_below(words: &[u32], k: u32) -> bool
+    requires { ⌜ 5 * k + 5 ≤ length (now words) ⌝ }
+    ensures { λ r. ⌜ r ≡ someBelow k (λ j. clash (slotAt (now (words .entry)) j) (slotAt (now (words .entry)) k)) ⌝ }
+{
+    let slot = record::slot_at(words, k);
+    let mut j = 0;
+    while j < k {
+        if clashes(record::slot_at(words, j), slot) {
+            return true;
+        }
+        j += 1;
+    }
+    false
+}
+
+// Two slots of the table clash.
+pub fn some_clash(words: &[u32], slots: u32) -> bool
+    requires { ⌜ 5 * slots ≤ length (now words) ⌝ }
+    ensures { λ r. ⌜ r ≡ someClash slots (slotAt (now (words .entry))) ⌝ }
+{
+    let mut k = 0;
+    while k < slots {
+        if some_clash_below(words, k) {
+            return true;
+        }
+        k += 1;
+    }
+    false
+}
+
+// What a slot number names: the slot, or blank where it is no slot of the table.
+pub fn named_slot(words: &[u32], slots: u32, slot: u32) -> Slot
+    requires { ⌜ 5 * slots ≤ length (now words) ⌝ }
+    ensures { λ r. ⌜ r ≡ named slots (slotAt (now (words .entry))) slot ⌝ }
+{
+    if slot >= slots {
+        return Slot::Blank;
+    }
+    record::slot_at(words, slot)
+}
+
+// The record's version is above what stands in `best`.
+fn is_above(best: Slot, record: Record) -> bool
+    ensures { λ r. ⌜ r ≡ above best «record» ⌝ }
+{
+    let Slot::Holds(held) = best else {
+        return true;
+    };
+    held.v < record.v
+}
+
+// Slot k's record, where it is above its page's highest so far, becomes its page's highest.
+fn raise_highest(words: &[u32], pages: u32, slots: u32, k: u32, top: &mut [u32; 256])
+    requires { ⌜ 5 * slots ≤ length (now words) ⌝ }
+    requires { ⌜ pages ≤ 256 ⌝ }
+    requires { ⌜ k < slots ⌝ }
+    requires { ⌜ tableSound pages slots (slotAt (now words)) ≡ true ⌝ }
+    requires { ⌜ now top ≡ tabulate 256 (highestSlot slots k (slotAt (now words))) ⌝ }
+    ensures { λ _. ⌜ now (top .exit) ≡ tabulate 256 (highestSlot slots (k + 1) (slotAt (now (words .entry)))) ⌝ }
+{
+    let Slot::Holds(record) = record::slot_at(words, k) else {
+        return;
+    };
+    let p = record.p as usize;
+    if is_above(named_slot(words, slots, top[p]), record) {
+        top[p] = k;
+    }
+}
+
+// Each page's slot with its highest record, in one pass over the slots: entry p is page p's, `slots` where p has no record.
+pub fn highest_slots(words: &[u32], pages: u32, slots: u32, top: &mut [u32; 256])
+    requires { ⌜ 5 * slots ≤ length (now words) ⌝ }
+    requires { ⌜ pages ≤ 256 ⌝ }
+    requires { ⌜ tableSound pages slots (slotAt (now words)) ≡ true ⌝ }
+    ensures { λ _. ⌜ now (top .exit) ≡ tabulate 256 (highestSlot slots slots (slotAt (now (words .entry)))) ⌝ }
+{
+    *top = [slots; 256];
+    let mut k = 0;
+    while k < slots {
+        raise_highest(words, pages, slots, k, top);
+        k += 1;
+    }
 }

@@ -1,0 +1,54 @@
+use borrow.Author.Needs.{needs}
+use mathlib.Core.Path.{_≡_, sym, ap, ap₂, _∙_}
+use lib.ListN.{set}
+use Rattle.record.specs.Slot.{slotAt}
+use Rattle.recovery.specs.declared.Walk.{Walk}
+use Rattle.recovery.specs.Recover.{walkOf, isAstray, committedBy, committedOf}
+use Rattle.recovery.specs.Tables.{codes-inside, codes-walk}
+use Rattle.recovery.proofs.committed.commit_page.Statement.{statement}
+use Rattle.recovery.proofs.committed.commit_page.Tie as tie
+
+follow-from-requires : tie.Need-follow-from-requires
+follow-from-requires c κs =
+    let pre = c .before .pre in
+    (pre .0 .pages-most, (pre .1 .0, codes-inside _ _ _ _ (pre .0) _ (pre .1 .1)))
+
+highest-of-requires : tie.Need-highest-of-requires
+highest-of-requires c κs = search needs
+
+committed-requires : tie.Need-committed-requires
+committed-requires c κs = search needs
+
+mul-committed : tie.Need-mul-committed
+mul-committed c = search needs
+
+element-write-committed : tie.Need-element-write-committed
+element-write-committed c = search needs
+
+is-astray-requires : tie.Need-is-astray-requires
+is-astray-requires c κs = search needs
+
+returns : tie.Need-returns
+unfolding committedOf
+returns c =
+    let f = c .before .before .before in
+    let pre = f .before .before .pre in
+    let a = f .before .before .args in
+    let walked : f .follow-from .result ≡ walkOf (a .pages) (a .slots) (slotAt (a .words .now)) (a .page) =
+    f .follow-from .ensures ∙ sym (codes-walk _ _ _ _ (pre .0) _ (pre .1 .1) _ (pre .1 .0)) in
+    let ended = ap (λ (w : Walk). w .end) walked in (
+      c .is-astray .ensures ∙ ap isAstray ended,
+      ap (set (a .committed .now) (a .page)) (c .before .committed .ensures ∙ ap₂ committedBy ended (c .before .before .highest-of .ensures)),
+    )
+
+pub commit-page-spec : {M : Type 1} → statement M
+commit-page-spec =
+    tie.close
+    (tie.spec
+    follow-from-requires
+    highest-of-requires
+    committed-requires
+    mul-committed
+    element-write-committed
+    is-astray-requires
+    returns)

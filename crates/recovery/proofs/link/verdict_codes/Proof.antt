@@ -1,0 +1,81 @@
+use native.Mathlib.Omega.{arith}
+use Prim.Native.Nat.{ℕ, _≤_, _-_}
+use mathlib.Core.Path.{_≡_, ap, _∙_}
+use mathlib.Core.List.{List}
+use lib.ListN.{set}
+use Rattle.record.specs.Slot.{slotAt}
+use Rattle.table.specs.Tabulate.{tabulatedTo, tabulated-none, tabulated-more, tabulated-all}
+use Rattle.recovery.specs.Codes.{codeOf}
+use Rattle.recovery.specs.Verdict.{verdict}
+use Rattle.recovery.specs.Tables.{code-beyond}
+use Rattle.recovery.proofs.link.verdict_codes.Statement.{statement}
+use Rattle.recovery.proofs.link.verdict_codes.Tie as tie
+
+abbrev Inv-loop : tie.InvT-loop
+Inv-loop words pages slots top codes₀ page₀ codes page = (page ≤ pages) × (codes ≡ tabulatedTo 256 (λ p. codeOf (verdict slots (slotAt words) p)) 257 page)
+
+abbrev μ-loop : tie.MeasureT-loop
+μ-loop words pages slots top codes₀ page₀ codes page = pages - page
+
+loop-holds : tie.Need-loop-holds Inv-loop μ-loop
+loop-holds c = (omega arith, tabulated-none 256 _ 257)
+
+verdict-of-requires : tie.Need-verdict-of-requires Inv-loop μ-loop
+verdict-of-requires c κs =
+    let pre = c .before .before .before .before .pre in
+    (pre, omega arith)
+
+code-requires : tie.Need-code-requires Inv-loop μ-loop
+code-requires c κs = tt
+
+cast-codes : tie.Need-cast-codes Inv-loop μ-loop
+cast-codes c = omega arith
+
+mul-codes : tie.Need-mul-codes Inv-loop μ-loop
+mul-codes c = omega arith
+
+element-write-codes : tie.Need-element-write-codes Inv-loop μ-loop
+element-write-codes c = omega arith
+
+add-page : tie.Need-add-page Inv-loop μ-loop
+add-page c = omega arith
+
+loop-less : tie.Need-loop-less Inv-loop μ-loop
+loop-less c = omega arith
+
+loop-again : tie.Need-loop-again Inv-loop μ-loop
+loop-again c =
+    let l = c .before .before .before .loop in
+    let a = c .before .before .before .before .before .before .args in
+    let pre = c .before .before .before .before .before .before .pre in
+    let f : ℕ → ℕ = λ p. codeOf (verdict (a .slots) (slotAt (a .words .now)) p) in (
+      omega arith,
+      ap (λ (x : List ℕ). set x (l .page) (c .code .result)) (l .inv .1)
+          ∙ ap (set (tabulatedTo 256 f 257 (l .page)) (l .page)) (c .code .ensures ∙ ap codeOf (c .before .verdict-of .ensures))
+          ∙ tabulated-more 256 f 257 (l .page) (let m = pre .pages-most in omega arith),
+    )
+
+returns : tie.Need-returns Inv-loop μ-loop
+returns c =
+    let l = c .before .loop in
+    let a = c .before .before .before .before .args in
+    let f : ℕ → ℕ = λ p. codeOf (verdict (a .slots) (slotAt (a .words .now)) p) in
+    let e : l .page ≡ a .pages = omega arith in
+    l .inv .1 ∙ ap (tabulatedTo 256 f 257) e ∙ tabulated-all 256 f 257 (a .pages) (code-beyond _ _ _ _ (c .before .before .before .before .pre))
+
+pub verdict-codes-spec : {M : Type 1} → statement M
+verdict-codes-spec =
+    tie.close
+    (tie.spec
+    Inv-loop
+    μ-loop
+    loop-holds
+    verdict-of-requires
+    code-requires
+    cast-codes
+    mul-codes
+    element-write-codes
+    add-page
+    loop-less
+    loop-again
+    returns)

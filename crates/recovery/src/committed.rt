@@ -1,0 +1,146 @@
+// Committed versions: following verdicts from each page, and whether the versions found are there.
+
+use super::End;
+use super::Verdict;
+use super::Walk;
+use super::link::highest_of;
+use super::link::verdict_codes;
+ghost use mathlib.Core.Path.{_≡_};
+ghost use mathlib.Core.Bool.{false};
+ghost use Prim.Native.Nat.{_*_, _≤_, _<_};
+ghost use lib.ListN.{length, getD, set};
+ghost use Rattle.bounded.specs.Below.{allBelow, someBelow};
+ghost use Rattle.record.specs.Slot.{slotAt};
+ghost use Rattle.table.specs.Table.{hasVersion};
+ghost use Rattle.table.specs.Tabulate.{tabulate};
+ghost use Rattle.recovery.specs.Codes.{coded, StaysInside};
+ghost use Rattle.recovery.specs.Follow.{follow};
+ghost use Rattle.recovery.specs.Recover.{walkOf, isAstray, committedOf};
+ghost use Rattle.recovery.specs.Tables.{Surveyed, verdictCodes, linksAnswer};
+
+// The walk from a page over the codes of verdicts.
+fn follow_from(codes: &[u32; 256], pages: u32, start: u32) -> Walk
+    requires { ⌜ pages ≤ 256 ⌝ }
+    requires { ⌜ start < pages ⌝ }
+    requires { ⌜ StaysInside pages (coded (now codes)) ⌝ }
+    ensures { λ r. ⌜ r ≡ follow pages (coded (now (codes .entry))) start ⌝ }
+{
+    let mut page = start;
+    let mut links = 0;
+    while links < pages {
+        match Verdict::of_code(codes[page as usize]) {
+            Verdict::Committed => {
+                return Walk {
+                    end: End::Committed,
+                    links: links + 1,
+                };
+            }
+            Verdict::Uncommitted => {
+                return Walk {
+                    end: End::Uncommitted,
+                    links: links + 1,
+                };
+            }
+            Verdict::On(next) => {
+                if next == start {
+                    return Walk {
+                        end: End::Committed,
+                        links: links + 1,
+                    };
+                }
+                page = next;
+            }
+        }
+        links += 1;
+    }
+    Walk {
+        end: End::Astray,
+        links: links,
+    }
+}
+
+// Stores a page's committed version; says whether its links run astray.
+fn commit_page(
+    words: &[u32],
+    pages: u32,
+    slots: u32,
+    top: &[u32; 256],
+    codes: &[u32; 256],
+    page: u32,
+    committed: &mut [u32; 256],
+) -> bool
+    requires { ⌜ Surveyed pages slots (now words) (now top) ⌝ }
+    requires { ⌜ page < pages ⌝ }
+    requires { ⌜ now codes ≡ verdictCodes slots (slotAt (now words)) ⌝ }
+    ensures { λ r. ⌜ r ≡ isAstray (walkOf pages slots (slotAt (now (words .entry))) page .end) ⌝ }
+    ensures { λ _. ⌜ now (committed .exit) ≡ set (now (committed .entry)) page (committedOf pages slots (slotAt (now (words .entry))) page) ⌝ }
+{
+    let walk = follow_from(codes, pages, page);
+    let end = walk.end;
+    committed[page as usize] = end.committed(highest_of(words, pages, slots, top, page));
+    end.is_astray()
+}
+
+// Each page's committed version; says whether some page's links run astray.
+fn committed_versions(
+    words: &[u32],
+    pages: u32,
+    slots: u32,
+    top: &[u32; 256],
+    codes: &[u32; 256],
+    committed: &mut [u32; 256],
+) -> bool
+    requires { ⌜ Surveyed pages slots (now words) (now top) ⌝ }
+    requires { ⌜ now codes ≡ verdictCodes slots (slotAt (now words)) ⌝ }
+    ensures { λ r. ⌜ r ≡ someBelow pages (λ p. isAstray (walkOf pages slots (slotAt (now (words .entry))) p .end)) ⌝ }
+    ensures { λ r. ⌜ (r ≡ false → now (committed .exit) ≡ tabulate 256 (committedOf pages slots (slotAt (now (words .entry))))) ⌝ }
+{
+    *committed = [0; 256];
+    let mut page = 0;
+    while page < pages {
+        if commit_page(words, pages, slots, top, codes, page, committed) {
+            return true;
+        }
+        page += 1;
+    }
+    false
+}
+
+// Each page has a record with the version in the table.
+fn versions_present(words: &[u32], pages: u32, slots: u32, versions: &[u32; 256]) -> bool
+    requires { ⌜ 5 * slots ≤ length (now words) ⌝ }
+    requires { ⌜ pages ≤ 256 ⌝ }
+    ensures { λ r. ⌜ r ≡ allBelow pages (λ p. hasVersion slots (slotAt (now (words .entry))) p (getD (now (versions .entry)) p 0)) ⌝ }
+{
+    let mut page: u32 = 0;
+    while page < pages {
+        if table::lowest_slot(words, slots, page, versions[page as usize]) >= slots {
+            return false;
+        }
+        page += 1;
+    }
+    true
+}
+
+// The answer by the links, 4 or 14, where each page has a record. An accepted table's committed versions are filled in.
+pub fn links_answer(
+    words: &[u32],
+    pages: u32,
+    slots: u32,
+    top: &[u32; 256],
+    committed: &mut [u32; 256],
+) -> u32
+    requires { ⌜ Surveyed pages slots (now words) (now top) ⌝ }
+    ensures { λ r. ⌜ r ≡ linksAnswer pages slots (slotAt (now (words .entry))) ⌝ }
+    ensures { λ r. ⌜ (r ≡ 0 → now (committed .exit) ≡ tabulate 256 (committedOf pages slots (slotAt (now (words .entry))))) ⌝ }
+{
+    let mut codes = [0; 256];
+    verdict_codes(words, pages, slots, top, &mut codes);
+    if committed_versions(words, pages, slots, top, &codes, committed) {
+        return 4;
+    }
+    if !versions_present(words, pages, slots, committed) {
+        return 14;
+    }
+    0
+}

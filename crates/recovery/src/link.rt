@@ -1,0 +1,106 @@
+// One link's verdict: the highest record of a page, the search for a straddler, and the table of verdicts.
+
+use super::Verdict;
+use record::Record;
+use record::Slot;
+ghost use mathlib.Core.Path.{_≡_};
+ghost use Prim.Native.Nat.{_*_, _≤_, _<_};
+ghost use lib.ListN.{length};
+ghost use Rattle.record.specs.Slot.{slotAt, holds, straddles};
+ghost use Rattle.table.specs.Table.{highest, versionIn};
+ghost use Rattle.recovery.specs.Verdict.{isStraddled, linkVerdict, verdict};
+ghost use Rattle.recovery.specs.Tables.{Surveyed, verdictCodes};
+
+// The slot holds a record that straddles the link.
+fn slot_straddles(slot: Slot, link: Record) -> bool
+    ensures { λ r. ⌜ r ≡ holds (λ K. straddles K link) slot ⌝ }
+{
+    let Slot::Holds(record) = slot else {
+        return false;
+    };
+    record.straddles(link)
+}
+
+// "any record straddles J's link": the search ends at the first that does.
+fn is_straddled(words: &[u32], slots: u32, link: Record) -> bool
+    requires { ⌜ 5 * slots ≤ length (now words) ⌝ }
+    ensures { λ r. ⌜ r ≡ isStraddled slots (slotAt (now (words .entry))) link ⌝ }
+{
+    let mut k = 0;
+    while k < slots {
+        if slot_straddles(record::slot_at(words, k), link) {
+            return true;
+        }
+        k += 1;
+    }
+    false
+}
+
+// The version in a slot; 0 where it is blank.
+fn version_in(slot: Slot) -> u32
+    ensures { λ r. ⌜ r ≡ versionIn slot ⌝ }
+{
+    let Slot::Holds(record) = slot else {
+        return 0;
+    };
+    record.v
+}
+
+// A page's highest record, by the table of highest slots.
+pub fn highest_of(words: &[u32], pages: u32, slots: u32, top: &[u32; 256], page: u32) -> Slot
+    requires { ⌜ Surveyed pages slots (now words) (now top) ⌝ }
+    requires { ⌜ page < 256 ⌝ }
+    ensures { λ r. ⌜ r ≡ highest slots (slotAt (now (words .entry))) page ⌝ }
+{
+    table::named_slot(words, slots, top[page as usize])
+}
+
+// What the link of a record says.
+fn link_verdict(words: &[u32], pages: u32, slots: u32, top: &[u32; 256], link: Record) -> Verdict
+    requires { ⌜ Surveyed pages slots (now words) (now top) ⌝ }
+    requires { ⌜ link .np < 256 ⌝ }
+    ensures { λ r. ⌜ r ≡ linkVerdict slots (slotAt (now (words .entry))) link ⌝ }
+{
+    let hv = version_in(highest_of(words, pages, slots, top, link.np));
+    if link.nv < hv {
+        if is_straddled(words, slots, link) {
+            return Verdict::Uncommitted;
+        }
+        return Verdict::Committed;
+    }
+    if hv < link.nv {
+        return Verdict::Uncommitted;
+    }
+    Verdict::On(link.np)
+}
+
+// What the link of a page's highest record says.
+fn verdict_of(words: &[u32], pages: u32, slots: u32, top: &[u32; 256], page: u32) -> Verdict
+    requires { ⌜ Surveyed pages slots (now words) (now top) ⌝ }
+    requires { ⌜ page < 256 ⌝ }
+    ensures { λ r. ⌜ r ≡ verdict slots (slotAt (now (words .entry))) page ⌝ }
+{
+    let Slot::Holds(link) = highest_of(words, pages, slots, top, page) else {
+        return Verdict::Uncommitted;
+    };
+    link_verdict(words, pages, slots, top, link)
+}
+
+// Each page's verdict, computed once.
+pub fn verdict_codes(
+    words: &[u32],
+    pages: u32,
+    slots: u32,
+    top: &[u32; 256],
+    codes: &mut [u32; 256],
+)
+    requires { ⌜ Surveyed pages slots (now words) (now top) ⌝ }
+    ensures { λ _. ⌜ now (codes .exit) ≡ verdictCodes slots (slotAt (now (words .entry))) ⌝ }
+{
+    *codes = [257; 256];
+    let mut page: u32 = 0;
+    while page < pages {
+        codes[page as usize] = verdict_of(words, pages, slots, top, page).code();
+        page += 1;
+    }
+}

@@ -1,0 +1,56 @@
+use Prim.Native.Nat.{ℕ, _≤_, _-_}
+use native.Mathlib.Omega.{arith}
+use mathlib.Core.Path.{_≡_, sym, ap₂, _∙_}
+use mathlib.Core.Bool.{true, false}
+use Rattle.bounded.specs.Below.{someBelow}
+use Rattle.bounded.specs.BelowLaws.{some-zero, some-more, some-of}
+use Rattle.record.specs.Slot.{slotAt}
+use Rattle.table.specs.Table.{clash}
+use Rattle.table.proofs.some_clash_below.Statement.{statement}
+use Rattle.table.proofs.some_clash_below.Tie as tie
+
+abbrev Inv-loop : tie.InvT-loop
+Inv-loop words k slot j₀ j = (j ≤ k) × (someBelow j (λ i. clash (slotAt words i) (slotAt words k)) ≡ false)
+
+abbrev μ-loop : tie.MeasureT-loop
+μ-loop words k slot j₀ j = k - j
+
+slot-at-requires : tie.Need-slot-at-requires Inv-loop μ-loop
+slot-at-requires c κs = omega arith
+
+loop-holds : tie.Need-loop-holds Inv-loop μ-loop
+loop-holds c = (omega arith, some-zero _)
+
+slot-at-requires-2 : tie.Need-slot-at-requires-2 Inv-loop μ-loop
+slot-at-requires-2 c κs = omega arith
+
+clashes-requires : tie.Need-clashes-requires Inv-loop μ-loop
+clashes-requires c κs = tt
+
+returns : tie.Need-returns Inv-loop μ-loop
+returns c =
+    sym (some-of _ _ (c .before .before .before .before .loop .j) (c .before .before .before .loop-test .taken)
+    (sym (c .before .clashes .ensures ∙ ap₂ clash (c .before .before .slot-at2 .ensures) (c .before .before .before .before .before .slot-at .ensures)) ∙ c .if1 .taken))
+
+add-j : tie.Need-add-j Inv-loop μ-loop
+add-j c = omega arith
+
+loop-less : tie.Need-loop-less Inv-loop μ-loop
+loop-less c = omega arith
+
+loop-again : tie.Need-loop-again Inv-loop μ-loop
+loop-again c = (
+  omega arith,
+  some-more _ _ (c .before .before .before .before .loop .inv .1)
+      (sym (c .before .clashes .ensures ∙ ap₂ clash (c .before .before .slot-at2 .ensures) (c .before .before .before .before .before .slot-at .ensures)) ∙ c .if1 .left),
+)
+
+returns-2 : tie.Need-returns-2 Inv-loop μ-loop
+returns-2 c =
+    let l = c .before .loop in
+    let e : l .j ≡ c .before .before .before .before .args .k = omega arith in
+    sym (rw e at (l .inv .1))
+
+pub some-clash-below-spec : {M : Type 1} → statement M
+some-clash-below-spec =
+    tie.close (tie.spec Inv-loop μ-loop slot-at-requires loop-holds slot-at-requires-2 clashes-requires returns add-j loop-less loop-again returns-2)
