@@ -1,12 +1,12 @@
 -- Write, withdrawal and completion leave a sound state sound.
 use Prim.Native.Nat.{ℕ, _≤_, _<_}
 use native.Mathlib.Omega.{arith}
-use mathlib.Core.Path.{_≡_, refl, sym, ap, _∙_, subst, fun-ext}
+use mathlib.Core.Path.{_≡_, refl, sym, ap, _∙_, subst}
 use mathlib.Core.Bool.{Bool, true, false}
 use Rattle.bounded.specs.Choice.{on-eq, on-test, never}
 use Rattle.state.specs.declared.PageState.{PageState}
 use Rattle.state.specs.State.{inFlight}
-use Rattle.state.specs.StateLaws.{none-rests, PageFacts, StateFacts}
+use Rattle.state.specs.StateLaws.{none-rests, PageFacts, StateFacts, facts-cong}
 use Rattle.state.specs.Cycle.{onCycle}
 use Rattle.state.specs.Change.{atRest, writtenPage, marked, completes, committedPage, completed, withdrawnPage, withdrawn, afterWrite}
 use Rattle.state.specs.Walk.{endedPage, cycleEnded}
@@ -17,10 +17,6 @@ use Rattle.state.specs.CompletionLaws.{after-write-done, after-write-not
 pub flight-cong : (s t : PageState) → s .next ≡ t .next → inFlight s ≡ inFlight t
 unfolding inFlight
 flight-cong s t e = rw e
-
--- sound states that agree everywhere
-pub facts-cong : (P : ℕ) (st st′ : ℕ → PageState) → ((q : ℕ) → st q ≡ st′ q) → StateFacts P st → StateFacts P st′
-facts-cong P st st′ h f = subst (λ (x : ℕ → PageState). StateFacts P x) (fun-ext h) f
 
 -- ---- a cycle leaves flight
 
@@ -155,5 +151,5 @@ module _ (P : ℕ) (st : ℕ → PageState) (sound : StateFacts P st) (p : ℕ) 
   pub after-write-sound : StateFacts P (afterWrite P st p)
   after-write-sound =
       on-test (completes P st p)
-      (λ c. facts-cong P (completed P st p) (afterWrite P st p) (λ q. sym (after-write-done P st sound p f c q)) completed-sound)
-      (λ c. facts-cong P (marked st p) (afterWrite P st p) (λ q. sym (after-write-not P st sound p f c q)) marked-sound)
+      (λ c. facts-cong P (completed P st p) (afterWrite P st p) (λ q l. sym (after-write-done P st sound p f c q)) completed-sound)
+      (λ c. facts-cong P (marked st p) (afterWrite P st p) (λ q l. sym (after-write-not P st sound p f c q)) marked-sound)

@@ -3,7 +3,7 @@ use Prim.Native.Nat.{ℕ, _+_, _*_, _≤_, _<_}
 use native.Mathlib.Nat.{add-zero}
 use native.Mathlib.Numerals.{add-one, add-two, add-three}
 use native.Mathlib.Omega.{arith}
-use mathlib.Core.Path.{_≡_, refl, sym, ap, _∙_, fun-ext}
+use mathlib.Core.Path.{_≡_, refl, sym, ap, _∙_, fun-ext, subst}
 use mathlib.Core.Logic.{_⊎_, inl, inr, _↔_}
 use mathlib.Core.List.{List, [], _∷_, append-assoc}
 use mathlib.Core.Bool.{Bool, true, false, not, _&&_, _||_}
@@ -270,3 +270,24 @@ module _ (P : ℕ) (st : ℕ → PageState) where
   -- The state "is sound if …", exactly
   pub state-sound-means : (stateSound P st ≡ true) ↔ StateFacts P st
   state-sound-means = (state-sound-facts, facts-state-sound)
+
+-- soundness depends on the pages below P alone
+pub facts-cong : (P : ℕ) (st st′ : ℕ → PageState) → ((p : ℕ) → p < P → st p ≡ st′ p) → StateFacts P st → StateFacts P st′
+facts-cong P st st′ h f = record {
+  page = λ p l. subst (λ (s : PageState). PageFacts P st′ s) (h p l) (record {
+    committed-used = f .page p l .committed-used;
+    used-highest = f .page p l .used-highest;
+    flies-below-used = f .page p l .flies-below-used;
+    next-below = f .page p l .next-below;
+    next-flies = λ e. ap inFlight (sym (h (st p .next) (f .page p l .next-below e))) ∙ f .page p l .next-flies e;
+    written-bit = f .page p l .written-bit;
+    written-flies = f .page p l .written-flies;
+  });
+  apart = λ p q lp lq fp fq e. f .apart p q lp lq (ap inFlight (h p lp) ∙ fp) (ap inFlight (h q lq) ∙ fq) (ap (λ (s : PageState). s .next) (h p lp) ∙ e ∙ ap (λ (s : PageState). s .next) (sym (h q lq)));
+}
+
+-- a sound state, written down, reads as sound
+pub words-sound : (P : ℕ) (st : ℕ → PageState) → StateFacts P st → stateSound P (stateAt (stateWords P st)) ≡ true
+words-sound P st f =
+    facts-state-sound P (stateAt (stateWords P st))
+    (facts-cong P st (stateAt (stateWords P st)) (λ p l. sym (stateAt-words P st p l)) f)
