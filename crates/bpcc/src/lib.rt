@@ -9,8 +9,12 @@ ghost use Rattle.volume.specs.Volume.{volume};
 ghost use Rattle.volume.specs.Format.{formatOutcome};
 ghost use Rattle.volume.specs.Read.{readOutcome};
 ghost use Rattle.volume.specs.Cases.{boundRows};
+ghost use Rattle.transact.specs.Launch.{launchOutcome};
+ghost use Rattle.transact.specs.Write.{writeOutcome};
+ghost use Rattle.transact.specs.Withdraw.{withdrawOutcome};
 ghost use Rattle.collect.specs.Erase.{eraseOutcome};
 ghost use Rattle.collect.specs.Suggest.{SuggestOutcome};
+ghost use Rattle.recovery.specs.Recover.{recoverOutcome};
 ghost use Rattle.atomicity.specs.StarCases.{starTable};
 ghost use Rattle.atomicity.specs.Promise.{Promise3};
 
@@ -27,6 +31,40 @@ pub extern "C" fn bpcc_format(
         ≡ formatOutcome width pages slots (volume (now (words .entry)) (now (contents .entry)) (now (state .entry))) ⌝ }
 {
     volume::format(pages, slots, words, contents, state)
+}
+
+// Launch a list of pages as one transaction.
+#[no_mangle]
+pub extern "C" fn bpcc_launch(pages: u32, slots: u32, state: &mut [u32], list: &[u32]) -> u64
+    ensures { λ r. ⌜ returned r (now (state .exit)) ≡ launchOutcome pages slots (now (state .entry)) (now (list .entry)) ⌝ }
+{
+    transact::launch(pages, slots, state, list)
+}
+
+// Write a page of a launched transaction into a blank slot.
+#[no_mangle]
+pub extern "C" fn bpcc_write(
+    pages: u32,
+    slots: u32,
+    words: &mut [u32],
+    contents: &mut [u8],
+    state: &mut [u32],
+    page: u32,
+    slot: u32,
+    bytes: &[u8],
+) -> u64
+    ensures { λ r. ⌜ returned r (volume (now (words .exit)) (now (contents .exit)) (now (state .exit)))
+        ≡ writeOutcome width pages slots (volume (now (words .entry)) (now (contents .entry)) (now (state .entry))) page slot (now (bytes .entry)) ⌝ }
+{
+    transact::write(pages, slots, words, contents, state, page, slot, bytes)
+}
+
+// Withdraw the transaction that a page is in.
+#[no_mangle]
+pub extern "C" fn bpcc_withdraw(pages: u32, slots: u32, state: &mut [u32], page: u32) -> u64
+    ensures { λ r. ⌜ returned r (now (state .exit)) ≡ withdrawOutcome pages slots (now (state .entry)) page ⌝ }
+{
+    transact::withdraw(pages, slots, state, page)
 }
 
 // Erase a list of slots.
@@ -51,6 +89,14 @@ pub extern "C" fn bpcc_suggest(pages: u32, slots: u32, words: &[u32], state: &[u
     ensures { λ r. ⌜ SuggestOutcome pages slots (now (words .entry)) (now (state .entry)) (returned r tt) ⌝ }
 {
     collect::suggest(pages, slots, words, state)
+}
+
+// Recover the state from the slot table.
+#[no_mangle]
+pub extern "C" fn bpcc_recover(pages: u32, slots: u32, words: &[u32], state: &mut [u32]) -> u64
+    ensures { λ r. ⌜ returned r (now (state .exit)) ≡ recoverOutcome pages slots (now (words .entry)) (now (state .entry)) ⌝ }
+{
+    recovery::recover(pages, slots, words, state)
 }
 
 // Count the set bits of a slot's contents.
