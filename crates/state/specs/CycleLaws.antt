@@ -2,21 +2,21 @@
 use Prim.Native.Nat.{ℕ, zero, suc, _+_, _-_, _≤_, _<_}
 use native.Mathlib.Omega.{arith}
 use mathlib.Core.Path.{_≡_, refl, sym, ap, _∙_, subst}
-use mathlib.Core.Logic.{_⊎_, inl, inr, _↔_}
-use mathlib.Core.Bool.{Bool, true, false}
+use mathlib.Core.Logic.{_↔_}
+use mathlib.Core.Bool.{true}
 use lib.Dec.{eqb}
-use borrow.Author.Tests.{eqb-true, eqb-false, eq-eqb, ne-eqb}
-use Rattle.bounded.specs.Choice.{on-lt, on-eq, on-test, never, same-test}
-use Rattle.bounded.specs.Below.{allBelow, someBelow, firstBelow}
-use Rattle.bounded.specs.BelowLaws.{all-at, all-of, all-cong, some-of, some-at, some-none, some-cong, first-le, first-passes, first-none-before, first-found}
-use Rattle.bounded.specs.Parts.{update}
+use borrow.Author.Tests.{eqb-true, eq-eqb}
+use Rattle.bounded.specs.Choice.{on-lt, on-eq, never, same-test}
+use Rattle.bounded.specs.Below.{someBelow, firstBelow}
+use Rattle.bounded.specs.BelowLaws.{all-cong, all-at, all-of, some-of, some-at, some-cong, first-passes, first-none-before, first-found}
 use Rattle.bounded.specs.PartsLaws.{update-same, update-other}
 use Rattle.bounded.specs.Pigeonhole.{comes-back}
 use Rattle.state.specs.declared.PageState.{PageState}
 use Rattle.state.specs.State.{inFlight, isWritten}
-use Rattle.state.specs.StateLaws.{PageFacts, StateFacts}
+use Rattle.state.specs.StateLaws.{StateFacts}
 use Rattle.state.specs.Cycle.{along, onCycle, cycleWritten}
 use Rattle.state.specs.Change.{writtenPage, marked}
+use Rattle.state.specs.Walk.{lap}
 
 -- ---- walking
 
@@ -52,25 +52,34 @@ pub on-cycle-cong : (P : ℕ) (st st′ : ℕ → PageState) → ((q : ℕ) → 
 unfolding onCycle
 on-cycle-cong P st st′ h p q = some-cong P (λ k l. ap (λ (x : ℕ). eqb x q) (along-cong st st′ h p k))
 
+-- whether a cycle is written depends on next and written alone
+pub cycle-written-cong : (P : ℕ) (st st′ : ℕ → PageState) → ((q : ℕ) → st q .next ≡ st′ q .next) → ((q : ℕ) → isWritten (st q) ≡ isWritten (st′ q)) → (p : ℕ) → cycleWritten P st p ≡ cycleWritten P st′ p
+unfolding cycleWritten
+cycle-written-cong P st st′ h w p =
+    all-cong P (λ k l. w (along st p k) ∙ ap (λ (x : ℕ). isWritten (st′ x)) (along-cong st st′ h p k))
+
+-- the marked page, and any other
+pub marked-at : (st : ℕ → PageState) (p : ℕ) → marked st p p ≡ writtenPage (st p)
+unfolding marked
+marked-at st p = update-same st p (writtenPage (st p))
+
+pub marked-other : (st : ℕ → PageState) (p q : ℕ) → ¬ (q ≡ p) → marked st p q ≡ st q
+unfolding marked
+marked-other st p q d = update-other st p (writtenPage (st p)) q d
+
 -- marking a page written leaves every next page as it was
 pub marked-next : (st : ℕ → PageState) (p q : ℕ) → marked st p q .next ≡ st q .next
-unfolding marked writtenPage
+unfolding writtenPage
 marked-next st p q =
     on-eq q p
-    (λ same. ap (λ (x : ℕ). update st p (writtenPage (st p)) x .next) same
-    ∙ ap (λ (s : PageState). s .next) (update-same st p (writtenPage (st p)))
-    ∙ ap (λ (x : ℕ). st x .next) (sym same))
-    (λ other. ap (λ (s : PageState). s .next) (update-other st p (writtenPage (st p)) q other))
+    (λ same. subst (λ (x : ℕ). marked st p x .next ≡ st x .next) (sym same) (ap (λ (s : PageState). s .next) (marked-at st p)))
+    (λ other. ap (λ (s : PageState). s .next) (marked-other st p q other))
 
 pub along-marked : (st : ℕ → PageState) (p q k : ℕ) → along (marked st p) q k ≡ along st q k
 along-marked st p = along-cong (marked st p) st (marked-next st p)
 
 pub on-cycle-marked : (P : ℕ) (st : ℕ → PageState) (p q r : ℕ) → onCycle P (marked st p) q r ≡ onCycle P st q r
 on-cycle-marked P st p = on-cycle-cong P (marked st p) st (marked-next st p)
-
--- the steps from p to its first return
-unfoldable pub lap : ℕ → (ℕ → PageState) → ℕ → ℕ
-lap P st p = suc (firstBelow P (λ k. eqb (along st p (suc k)) p))
 
 -- a page in flight
 pub record Flies (P : ℕ) (st : ℕ → PageState) (p : ℕ) : Type 0 where
@@ -90,6 +99,17 @@ module _ (P : ℕ) (st : ℕ → PageState) (sound : StateFacts P st) where
   unfolding along
   along-flies p zero f = f
   along-flies p (suc k) f = next-flies (along st p k) (along-flies p k f)
+
+  -- from a page in flight a walk depends on the pages below P alone
+  pub along-below : (st′ : ℕ → PageState) → ((q : ℕ) → q < P → st q ≡ st′ q) → (p k : ℕ) → Flies P st p → along st p k ≡ along st′ p k
+  unfolding along
+  along-below st′ h p zero f = refl
+  along-below st′ h p (suc k) f =
+      ap (λ (s : PageState). s .next) (h (along st p k) (along-flies p k f .below)) ∙ ap (λ (x : ℕ). st′ x .next) (along-below st′ h p k f)
+
+  pub on-cycle-below : (st′ : ℕ → PageState) → ((q : ℕ) → q < P → st q ≡ st′ q) → (p q : ℕ) → Flies P st p → onCycle P st p q ≡ onCycle P st′ p q
+  unfolding onCycle
+  on-cycle-below st′ h p q f = some-cong P (λ k l. ap (λ (x : ℕ). eqb x q) (along-below st′ h p k f))
 
   -- next sends no two pages in flight to one
   pub next-apart : (p q : ℕ) → Flies P st p → Flies P st q → st p .next ≡ st q .next → p ≡ q

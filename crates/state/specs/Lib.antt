@@ -2,4 +2,9 @@ pub mod State
 pub mod Cycle
 pub mod Change
 pub mod StateLaws
+pub mod Walk
 pub mod CycleLaws
+pub mod WalkLaws
+pub mod CompletionLaws
+pub mod LaunchLaws
+pub mod ChangeLaws

@@ -1,19 +1,22 @@
 -- The words of a state and the state are the same thing; and what a sound state is, as facts.
-use Prim.Native.Nat.{ℕ, zero, suc, _*_, _≤_, _<_}
+use Prim.Native.Nat.{ℕ, _+_, _*_, _≤_, _<_}
+use native.Mathlib.Nat.{add-zero}
+use native.Mathlib.Numerals.{add-one, add-two, add-three}
 use native.Mathlib.Omega.{arith}
-use mathlib.Core.Path.{_≡_, refl, sym, ap, ap₂, _∙_, subst, fun-ext}
+use mathlib.Core.Path.{_≡_, refl, sym, ap, _∙_, fun-ext, subst}
 use mathlib.Core.Logic.{_⊎_, inl, inr, _↔_}
-use mathlib.Core.List.{List, [], _∷_}
+use mathlib.Core.List.{List, [], _∷_, append-assoc}
 use mathlib.Core.Bool.{Bool, true, false, not, _&&_, _||_}
 use lib.Dec.{ltb, leb, eqb}
-use lib.ListN.{length, getD}
+use lib.ListN.{length, getD, take, drop, set}
+use lib.Seq.{sets-eq}
 use borrow.Author.Tests.{ltb-true, leb-true, eqb-true, eqb-false, lt-ltb, le-leb, eq-eqb, ne-eqb, not-true, not-false}
 use Rattle.bounded.specs.Limits.{noNumber, highestVersion}
 use Rattle.bounded.specs.Choice.{on-lt, on-eq, on-test, never, both, both-left, both-right, either, either-left, either-right, not-yes, not-no}
 use Rattle.bounded.specs.Below.{allBelow}
 use Rattle.bounded.specs.BelowLaws.{all-at, all-of}
-use Rattle.bounded.specs.Parts.{part, putPart, joinParts, update}
-use Rattle.bounded.specs.PartsLaws.{update-same, update-other, part-put-same, part-put-other, part-length, length-putPart, length-joinParts, part-joinParts, joinParts-cong, joinParts-parts, put-joinParts, parts-ext}
+use Rattle.bounded.specs.Parts.{part, putAt, putPart, update}
+use Rattle.bounded.specs.PartsLaws.{update-same, update-other, part-put-same, part-put-other, part-length, part-at, length-putPart, length-joinParts, part-joinParts, joinParts-cong, joinParts-parts}
 use Rattle.state.specs.declared.PageState.{PageState}
 use Rattle.state.specs.State.{pageWords, pageOf, stateAt, stateWords, inFlight, isWritten, versionsSound, flightSound, writtenSound, pageSound, shareNext, nextsApart, stateSound}
 
@@ -63,6 +66,17 @@ stateWords-cong P st st′ h = joinParts-cong P (λ p. pageWords (st p)) (λ p. 
 pub stateWords-apart : (P : ℕ) (st st′ : ℕ → PageState) → stateWords P st ≡ stateWords P st′ → (p : ℕ) → p < P → st p ≡ st′ p
 stateWords-apart P st st′ e p h =
     sym (stateAt-words P st p h) ∙ ap (λ (ws : List ℕ). stateAt ws p) e ∙ stateAt-words P st′ p h
+
+-- page p's words stand from 4p on
+pub stateAt-reads : (words : List ℕ) (p : ℕ) → stateAt words p ≡ record { committed = getD words (4 * p) 0; used = getD words (4 * p + 1) 0; next = getD words (4 * p + 2) 0; written = getD words (4 * p + 3) 0 }
+unfolding stateAt pageOf
+stateAt-reads words p =
+    rw (part-at 4 p words 0 0 (omega arith), part-at 4 p words 1 0 (omega arith), part-at 4 p words 2 0 (omega arith), part-at 4 p words 3 0 (omega arith), add-zero)
+
+-- four stores from 4p on write page p
+pub sets-put : (words : List ℕ) (p : ℕ) (s : PageState) → 4 * p + 4 ≤ length words → set (set (set (set words (4 * p) (s .committed)) (4 * p + 1) (s .used)) (4 * p + 2) (s .next)) (4 * p + 3) (s .written) ≡ putPart 4 p (pageWords s) words
+unfolding putPart putAt pageWords
+sets-put words p s h = rw (add-one (4 * p), add-two (4 * p), add-three (4 * p)) (sets-eq (pageWords s) words (4 * p) h ∙ append-assoc (take (4 * p) words) (pageWords s) (drop (4 * p + 4) words))
 
 -- ---- one page stored
 
@@ -256,3 +270,24 @@ module _ (P : ℕ) (st : ℕ → PageState) where
   -- The state "is sound if …", exactly
   pub state-sound-means : (stateSound P st ≡ true) ↔ StateFacts P st
   state-sound-means = (state-sound-facts, facts-state-sound)
+
+-- soundness depends on the pages below P alone
+pub facts-cong : (P : ℕ) (st st′ : ℕ → PageState) → ((p : ℕ) → p < P → st p ≡ st′ p) → StateFacts P st → StateFacts P st′
+facts-cong P st st′ h f = record {
+  page = λ p l. subst (λ (s : PageState). PageFacts P st′ s) (h p l) (record {
+    committed-used = f .page p l .committed-used;
+    used-highest = f .page p l .used-highest;
+    flies-below-used = f .page p l .flies-below-used;
+    next-below = f .page p l .next-below;
+    next-flies = λ e. ap inFlight (sym (h (st p .next) (f .page p l .next-below e))) ∙ f .page p l .next-flies e;
+    written-bit = f .page p l .written-bit;
+    written-flies = f .page p l .written-flies;
+  });
+  apart = λ p q lp lq fp fq e. f .apart p q lp lq (ap inFlight (h p lp) ∙ fp) (ap inFlight (h q lq) ∙ fq) (ap (λ (s : PageState). s .next) (h p lp) ∙ e ∙ ap (λ (s : PageState). s .next) (sym (h q lq)));
+}
+
+-- a sound state, written down, reads as sound
+pub words-sound : (P : ℕ) (st : ℕ → PageState) → StateFacts P st → stateSound P (stateAt (stateWords P st)) ≡ true
+words-sound P st f =
+    facts-state-sound P (stateAt (stateWords P st))
+    (facts-cong P st (stateAt (stateWords P st)) (λ p l. sym (stateAt-words P st p l)) f)
