@@ -2,8 +2,8 @@
 use Prim.Native.Nat.{ℕ, zero, suc, _+_, _*_, _≤_, _<_}
 use native.Mathlib.Omega.{arith}
 use native.Mathlib.Numerals.{add-one}
-use mathlib.Core.Path.{_≡_, refl, sym, ap, _∙_}
-use mathlib.Core.List.{List, [], _∷_, _++_, map}
+use mathlib.Core.Path.{_≡_, refl}
+use mathlib.Core.List.{List, [], _∷_}
 use mathlib.Core.Bool.{Bool, true, false, not}
 use lib.ListN.{length, getD, take}
 use lib.Seq.{take-length}
@@ -11,13 +11,11 @@ use Rattle.bounded.specs.PartsLaws.{part-inside}
 use Rattle.outcome.specs.Outcome.{_⇒_otherwise_}
 use Rattle.record.specs.Slot.{slotAt}
 use Rattle.record.specs.Flash.{Flash, Step, apply, applyAll}
-use Rattle.record.specs.FlashLaws.{Sized}
 use Rattle.state.specs.State.{stateAt, stateSound}
 use Rattle.table.specs.Table.{tableSound}
 use Rattle.volume.specs.Volume.{Volume, volumeFits, listOk}
 use Rattle.volume.specs.SizesLaws.{Fits, fits-facts}
 use Rattle.volume.specs.ListLaws.{Listed, list-facts}
-use Rattle.collect.specs.Permission.{mayEraseAll}
 use Rattle.collect.specs.Erase.{eraseAnswer, eraseSteps}
 use Rattle.collect.specs.Within.{Within, sound-within}
 

@@ -1,7 +1,7 @@
 -- The permission as the code decides it: what one slot, one straddler and one record settle.
 use Prim.Native.Nat.{ℕ, _+_, _<_}
 use native.Mathlib.Omega.{arith}
-use mathlib.Core.Path.{_≡_, refl, sym, ap, _∙_}
+use mathlib.Core.Path.{_≡_, refl, ap, _∙_}
 use mathlib.Core.Bool.{Bool, true, false, not, _&&_, _||_}
 use borrow.Author.Tests.{ltb-true, le-ltb}
 use Rattle.bounded.specs.Choice.{on-lt}

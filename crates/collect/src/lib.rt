@@ -1,27 +1,26 @@
 // Garbage collection: when a slot may be erased; erase and suggest. The definitions are in specs/.
-use record::Record;
-use record::Slot;
-
-// The slot that a refused suggest names.
-const NO_SLOT: u32 = 4294967295;
-
 ghost use mathlib.Core.Path.{_≡_};
 ghost use Prim.Native.Nat.{_+_, _*_, _≤_, _<_};
 ghost use lib.ListN.{length};
 ghost use Rattle.bounded.specs.Below.{firstBelow};
 ghost use Rattle.bounded.specs.Limits.{width};
 ghost use Rattle.outcome.specs.Outcome.{returned};
+ghost use Rattle.record.specs.Slot.{holds, slotAt};
 ghost use Rattle.record.specs.Flash.{Step, apply, applyAll};
+ghost use Rattle.state.specs.State.{stateAt};
 ghost use Rattle.volume.specs.Volume.{volume};
 ghost use Rattle.volume.specs.ListLaws.{Listed};
+ghost use Rattle.collect.specs.Permission.{isObsolete, isExposed, outreaches, isShielded, isNeeded, isCurrent, mayEraseRecord, mayErase, mayEraseAll};
+ghost use Rattle.collect.specs.Within.{Within};
 ghost use Rattle.collect.specs.Erase.{eraseAnswer, eraseSteps, eraseOutcome};
 ghost use Rattle.collect.specs.EraseLaws.{flash, ListedIn};
 ghost use Rattle.collect.specs.Suggest.{SuggestOutcome};
 ghost use Rattle.collect.specs.SuggestLaws.{sizesFit};
-ghost use Rattle.record.specs.Slot.{holds, slotAt};
-ghost use Rattle.state.specs.State.{stateAt};
-ghost use Rattle.collect.specs.Permission.{isObsolete, isExposed, outreaches, isShielded, isNeeded, isCurrent, mayEraseRecord, mayErase, mayEraseAll};
-ghost use Rattle.collect.specs.Within.{Within};
+use record::Record;
+use record::Slot;
+
+// "the suggested slot is 4,294,967,295" where a suggest is refused.
+const NO_SLOT: u32 = 4294967295;
 
 // "A record is obsolete if v is below its page's committed version"
 fn is_obsolete(state: &[u32], record: Record) -> bool

@@ -1,3 +1,4 @@
+-- The invariant: the flash is as it was with the first `done` listed slots blanked.
 use Prim.Native.Nat.{_≤_, _-_}
 use native.Mathlib.Omega.{arith}
 use borrow.Author.Needs.{needs}

@@ -1,3 +1,4 @@
+-- The words and the bytes that `put_slot` leaves are those of the step.
 use mathlib.Core.Path.{ap₂}
 use Rattle.record.specs.Slot.{blankRecord}
 use Rattle.record.specs.Flash.{putSlot, apply}

@@ -1,3 +1,4 @@
+-- Refused: the answer and the buffers as they were. Accepted: what the tests said gives the bounds of the listed slots.
 use borrow.Author.Needs.{needs}
 use mathlib.Core.Path.{refl, sym, ap, _∙_}
 use Rattle.outcome.specs.Outcome.{returned}

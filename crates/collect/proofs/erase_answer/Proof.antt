@@ -1,3 +1,4 @@
+-- Each return rewrites with the tests that led there; each call's bounds come from the sizes tested first.
 use native.Mathlib.Omega.{arith}
 use Rattle.bounded.specs.Choice.{said-yes, said-no}
 use Rattle.volume.specs.SizesLaws.{fits-facts}

@@ -1,5 +1,5 @@
+-- The page read is the one that the definition names.
 use borrow.Author.Needs.{needs}
-use mathlib.Core.Path.{sym, ap, _∙_}
 use Rattle.collect.specs.Permission.{isExposed}
 use Rattle.collect.proofs.is_exposed.Statement.{statement}
 use Rattle.collect.proofs.is_exposed.Tie as tie

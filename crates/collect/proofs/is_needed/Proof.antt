@@ -1,7 +1,8 @@
+-- Both searches: no slot passed so far. The inner one starts at the first exposed link that is straddled, and its end is the end of both.
 use Prim.Native.Nat.{_≤_, _-_}
 use native.Mathlib.Omega.{arith}
-use mathlib.Core.Path.{_≡_, refl, sym, ap, _∙_}
-use mathlib.Core.Bool.{true, false}
+use mathlib.Core.Path.{_≡_, refl, sym, _∙_}
+use mathlib.Core.Bool.{false}
 use Rattle.bounded.specs.Below.{someBelow}
 use Rattle.bounded.specs.BelowLaws.{some-zero, some-more}
 use Rattle.record.specs.Slot.{holds, someRecord, slotAt}

@@ -1,5 +1,5 @@
+-- The page read is the one that the definition names.
 use borrow.Author.Needs.{needs}
-use mathlib.Core.Path.{sym, ap, _∙_}
 use Rattle.collect.specs.Permission.{isObsolete}
 use Rattle.collect.proofs.is_obsolete.Statement.{statement}
 use Rattle.collect.proofs.is_obsolete.Tie as tie

@@ -1,3 +1,4 @@
+-- Exposed and straddled, tested in this order.
 use borrow.Author.Needs.{needs}
 use Rattle.bounded.specs.Choice.{said-yes, said-no}
 use Rattle.collect.specs.Permission.{isShielded}

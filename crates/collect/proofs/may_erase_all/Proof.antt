@@ -1,3 +1,4 @@
+-- The invariant: each of the first i listed slots may be erased.
 use Prim.Native.Nat.{_≤_, _-_}
 use native.Mathlib.Omega.{arith}
 use borrow.Author.Needs.{needs}

@@ -1,3 +1,4 @@
+-- An obsolete record goes by whether it is needed, an exposed one by whether it is current; any other stays.
 use borrow.Author.Needs.{needs}
 use mathlib.Core.Path.{sym, ap, _∙_}
 use mathlib.Core.Bool.{not}

@@ -1,3 +1,4 @@
+-- Each return rewrites with the tests that led there.
 use borrow.Author.Needs.{needs}
 use Rattle.bounded.specs.Choice.{said-yes, said-no}
 use Rattle.collect.proofs.sizes_fit.Statement.{statement}

@@ -1,6 +1,6 @@
+-- A blank slot holds no record that outreaches.
 use borrow.Author.Needs.{needs}
 use mathlib.Core.Path.{sym, _∙_}
-use Rattle.collect.specs.Permission.{outreaches}
 use Rattle.collect.specs.SearchLaws.{holds-none, holds-record}
 use Rattle.collect.proofs.slot_outreaches.Statement.{statement}
 use Rattle.collect.proofs.slot_outreaches.Tie as tie

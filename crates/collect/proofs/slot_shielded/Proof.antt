@@ -1,6 +1,6 @@
+-- A blank slot holds no exposed record; the page of a record in the table is in the state.
 use borrow.Author.Needs.{needs}
 use mathlib.Core.Path.{sym, _∙_}
-use Rattle.collect.specs.Permission.{isShielded}
 use Rattle.collect.specs.SearchLaws.{holds-none, holds-record}
 use Rattle.collect.proofs.slot_shielded.Statement.{statement}
 use Rattle.collect.proofs.slot_shielded.Tie as tie

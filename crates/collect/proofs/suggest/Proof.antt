@@ -1,3 +1,4 @@
+-- Each return is a refusal without a slot, or the first slot that the search found.
 use native.Mathlib.Omega.{arith}
 use borrow.Author.Needs.{needs}
 use mathlib.Core.Path.{refl}
