@@ -44,7 +44,7 @@ module _ (n : ℕ) (list : List ℕ) where
   unfolding listOk
   list-empty h = rw (lt-leb 1 (length list) h)
 
-  -- a list that has no sound parts is not sound
+  -- the test is false where its truth is absurd
   fails : (listOk n list ≡ true → ⊥) → listOk n list ≡ false
   fails h = on-test (listOk n list) (λ e. absurd (h e)) (λ e. e)
 
@@ -99,9 +99,9 @@ module _ (n : ℕ) (list : List ℕ) where
   pub listed-length : Listed n list → length list ≤ n
   listed-length f =
       on-lt n (length list)
-      (λ l. absurd (let m = pigeonhole n (getEntry) (λ i h. f .in-range i (omega arith)) in
+      (λ l. absurd (let m = pigeonhole n entry (λ i h. f .in-range i (omega arith)) in
       let s = f .apart (m .0) (m .1) (omega arith) (omega arith) (m .4) in omega arith))
       (λ l. l)
     where
-      getEntry : ℕ → ℕ
-      getEntry i = getD list i 0
+      entry : ℕ → ℕ
+      entry i = getD list i 0

@@ -15,7 +15,7 @@ ghost use Rattle.volume.specs.Format.{formattedWords, formattedContents,
 ghost use Rattle.volume.specs.Read.{readOutcome};
 ghost use Rattle.volume.specs.FormatLaws.{freshWords, freshBytes};
 
-// Bytes of contents a slot has.
+// Bytes of contents a slot has: the `width` of the contracts, which the proofs of format and read hold it to.
 pub const WIDTH: usize = 32;
 
 // "P pages (pistons), 1 to 256 … S slots, P to 1,024"

@@ -1,3 +1,4 @@
+-- The lowest slot at the version that the state gives the page.
 use mathlib.Core.Path.{ap, _∙_}
 use borrow.Author.Needs.{needs}
 use Rattle.record.specs.Slot.{slotAt}

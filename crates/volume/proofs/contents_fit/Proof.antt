@@ -1,3 +1,4 @@
+-- The test is the definition; a product of two 32-bit numbers fits a usize.
 use native.Mathlib.Omega.{arith}
 use mathlib.Core.Path.{refl}
 use Rattle.volume.specs.Volume.{contentsFit}

@@ -1,3 +1,4 @@
+-- Refused, the buffers are as they came; else each is filled whole.
 use native.Mathlib.Omega.{arith}
 use mathlib.Core.Path.{refl}
 use borrow.Author.Needs.{needs}

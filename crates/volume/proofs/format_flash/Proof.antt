@@ -1,3 +1,4 @@
+-- The loop has written the slots below k, and nothing else; written whole, the buffers are the formatted ones.
 use Prim.Native.Nat.{ℕ, _≤_, _-_}
 use native.Mathlib.Omega.{arith}
 use mathlib.Core.Path.{_≡_, refl, ap, _∙_}

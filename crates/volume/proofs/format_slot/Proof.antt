@@ -1,3 +1,4 @@
+-- Both arms write the words and bytes that a fresh slot has.
 use borrow.Author.Needs.{needs}
 use Rattle.record.specs.Slot.{blankRecord}
 use Rattle.volume.specs.FormatLaws.{words-of-page, bytes-of-page, words-of-free, bytes-of-free}

@@ -1,3 +1,4 @@
+-- The loop has written the pages below p, and nothing else; written whole, the state is the fresh one.
 use Prim.Native.Nat.{ℕ, _≤_, _-_}
 use native.Mathlib.Omega.{arith}
 use mathlib.Core.Path.{_≡_, refl, ap, _∙_}

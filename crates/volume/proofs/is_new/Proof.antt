@@ -1,3 +1,4 @@
+-- The loop has found entry i unlike each entry below j.
 use Prim.Native.Nat.{_≤_, _-_}
 use native.Mathlib.Omega.{arith}
 use mathlib.Core.Path.{_≡_, sym}

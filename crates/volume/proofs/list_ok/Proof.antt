@@ -1,3 +1,4 @@
+-- The loop has found each entry below i in range and new; an entry that is not settles the answer.
 use Prim.Native.Nat.{_≤_, _-_}
 use native.Mathlib.Omega.{arith}
 use mathlib.Core.Path.{_≡_, sym}

@@ -1,3 +1,4 @@
+-- Each refusal is the first test that fails; past them all the slot found is below S, and its bytes are those copied.
 use Prim.Native.Nat.{ℕ}
 use native.Mathlib.Omega.{arith}
 use mathlib.Core.Path.{_≡_, refl, ap, _∙_}

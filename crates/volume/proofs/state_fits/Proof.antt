@@ -1,3 +1,4 @@
+-- The test is the definition; 4 × 4,294,967,295 fits a usize.
 use borrow.Author.Needs.{needs}
 use mathlib.Core.Path.{refl}
 use Rattle.volume.specs.Volume.{stateFits}

@@ -1,3 +1,4 @@
+-- Each return is what the called tests on its way answered.
 use borrow.Author.Needs.{needs}
 use Rattle.bounded.specs.Choice.{said-no, said-yes}
 use Rattle.volume.specs.Volume.{volumeFits}
