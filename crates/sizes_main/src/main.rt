@@ -1,4 +1,4 @@
-// Formats and reads the largest volume and the smallest, and prints what the calls answer and leave.
+// Formats, recovers and reads the largest volume and the smallest, and prints what the calls answer and leave.
 
 // A line: a name and a number.
 fn show(name: &[u8], value: u64) {
@@ -68,6 +68,16 @@ fn format_largest(words: &mut [u32], contents: &mut [u8], state: &mut [u32]) {
     show_word(b"next of page 255", state, 1022);
 }
 
+// The state lost, and recovered.
+fn recover_largest(words: &[u32], state: &mut [u32]) {
+    put_word(state, 1022, 7);
+    show(
+        b"recover 256 1024",
+        recovery::recover(256, 1024, words, state),
+    );
+    show_word(b"next of page 255", state, 1022);
+}
+
 fn read_largest(words: &[u32], contents: &mut [u8], state: &[u32], out: &mut [u8]) {
     put_byte(contents, 8191, 5);
     show(
@@ -88,6 +98,7 @@ fn largest() {
     let mut out = [7u8; 32];
     format_larger(&mut words, &mut contents, &mut state);
     format_largest(&mut words, &mut contents, &mut state);
+    recover_largest(&words, &mut state);
     read_largest(&words, &mut contents, &state, &mut out);
 }
 
@@ -96,6 +107,15 @@ fn format_smallest(words: &mut [u32], contents: &mut [u8], state: &mut [u32]) {
     show(b"pages 0", volume::format(0, 1, words, contents, state));
     show(b"slots 0", volume::format(1, 0, words, contents, state));
     show(b"format 1 1", volume::format(1, 1, words, contents, state));
+    show_word(b"next of page 0", state, 2);
+}
+
+// The state lost, and recovered; a recovery with a state of another length is refused.
+fn recover_smallest(words: &[u32], state: &mut [u32]) {
+    put_word(state, 2, 7);
+    show(b"recover 2 2", recovery::recover(2, 2, words, state));
+    show_word(b"next of page 0", state, 2);
+    show(b"recover 1 1", recovery::recover(1, 1, words, state));
     show_word(b"next of page 0", state, 2);
 }
 
@@ -132,6 +152,7 @@ fn smallest() {
     let mut contents = [7u8; 32];
     let mut state = [7u32; 4];
     format_smallest(&mut words, &mut contents, &mut state);
+    recover_smallest(&words, &mut state);
     read_smallest(&words, &contents, &mut state);
     read_refused(&mut words, &contents, &mut state);
 }
