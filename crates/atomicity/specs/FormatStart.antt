@@ -127,77 +127,70 @@ module _ (w P S : ℕ) (sizes : Sizes P S) where
         apart = λ p q h i y. absurd (never y (fresh-rests p));
       }
 
-  module _ (f : Flash) (is : f ≡ record { words = words; contents = contents }) where
-    at-start : (r : Record) (b : List ℕ) → Held w S f r b → Held w S (record { words = words; contents = contents }) r b
-    at-start r b h = subst (λ (x : Flash). Held w S x r b) is h
+  abbrev flash : Flash
+  flash = record { words = words; contents = contents }
 
-    start-apart : NoTwins S (slotAt (f .words))
-    start-apart =
-        subst (λ (x : Flash). NoTwins S (slotAt (x .words))) (sym is)
-        (λ j k a b lj lk ea eb p v. let i = page-is j a (given j a lj ea) .0 in let u = page-is k b (given k b lk eb) .0 in omega arith)
+  start-apart : NoTwins S (slotAt words)
+  start-apart =
+      λ j k a b lj lk ea eb p v. let i = page-is j a (given j a lj ea) .0 in let u = page-is k b (given k b lk eb) .0 in omega arith
 
-    start-core : Core (Held w S f) (commOf freshState) P (freshModel w .kept)
-    unfolding freshModel recordSound formattedRecord
-    start-core =
-        subst (λ (x : Flash). Core (Held w S x) (commOf freshState) P (λ p. replicate w 0)) (sym is)
-        (record {
-          shared = record {
-            all-sound = λ r b h. let v = versions r b h in sound-test P r (record {
-              page-below = v .0;
-              next-below = (let l = v .0 in let e = v .3 in omega arith);
-              v-most = (let e = v .1 in omega arith);
-              c-most = (let e = v .2 in omega arith);
-              nv-most = (let e = v .4 in omega arith);
-              c-before-v = inr (v .2, v .1);
-              own-link = λ q. v .4 ∙ sym (v .1);
-            });
-            one-record = λ r s b d h i p e.
-                let g = given (h .0) r (h .1) (h .2) in
-                let u = given (i .0) s (i .1) (i .2) in
-                let k : h .0 ≡ i .0 = sym (page-is (h .0) r g .0) ∙ p ∙ page-is (i .0) s u .0 in
-                (g .is ∙ ap formattedRecord k ∙ sym (u .is), sym (h .3) ∙ ap (bytesAt w contents) k ∙ i .3);
-            committed-kept = λ p l. let s = sizes .slots-least in
-                (formattedRecord p, (p, omega arith, slot-of-page p (omega arith) l, bytes-of-page p (omega arith) l), (refl, sym (fresh-versions p .0)));
-            committed-link = λ r b h e. let v = versions r b h .4 in omega arith;
-            links-apart = λ r s b d h i e g p n. let v = versions r b h .3 in let u = versions s d i .3 in omega arith;
-            exposed-open = λ r b h x. absurd (let v = versions r b h .1 in omega arith);
-          };
-          own = record {
-            exposed-back = λ r b h x. absurd (let v = versions r b h .1 in omega arith);
-            committed-clear = λ r K b d h i e s. let v = versions r b h .4 in let a = s .above-c in omega arith;
-            exposed-link = λ r b h x. absurd (let v = versions r b h .1 in omega arith);
-          };
-        })
+  start-core : Core (Held w S flash) (commOf freshState) P (freshModel w .kept)
+  unfolding freshModel recordSound formattedRecord
+  start-core =
+      record {
+        shared = record {
+          all-sound = λ r b h. let v = versions r b h in sound-test P r (record {
+            page-below = v .0;
+            next-below = (let l = v .0 in let e = v .3 in omega arith);
+            v-most = (let e = v .1 in omega arith);
+            c-most = (let e = v .2 in omega arith);
+            nv-most = (let e = v .4 in omega arith);
+            c-before-v = inr (v .2, v .1);
+            own-link = λ q. v .4 ∙ sym (v .1);
+          });
+          one-record = λ r s b d h i p e.
+              let g = given (h .0) r (h .1) (h .2) in
+              let u = given (i .0) s (i .1) (i .2) in
+              let k : h .0 ≡ i .0 = sym (page-is (h .0) r g .0) ∙ p ∙ page-is (i .0) s u .0 in
+              (g .is ∙ ap formattedRecord k ∙ sym (u .is), sym (h .3) ∙ ap (bytesAt w contents) k ∙ i .3);
+          committed-kept = λ p l. let s = sizes .slots-least in
+              (formattedRecord p, (p, omega arith, slot-of-page p (omega arith) l, bytes-of-page p (omega arith) l), (refl, sym (fresh-versions p .0)));
+          committed-link = λ r b h e. let v = versions r b h .4 in omega arith;
+          links-apart = λ r s b d h i e g p n. let v = versions r b h .3 in let u = versions s d i .3 in omega arith;
+          exposed-open = λ r b h x. absurd (let v = versions r b h .1 in omega arith);
+        };
+        own = record {
+          exposed-back = λ r b h x. absurd (let v = versions r b h .1 in omega arith);
+          committed-clear = λ r K b d h i e s. let v = versions r b h .4 in let a = s .above-c in omega arith;
+          exposed-link = λ r b h x. absurd (let v = versions r b h .1 in omega arith);
+        };
+      }
 
-    start-live : SharedLive recordView P (Held w S f) freshState (IsEntered [])
-    start-live =
-        record {
-          within-used = record {
-            version-used = λ r b h. let v = versions r b (at-start r b h) .1 in omega arith;
-            link-used = λ r b h. let v = versions r b (at-start r b h) .4 in omega arith;
-          };
-          written-stored = λ p h y. absurd (never y (fresh-rests p));
-          unwritten-absent = λ p h y. absurd (never y (fresh-rests p));
-          unwritten-not-entered = λ p h y. absurd (never y (fresh-rests p));
-          link-planned = λ p h y. absurd (never y (fresh-rests p));
-        }
+  start-live : SharedLive recordView P (Held w S flash) freshState (IsEntered [])
+  start-live =
+      record {
+        within-used = record {
+          version-used = λ r b h. let v = versions r b h .1 in omega arith;
+          link-used = λ r b h. let v = versions r b h .4 in omega arith;
+        };
+        written-stored = λ p h y. absurd (never y (fresh-rests p));
+        unwritten-absent = λ p h y. absurd (never y (fresh-rests p));
+        unwritten-not-entered = λ p h y. absurd (never y (fresh-rests p));
+        link-planned = λ p h y. absurd (never y (fresh-rests p));
+      }
 
-    start : Live w P S f freshState (freshModel w)
-    unfolding freshModel
-    start =
-        record {
-          sound = fresh-facts;
-          no-twins = start-apart;
-          core = start-core;
-          live = start-live;
-<<<<<<< HEAD
-          rings = no-rings-match P freshState (λ p h. fresh-rests p);
-=======
-          rings = no-rings-match P freshState (λ p y. never (y .flies) (fresh-rests p));
->>>>>>> 9c2f40aba74ffe8146fdaa8e9283cbabd15d5511
-        }
+  start : Live w P S flash freshState (freshModel w)
+  unfolding freshModel
+  start =
+      record {
+        sound = fresh-facts;
+        no-twins = start-apart;
+        core = start-core;
+        live = start-live;
+        rings = no-rings-match P freshState (λ p h. fresh-rests p);
+      }
 
   -- the volume that an accepted format leaves
   pub formatted-live : Live w P S (formatted w P S .flash) (stateAt (formatted w P S .state)) (freshModel w)
   unfolding formatted
-  formatted-live = live-words w P S (record { words = words; contents = contents }) freshState (freshModel w) (start (record { words = words; contents = contents }) refl)
+  formatted-live = live-words w P S flash freshState (freshModel w) start

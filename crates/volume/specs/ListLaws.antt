@@ -1,16 +1,16 @@
 -- What the test of a list of pages or slots says, as facts; and that a sound list is no longer than its bound.
-use Prim.Native.Nat.{ℕ, suc, _≤_, _<_}
+use Prim.Native.Nat.{ℕ, _≤_, _<_}
 use native.Mathlib.Omega.{arith}
-use mathlib.Core.Path.{_≡_, refl, sym, ap, _∙_}
+use mathlib.Core.Path.{_≡_, sym}
 use mathlib.Core.Logic.{_↔_}
 use mathlib.Core.List.{List}
 use mathlib.Core.Bool.{Bool, true, false, not, _&&_}
 use lib.Dec.{ltb, leb, eqb}
 use lib.ListN.{length, getD}
-use borrow.Author.Tests.{leb-true, le-leb, lt-leb, ltb-true, lt-ltb, eqb-true, eqb-false, eq-eqb, ne-eqb, not-true}
+use borrow.Author.Tests.{leb-true, le-leb, lt-leb, ltb-true, lt-ltb, eq-eqb, ne-eqb, not-true}
 use Rattle.bounded.specs.Choice.{on-lt, on-test, never, both, both-left, both-right, not-no}
 use Rattle.bounded.specs.Below.{allBelow}
-use Rattle.bounded.specs.BelowLaws.{all-at, all-of, all-fails}
+use Rattle.bounded.specs.BelowLaws.{all-at, all-of}
 use Rattle.bounded.specs.Pigeonhole.{pigeonhole}
 use Rattle.volume.specs.Volume.{noRepeats, inRange, listOk}
 

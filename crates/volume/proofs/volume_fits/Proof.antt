@@ -1,5 +1,4 @@
 use borrow.Author.Needs.{needs}
-use mathlib.Core.Path.{sym}
 use Rattle.bounded.specs.Choice.{said-no, said-yes}
 use Rattle.volume.specs.Volume.{volumeFits}
 use Rattle.volume.proofs.volume_fits.Statement.{statement}

@@ -1,0 +1,58 @@
+use borrow.Author.Needs.{needs}
+use mathlib.Core.Path.{refl, sym, ap, _∙_}
+use Rattle.outcome.specs.Outcome.{returned}
+use Rattle.outcome.specs.Reply.{reply-refused, reply-done}
+use Rattle.collect.specs.Erase.{eraseOutcome}
+use Rattle.collect.specs.EraseLaws.{accepted-listed}
+use Rattle.collect.proofs.erase.Statement.{statement}
+use Rattle.collect.proofs.erase.Tie as tie
+
+erase-answer-requires : tie.Need-erase-answer-requires
+erase-answer-requires c κs = search needs
+
+reply-requires : tie.Need-reply-requires
+reply-requires c κs = search needs
+
+same-length : tie.Need-same-length
+same-length c = search needs
+
+same-length-2 : tie.Need-same-length-2
+same-length-2 c = search needs
+
+returns : tie.Need-returns
+unfolding eraseOutcome
+returns c =
+    reply-refused (c .reply .result) (c .before .before .erase-answer .result) 0 0 _ _ (c .reply .ensures) (c .before .before .erase-answer .ensures) (c .before .if1 .taken)
+
+blank-listed-requires : tie.Need-blank-listed-requires
+blank-listed-requires c κs = accepted-listed _ _ _ _ _ (sym (c .before .before .before .erase-answer .ensures) ∙ c .before .before .if1 .left)
+
+reply-requires-2 : tie.Need-reply-requires-2
+reply-requires-2 c κs = search needs
+
+same-length-3 : tie.Need-same-length-3
+same-length-3 c = c .before .before .before .before .before .blank-listed .kept .0
+
+same-length-4 : tie.Need-same-length-4
+same-length-4 c = c .before .before .before .before .before .blank-listed .kept .1 .0
+
+returns-2 : tie.Need-returns-2
+unfolding eraseOutcome
+returns-2 c =
+    ap (returned (c .reply2 .result)) (c .before .before .before .before .before .blank-listed .ensures)
+    ∙ reply-done (c .reply2 .result) 0 0 0 _ _ (c .reply2 .ensures) (sym (c .before .before .before .before .before .before .before .before .if1 .left) ∙ c .before .before .before .before .before .before .before .before .before .erase-answer .ensures) refl
+
+pub erase-spec : {M : Type 1} → statement M
+erase-spec =
+    tie.close
+    (tie.spec
+    erase-answer-requires
+    reply-requires
+    same-length
+    same-length-2
+    returns
+    blank-listed-requires
+    reply-requires-2
+    same-length-3
+    same-length-4
+    returns-2)

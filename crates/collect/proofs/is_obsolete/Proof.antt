@@ -1,0 +1,15 @@
+use borrow.Author.Needs.{needs}
+use mathlib.Core.Path.{sym, ap, _∙_}
+use Rattle.collect.specs.Permission.{isObsolete}
+use Rattle.collect.proofs.is_obsolete.Statement.{statement}
+use Rattle.collect.proofs.is_obsolete.Tie as tie
+
+page-at-requires : tie.Need-page-at-requires
+page-at-requires c κs = search needs
+
+returns : tie.Need-returns
+unfolding isObsolete
+returns c = rw (← c .before .before .page-at .ensures)
+
+pub is-obsolete-spec : {M : Type 1} → statement M
+is-obsolete-spec = tie.close (tie.spec page-at-requires returns)

@@ -1,0 +1,23 @@
+use borrow.Author.Needs.{needs}
+use Rattle.bounded.specs.Choice.{said-yes, said-no}
+use Rattle.collect.specs.Permission.{isShielded}
+use Rattle.collect.proofs.is_shielded.Statement.{statement}
+use Rattle.collect.proofs.is_shielded.Tie as tie
+
+is-exposed-requires : tie.Need-is-exposed-requires
+is-exposed-requires c κs = search needs
+
+returns : tie.Need-returns
+unfolding isShielded
+returns c = rw (said-no (c .before .is-exposed .ensures) (c .if1 .taken))
+
+straddles-requires : tie.Need-straddles-requires
+straddles-requires c κs = search needs
+
+returns-2 : tie.Need-returns-2
+unfolding isShielded
+returns-2 c =
+    rw (said-yes (c .before .before .is-exposed .ensures) (c .before .if1 .left)) (c .straddles .ensures)
+
+pub is-shielded-spec : {M : Type 1} → statement M
+is-shielded-spec = tie.close (tie.spec is-exposed-requires returns straddles-requires returns-2)

@@ -1,0 +1,33 @@
+use borrow.Author.Needs.{needs}
+use mathlib.Core.Path.{sym, _∙_}
+use Rattle.collect.specs.Permission.{isShielded}
+use Rattle.collect.specs.SearchLaws.{holds-none, holds-record}
+use Rattle.collect.proofs.slot_shielded.Statement.{statement}
+use Rattle.collect.proofs.slot_shielded.Tie as tie
+
+slot-at-requires : tie.Need-slot-at-requires
+slot-at-requires c κs = search needs
+
+enum-known-record : tie.Need-enum-known-record
+enum-known-record c = search needs
+
+enum-told : tie.Need-enum-told
+enum-told c = search needs
+
+returns : tie.Need-returns
+returns c = sym (holds-none _ (sym (c .before .before .slot-at .ensures) ∙ c .enum-told .given .1))
+
+is-shielded-requires : tie.Need-is-shielded-requires
+is-shielded-requires c κs =
+    let p = c .before .before .before .before .before .before .pre in
+    p .0 .pages-in _ _ (p .1) (sym (c .before .before .before .slot-at .ensures) ∙ c .before .«record» .given .1)
+
+returns-2 : tie.Need-returns-2
+returns-2 c =
+    c .is-shielded .ensures
+    ∙ sym (holds-record _ (sym (c .before .before .before .before .slot-at .ensures) ∙ c .before .before .«record» .given .1))
+
+pub slot-shielded-spec : {M : Type 1} → statement M
+slot-shielded-spec =
+    tie.close
+    (tie.spec slot-at-requires enum-known-record enum-told returns is-shielded-requires returns-2)

@@ -1,0 +1,75 @@
+-- The permission as the code decides it: what one slot, one straddler and one record settle.
+use Prim.Native.Nat.{ℕ, _+_, _<_}
+use native.Mathlib.Omega.{arith}
+use mathlib.Core.Path.{_≡_, refl, sym, ap, _∙_}
+use mathlib.Core.Bool.{Bool, true, false, not, _&&_, _||_}
+use borrow.Author.Tests.{ltb-true, le-ltb}
+use Rattle.bounded.specs.Choice.{on-lt}
+use Rattle.bounded.specs.BelowLaws.{some-of}
+use Rattle.record.specs.declared.Record.{Record}
+use Rattle.record.specs.declared.Slot.{Slot}
+use Rattle.record.specs.declared.Slot.the-variants.{Blank, Holds}
+use Rattle.record.specs.Slot.{holds, someRecord}
+use Rattle.state.specs.declared.PageState.{PageState}
+use Rattle.collect.specs.Permission.{isObsolete, isExposed, outreaches, isShielded, isNeeded, isCurrent, mayEraseRecord}
+
+-- ---- a search upward: one number more that does not pass
+pub none-more : (f : ℕ → Bool) (n : ℕ) → ((k : ℕ) → k < n → f k ≡ false) → f n ≡ false → (k : ℕ) → k < n + 1 → f k ≡ false
+none-more f n none e k h = on-lt k n (none k) (λ l. let q : k ≡ n = omega arith in ap f q ∙ e)
+
+-- ---- what a slot holds
+
+pub holds-none : (f : Record → Bool) {s : Slot} → s ≡ Blank → holds f s ≡ false
+unfolding holds
+holds-none f e = rw e
+
+pub holds-record : (f : Record → Bool) {s : Slot} {r : Record} → s ≡ Holds r → holds f s ≡ f r
+unfolding holds
+holds-record f e = rw e
+
+-- ---- a straddler
+
+module _ (S : ℕ) (t : ℕ → Slot) (st : ℕ → PageState) (K : Record) where
+  -- a better straddler settles it
+  pub outreached-not-needed : (k : ℕ) → k < S → holds (outreaches K) (t k) ≡ true → isNeeded S t st K ≡ false
+  unfolding isNeeded someRecord
+  outreached-not-needed k h e = rw (some-of (λ j. holds (outreaches K) (t j)) S k h e)
+
+  -- an exposed link settles it, where there is no better straddler
+  pub shields-needed : (k : ℕ) → k < S → holds (isShielded st K) (t k) ≡ true → someRecord S t (outreaches K) ≡ false → isNeeded S t st K ≡ true
+  unfolding isNeeded someRecord
+  shields-needed k h e none = rw (none, some-of (λ j. holds (isShielded st K) (t j)) S k h e)
+
+  -- no exposed link
+  pub nothing-shielded : someRecord S t (isShielded st K) ≡ false → isNeeded S t st K ≡ false
+  unfolding isNeeded
+  nothing-shielded e = let a : (b : Bool) → (b && false) ≡ false = never-both in rw e (a (not (someRecord S t (outreaches K))))
+    where
+      never-both : (b : Bool) → (b && false) ≡ false
+      never-both true = refl
+      never-both false = refl
+
+-- ---- a record
+
+module _ (S : ℕ) (t : ℕ → Slot) (st : ℕ → PageState) (r : Record) where
+  -- an obsolete record is not exposed
+  pub obsolete-unexposed : isObsolete st r ≡ true → isExposed st r ≡ false
+  unfolding isObsolete isExposed
+  obsolete-unexposed e = let h = ltb-true (r .v) (st (r .p) .committed) e in le-ltb (st (r .p) .committed) (r .v) (omega arith)
+
+  pub obsolete-erasable : isObsolete st r ≡ true → mayEraseRecord S t st r ≡ not (isNeeded S t st r)
+  unfolding mayEraseRecord
+  obsolete-erasable e = rw (e, obsolete-unexposed e) (or-false (not (isNeeded S t st r)))
+    where
+      or-false : (b : Bool) → (b || false) ≡ b
+      or-false true = refl
+      or-false false = refl
+
+  pub exposed-erasable : isObsolete st r ≡ false → isExposed st r ≡ true → mayEraseRecord S t st r ≡ not (isCurrent st r)
+  unfolding mayEraseRecord
+  exposed-erasable e h = rw (e, h)
+
+  -- a committed record stays
+  pub committed-stays : isObsolete st r ≡ false → isExposed st r ≡ false → mayEraseRecord S t st r ≡ false
+  unfolding mayEraseRecord
+  committed-stays e h = rw (e, h)

@@ -1,0 +1,64 @@
+-- What format writes slot by slot, and that it leaves the formatted flash.
+use Prim.Native.Nat.{ℕ, _*_, _≤_, _<_}
+use mathlib.Core.Path.{_≡_}
+use mathlib.Core.List.{List}
+use mathlib.Core.Bool.{cond}
+use lib.Dec.{ltb}
+use lib.ListN.{length, replicate, length-replicate}
+use borrow.Author.Tests.{lt-ltb, le-ltb}
+use Rattle.record.specs.Slot.{wordsOf, formattedRecord, blankRecord}
+use Rattle.record.specs.SlotLaws.{words-length}
+use Rattle.state.specs.declared.PageState.{PageState}
+use Rattle.state.specs.State.{pageWords, stateWords}
+use Rattle.state.specs.StateLaws.{length-pageWords}
+use Rattle.volume.specs.Fill.{filled, filled-all}
+use Rattle.volume.specs.Format.{formattedWords, formattedContents}
+
+-- "slot i below P holds (i, 0, 0, i, 0) …; all other slots are blank": the words of slot k
+unfoldable pub freshWords : (P k : ℕ) → List ℕ
+freshWords P k = wordsOf (cond (ltb k P) (formattedRecord k) blankRecord)
+
+-- "… with 32 zero bytes; all other slots are … with bytes 255": the bytes of slot k
+unfoldable pub freshBytes : (w P k : ℕ) → List ℕ
+freshBytes w P k = replicate w (cond (ltb k P) 0 255)
+
+module _ (P k : ℕ) where
+  pub length-freshWords : length (freshWords P k) ≡ 5
+  unfolding freshWords
+  length-freshWords = words-length (cond (ltb k P) (formattedRecord k) blankRecord)
+
+  pub length-freshBytes : (w : ℕ) → length (freshBytes w P k) ≡ w
+  unfolding freshBytes
+  length-freshBytes w = length-replicate w (cond (ltb k P) 0 255)
+
+  -- a slot that holds a page
+  pub words-of-page : k < P → freshWords P k ≡ wordsOf (formattedRecord k)
+  unfolding freshWords
+  words-of-page h = rw (lt-ltb k P h)
+
+  pub bytes-of-page : (w : ℕ) → k < P → freshBytes w P k ≡ replicate w 0
+  unfolding freshBytes
+  bytes-of-page w h = rw (lt-ltb k P h)
+
+  -- a free slot
+  pub words-of-free : P ≤ k → freshWords P k ≡ wordsOf blankRecord
+  unfolding freshWords
+  words-of-free h = rw (le-ltb k P h)
+
+  pub bytes-of-free : (w : ℕ) → P ≤ k → freshBytes w P k ≡ replicate w 255
+  unfolding freshBytes
+  bytes-of-free w h = rw (le-ltb k P h)
+
+-- all slots written
+pub words-formatted : (P S : ℕ) (words : List ℕ) → length words ≡ 5 * S → filled 5 (freshWords P) S words ≡ formattedWords P S
+unfolding formattedWords freshWords
+words-formatted P S words e = filled-all 5 (freshWords P) words S e (length-freshWords P)
+
+pub contents-formatted : (w P S : ℕ) (contents : List ℕ) → length contents ≡ w * S → filled w (freshBytes w P) S contents ≡ formattedContents w P S
+unfolding formattedContents freshBytes
+contents-formatted w P S contents e = filled-all w (freshBytes w P) contents S e (λ k. length-freshBytes P k w)
+
+-- all pages of a state written, each as st says
+pub state-filled : (P : ℕ) (st : ℕ → PageState) (state : List ℕ) → length state ≡ 4 * P → filled 4 (λ p. pageWords (st p)) P state ≡ stateWords P st
+unfolding stateWords
+state-filled P st state e = filled-all 4 (λ p. pageWords (st p)) state P e (λ p. length-pageWords (st p))
