@@ -168,7 +168,7 @@ module _ {X : Type 0} (view : View X) {P : ℕ} {R R′ : X → List ℕ → Typ
   at-once-more x b w (inl l) = inl (let r = comm-rises (view .nextPage x) (view .sound-next P x (all-sound x b w)) in omega arith)
   at-once-more x b w (inr none) =
       elim (decide-links view x (plan view st p)) [
-        | yes l ↦ inl (committed-now (sym (plan-page view st p) ∙ l .0) (sym (plan-version view st p) ∙ l .1))
+        | yes l ↦ inl (let c = committed-now (sym (plan-page view st p) ∙ l .0) (sym (plan-version view st p) ∙ l .1) in omega arith)
         | no n ↦ inr (none-more view writes core live x none n)
       ]
     where
