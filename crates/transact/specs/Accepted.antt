@@ -14,8 +14,9 @@ use Rattle.bounded.specs.Parts.{putPart}
 use Rattle.bounded.specs.PartsLaws.{part-inside}
 use Rattle.outcome.specs.Outcome.{_⇒_otherwise_, passed}
 use Rattle.record.specs.declared.Record.{Record}
-use Rattle.record.specs.Slot.{slotAt, wordsOf}
+use Rattle.record.specs.Slot.{slotAt, wordsOf, plannedRecord}
 use Rattle.record.specs.Flash.{apply, putSlot}
+use Rattle.state.specs.declared.PageState.{PageState}
 use Rattle.state.specs.State.{stateAt, stateWords, stateSound, inFlight}
 use Rattle.state.specs.StateLaws.{state-sound-facts}
 use Rattle.state.specs.Change.{launched, withdrawn, completes, afterWrite}
@@ -109,6 +110,11 @@ module _ (P S : ℕ) (state : List ℕ) (page : ℕ) where
   withdraw-leaves z = ap (λ (n : ℕ). stateWords n (withdrawn n (stateAt state) page)) (pages-in P state (withdraw-tests z .0))
 
 -- ---- write
+
+-- the planned record, from the states of the page and of its next page
+pub plan-is : (st : ℕ → PageState) (page : ℕ) (s next : PageState) → s ≡ st page → next ≡ st (s .next) → plannedRecord page (s .used) (s .committed) (s .next) (next .used) ≡ planOf st page
+unfolding planOf
+plan-is st page s next e f = rw (f, e)
 
 -- the page can be written into the slot
 pub record Writes (w P S : ℕ) (v : Volume) (page slot : ℕ) (bytes : List ℕ) : Type 0 where

@@ -1,10 +1,9 @@
 use native.Mathlib.Omega.{arith}
-use mathlib.Core.Path.{ap}
+use mathlib.Core.Path.{ap, _∙_}
 use borrow.Author.Needs.{needs}
-use Rattle.record.specs.Slot.{plannedRecord}
 use Rattle.state.specs.declared.PageState.{PageState}
 use Rattle.state.specs.WalkLaws.{walkable-facts}
-use Rattle.transact.specs.Write.{planOf}
+use Rattle.transact.specs.Accepted.{plan-is}
 use Rattle.transact.proofs.plan_of.Statement.{statement}
 use Rattle.transact.proofs.plan_of.Tie as tie
 
@@ -22,8 +21,7 @@ planned-requires : tie.Need-planned-requires
 planned-requires c κs = search needs
 
 returns : tie.Need-returns
-unfolding planOf plannedRecord
-returns c = rw (c .planned .ensures, c .before .page-at2 .ensures, c .before .before .page-at .ensures)
+returns c = c .planned .ensures ∙ plan-is _ _ _ _ (c .before .before .page-at .ensures) (c .before .page-at2 .ensures)
 
 pub plan-of-spec : {M : Type 1} → statement M
 plan-of-spec =
