@@ -9,17 +9,13 @@ use Rattle.protocol.specs.View.{View, Exposed, IsCommitted, recordView}
 use Rattle.protocol.specs.Shared.{SharedCore, SharedLive}
 
 module _ (R : Record → List ℕ → Type 0) (comm : ℕ → ℕ) where
-  -- r points back at its page's committed version
-  abbrev pub PointsBack : Record → Type 0
-  PointsBack r = r .c ≡ comm (r .p)
-
   -- r links to a version above the committed one, or a record not above the committed one straddles its link
   abbrev pub AheadOrStraddled : Record → Type 0
   AheadOrStraddled r = (comm (r .np) < r .nv) ⊎ ((K : Record) × (d : List ℕ) × R K d × (K .v ≤ comm (r .np)) × Straddles K r)
 
   pub record BackPointerCore : Type 0 where
     -- an exposed record points back at its page's committed version
-    pub exposed-back : (r : Record) (b : List ℕ) → R r b → Exposed recordView comm r → PointsBack r
+    pub exposed-back : (r : Record) (b : List ℕ) → R r b → Exposed recordView comm r → r .c ≡ comm (r .p)
     -- no record straddles a committed record's link
     pub committed-clear : (r K : Record) (b d : List ℕ) → R r b → R K d → IsCommitted recordView comm r → Straddles K r → ⊥
     -- an exposed record's link is ahead or straddled

@@ -10,8 +10,8 @@ use Rattle.state.specs.declared.PageState.{PageState}
 use Rattle.state.specs.State.{inFlight, isWritten}
 use Rattle.state.specs.StateLaws.{PageFacts, StateFacts}
 use Rattle.state.specs.CycleLaws.{Flies, next-flies}
-use Rattle.protocol.specs.View.{View, LinksTo, decide-links, IsAt, IsCommitted, Exposed, LinkSettled}
-use Rattle.protocol.specs.Shared.{SharedCore, SharedLive, WithinUsed, OpenAtOnce, OpenWithin, Open, plan, commOf, AtUsed, Predecessor}
+use Rattle.protocol.specs.View.{View, LinksTo, decide-links, IsAt, IsCommitted, Exposed}
+use Rattle.protocol.specs.Shared.{SharedCore, SharedLive, WithinUsed, OpenAtOnce, OpenWithin, Open, plan, commOf}
 use Rattle.protocol.specs.Stored.{Adds, Writes, plan-page, plan-version, plan-next, plan-next-version, none-more, all-sound-more, one-record-more, within-used-more}
 
 -- Page p's cycle, as a test, all of whose pages but p are written; and the state, the kept contents and the entered ones after its completion.
@@ -120,10 +120,10 @@ module _ {X : Type 0} (view : View X) {P : ℕ} {R R′ : X → List ℕ → Typ
       (λ c. let k = committed-kept q h in
       (k .0, subst (R′ (k .0)) (sym (kept-off q h c)) (grows (k .0) (kept q) (k .1)), (k .2 .0, k .2 .1 ∙ sym (comm-off q h c))))
 
-  link-more : (x : X) (b : List ℕ) → R′ x b → IsCommitted view (commOf st′) x → LinkSettled view (commOf st′) x
+  link-more : (x : X) (b : List ℕ) → R′ x b → IsCommitted view (commOf st′) x → view .nextVersion x ≤ st′ (view .nextPage x) .committed
   link-more x b w e = by (committed-by x b w e)
     where
-      by : CommittedBy x b → LinkSettled view (commOf st′) x
+      by : CommittedBy x b → view .nextVersion x ≤ st′ (view .nextPage x) .committed
       by (now c s) =
           let n = next-of x s in
           let v = next-version-of x s in
@@ -168,7 +168,7 @@ module _ {X : Type 0} (view : View X) {P : ℕ} {R R′ : X → List ℕ → Typ
   at-once-more x b w (inl l) = inl (let r = comm-rises (view .nextPage x) (view .sound-next P x (all-sound x b w)) in omega arith)
   at-once-more x b w (inr none) =
       elim (decide-links view x (plan view st p)) [
-        | yes l ↦ inl (let c = committed-now (sym (plan-page view st p) ∙ l .0) (sym (plan-version view st p) ∙ l .1) in omega arith)
+        | yes l ↦ inl (committed-now (sym (plan-page view st p) ∙ l .0) (sym (plan-version view st p) ∙ l .1))
         | no n ↦ inr (none-more view writes core live x none n)
       ]
     where
@@ -222,11 +222,11 @@ module _ {X : Type 0} (view : View X) {P : ℕ} {R R′ : X → List ℕ → Typ
       let s = written-stored q h (flies-before q h f .flies) (written-same q h f ∙ w) in
       (s .0, subst (λ (x : X). R′ x (s .0)) (plan-same q h f) (grows (plan view st q) (s .0) (s .1)), entered-off q (s .0) h (flight-off q f) (s .2))
 
-  absent : (q : ℕ) → q < P → inFlight (st′ q) ≡ true → isWritten (st′ q) ≡ false → (x : X) (b : List ℕ) → R′ x b → AtUsed view st′ q x → ⊥
+  absent : (q : ℕ) → q < P → inFlight (st′ q) ≡ true → isWritten (st′ q) ≡ false → (x : X) (b : List ℕ) → R′ x b → IsAt view x q (st′ q .used) → ⊥
   absent q h f w x b v e =
       unwritten-absent q h (flies-before q h f .flies) (written-same q h f ∙ w) x b
       (old-off x b v (ap cycle (e .0) ∙ flight-off q f))
-      (e .0, let v = e .1 in let s = used-same q h in omega arith)
+      (e .0, e .1 ∙ used-same q h)
 
   planned :
       (q : ℕ)
@@ -236,7 +236,7 @@ module _ {X : Type 0} (view : View X) {P : ℕ} {R R′ : X → List ℕ → Typ
       → R′ x b
       → view .nextPage x ≡ q
       → view .nextVersion x ≡ st′ q .used
-      → Predecessor view st′ q x
+      → (inFlight (st′ (view .page x)) ≡ true) × (st′ (view .page x) .next ≡ q) × (view .version x ≡ st′ (view .page x) .used)
   planned q h f x b w n v = by (old-or-new x b w)
     where
       off : cycle q ≡ false
@@ -244,7 +244,7 @@ module _ {X : Type 0} (view : View X) {P : ℕ} {R R′ : X → List ℕ → Typ
 
       by :
           R x b ⊎ ((x ≡ plan view st p) × (b ≡ bytes))
-          → Predecessor view st′ q x
+          → (inFlight (st′ (view .page x)) ≡ true) × (st′ (view .page x) .next ≡ q) × (view .version x ≡ st′ (view .page x) .used)
       by (inl u) =
           let l = link-planned q h (flies-before q h f .flies) x b u n (v ∙ used-same q h) in
           let here : cycle (view .page x) ≡ false =

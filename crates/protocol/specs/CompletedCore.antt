@@ -13,7 +13,7 @@ use Rattle.state.specs.State.{inFlight}
 use Rattle.state.specs.CycleLaws.{Flies}
 use Rattle.protocol.specs.View.{View, recordView, IsCommitted, Exposed}
 use Rattle.protocol.specs.Shared.{SharedCore, SharedLive, WithinUsed, plan, commOf}
-use Rattle.protocol.specs.BackPointer.{PointsBack, AheadOrStraddled, BackPointerCore, Core}
+use Rattle.protocol.specs.BackPointer.{AheadOrStraddled, BackPointerCore, Core}
 use Rattle.protocol.specs.Stored.{Adds, Writes, plan-page, plan-version, within-used-more, plan-back, plan-clear}
 use Rattle.protocol.specs.Completed.{Completes, StillExposed, still-exposed, CommittedBy, committed-by, next-of, next-version-of, comm-off, comm-rises, page-below, stored-on, shared-core-completed}
 use Rattle.protocol.specs.Completed.CommittedBy.{now, before}
@@ -29,12 +29,10 @@ module _ {P : ℕ} {R R′ : Record → List ℕ → Type 0} {st st′ : ℕ →
   open BackPointerCore own using (exposed-back, committed-clear, exposed-link)
   open SharedLive live using (within-used, link-planned)
 
-  back-completed : (x : Record) (b : List ℕ) → R′ x b → Exposed recordView (commOf st′) x → PointsBack R′ (commOf st′) x
+  back-completed : (x : Record) (b : List ℕ) → R′ x b → Exposed recordView (commOf st′) x → x .c ≡ st′ (x .p) .committed
   back-completed x b w l =
       let s = still-exposed recordView writes completes shared live x b w l in
-      let c = exposed-back x b (s .old) (s .before) in
-      let e = comm-off recordView writes completes shared live (x .p) (page-below recordView writes completes shared live x b w) (s .off) in
-      omega arith
+      exposed-back x b (s .old) (s .before) ∙ sym (comm-off recordView writes completes shared live (x .p) (page-below recordView writes completes shared live x b w) (s .off))
 
   clear-completed : (x K : Record) (b d : List ℕ) → R′ x b → R′ K d → IsCommitted recordView (commOf st′) x → Straddles K x → ⊥
   clear-completed x K b d w u e s = by (committed-by recordView writes completes shared live x b w e)

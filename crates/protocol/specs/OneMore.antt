@@ -17,8 +17,8 @@ use Rattle.state.specs.StateLaws.{PageFacts, StateFacts}
 use Rattle.state.specs.Cycle.{along}
 use Rattle.state.specs.CycleLaws.{Flies, next-flies, along-zero, along-front}
 use Rattle.protocol.specs.View.{View, recordView, LinksTo, decide-links, IsAt, IsCommitted, Exposed}
-use Rattle.protocol.specs.Shared.{SharedCore, SharedLive, WithinUsed, OpenAtOnce, OpenWithin, Open, plan, commOf, AtUsed, Predecessor}
-use Rattle.protocol.specs.BackPointer.{PointsBack, AheadOrStraddled, BackPointerCore, Core}
+use Rattle.protocol.specs.Shared.{SharedCore, SharedLive, WithinUsed, OpenAtOnce, OpenWithin, Open, plan, commOf}
+use Rattle.protocol.specs.BackPointer.{AheadOrStraddled, BackPointerCore, Core}
 use Rattle.protocol.specs.Stored.{Adds, Writes, plan-page, plan-version, plan-next, plan-next-version, plan-links, old-and-new, none-more, committed-old, all-sound-more, one-record-more, within-used-more, plan-back, plan-clear, plan-ahead}
 
 -- once page p is written, page u is still to be
@@ -52,7 +52,7 @@ module _ {X : Type 0} (view : View X) {P : ℕ} {R R′ : X → List ℕ → Typ
           version = l .1 ∙ plan-next-version view st q
 
           by : R t d ⊎ ((t ≡ plan view st p) × (d ≡ bytes)) → ⊥
-          by (inl u) = unwritten-absent n (next .below) (next .flies) (m .0) t d u (page, let v = version in omega arith)
+          by (inl u) = unwritten-absent n (next .below) (next .flies) (m .0) t d u (page, version)
           by (inr e) = m .1 (sym page ∙ ap (view .page) (e .0) ∙ plan-page view st p)
 
   -- with a page missing ahead, the record planned for q is open
@@ -162,7 +162,7 @@ module _ {X : Type 0} (view : View X) {P : ℕ} {R R′ : X → List ℕ → Typ
       → isWritten (st′ q) ≡ false
       → (x : X) (b : List ℕ)
       → R′ x b
-      → AtUsed view st′ q x
+      → IsAt view x q (st′ q .used)
       → ⊥
   absent q h f w x b v e = by (old-or-new x b v)
     where
@@ -170,11 +170,14 @@ module _ {X : Type 0} (view : View X) {P : ℕ} {R R′ : X → List ℕ → Typ
       there = unmarked q w
 
       by : R x b ⊎ ((x ≡ plan view st p) × (b ≡ bytes)) → ⊥
-      by (inl u) = unwritten-absent q h (flies-before q h f .flies) (sym (written-there q h there) ∙ w) x b u (e .0, let v = e .1 in let s = same-used q h in omega arith)
+      by (inl u) = unwritten-absent q h (flies-before q h f .flies) (sym (written-there q h there) ∙ w) x b u (e .0, e .1 ∙ same-used q h)
       by (inr n) = there (sym (e .0) ∙ ap (view .page) (n .0) ∙ plan-page view st p)
 
-  -- what a link to a used version says is the same in either state
-  predecessor-same : (q : ℕ) (x : X) (b : List ℕ) → R′ x b → Predecessor view st q x → Predecessor view st′ q x
+  -- what a link to a used version says, in either state
+  abbrev Predecessor : (ℕ → PageState) → ℕ → X → Type 0
+  Predecessor s q x = (inFlight (s (view .page x)) ≡ true) × (s (view .page x) .next ≡ q) × (view .version x ≡ s (view .page x) .used)
+
+  predecessor-same : (q : ℕ) (x : X) (b : List ℕ) → R′ x b → Predecessor st q x → Predecessor st′ q x
   predecessor-same q x b v w =
       let h = view .sound-page P x (all-sound-more view writes core live x b v) in
       (flight-same (view .page x) h ∙ w .0, same-next (view .page x) h ∙ w .1, w .2 ∙ sym (same-used (view .page x) h))
@@ -194,7 +197,7 @@ module _ {X : Type 0} (view : View X) {P : ℕ} {R R′ : X → List ℕ → Typ
             unwritten-not-entered q h (flies-before q h f .flies) (sym (written-there q h (unmarked q w)) ∙ w) b (entered-before q b h (unmarked q w) e);
         link-planned = λ q h f x b v n u.
             predecessor-same q x b v
-            (old-and-new view writes core live (λ x b. view .nextPage x ≡ q → view .nextVersion x ≡ st q .used → Predecessor view st q x)
+            (old-and-new view writes core live (λ x b. view .nextPage x ≡ q → view .nextVersion x ≡ st q .used → Predecessor st q x)
             (λ x b w. link-planned q h (flies-before q h f .flies) x b w)
             (λ n u. (
               ap (λ (y : ℕ). inFlight (st y)) (plan-page view st p) ∙ flies .flies,
@@ -221,9 +224,9 @@ module _ {P : ℕ} {R R′ : Record → List ℕ → Type 0} {st : ℕ → PageS
         shared = shared-core-more recordView writes shared live gap;
         own = record {
           exposed-back =
-              old-and-new recordView writes shared live (λ x b. Exposed recordView (commOf st) x → PointsBack R (commOf st) x)
+              old-and-new recordView writes shared live (λ x b. Exposed recordView (commOf st) x → x .c ≡ st (x .p) .committed)
               exposed-back
-              (λ l. let a = plan-back st p in let e = ap (λ (y : ℕ). st y .committed) (plan-page recordView st p) in omega arith);
+              (λ l. plan-back st p ∙ ap (λ (y : ℕ). st y .committed) (sym (plan-page recordView st p)));
           committed-clear = λ x K b d w u e s. let old = committed-old recordView writes shared live x b w e in
               old-and-new recordView writes shared live (λ K d. Straddles K x → ⊥)
               (λ K d u. committed-clear x K b d old u e)
@@ -234,7 +237,7 @@ module _ {P : ℕ} {R R′ : Record → List ℕ → Type 0} {st : ℕ → PageS
               (λ x b. Exposed recordView (commOf st) x
               → AheadOrStraddled R′ (commOf st) x)
               (λ x b w l. over x (exposed-link x b w l))
-              (λ l. inl (let a = plan-ahead writes in omega arith));
+              (λ l. inl (plan-ahead writes));
         };
       }
     where

@@ -22,11 +22,10 @@ use Rattle.table.specs.Table.{lowestSlot, hasVersion}
 use Rattle.volume.specs.Volume.{Volume, volumeFits}
 use Rattle.volume.specs.Read.{readSlot, readAnswer, readOutcome}
 use Rattle.recovery.specs.Recover.{usedOf, recovered}
-use Rattle.recovery.specs.RecoverLaws.{used-above-version}
 use Rattle.protocol.specs.View.{InSlots, recordView}
 use Rattle.protocol.specs.Shared.{SharedCore, WithinUsed}
 use Rattle.protocol.specs.BackPointer.{Core}
-use Rattle.protocol.specs.RecoverAnswers.{table-sound, committed-there, recovered-is}
+use Rattle.protocol.specs.RecoverAnswers.{table-sound, committed-there, recovered-is, found-within-used}
 use Rattle.table.specs.TableLaws.{lowest-holds}
 use Rattle.protocol.specs.WriteSteps.{at-rest}
 use Rattle.protocol.specs.Needed.{used-most}
@@ -80,8 +79,7 @@ module _ (w P S : ℕ) (v : Volume) {comm : ℕ → ℕ} {kept : ℕ → List �
   committed-used : (p : ℕ) → p < P → comm p ≤ usedOf S (tableOf v) p
   committed-used p h =
       let c = committed-kept p h in
-      let k = c .1 in
-      let l = used-above-version S (tableOf v) (k .0) (c .0) (k .1) (k .2) in
+      let l = found-within-used S (tableOf v) (bytesOf w v) .version-used (c .0) (kept p) (c .1) in
       let e = ap (usedOf S (tableOf v)) (c .2 .0) in
       let q = c .2 .1 in
       omega arith

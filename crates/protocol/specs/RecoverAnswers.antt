@@ -31,8 +31,8 @@ use Rattle.recovery.specs.RecoverLaws.{used-above-version, used-above-next}
 pub found-within-used : (S : ℕ) (t : ℕ → Slot) (bytes : ℕ → List ℕ) → WithinUsed recordView (InSlots S t bytes) (usedOf S t)
 found-within-used S t bytes =
     record {
-      version-used = λ r b w. let l = used-above-version S t (w .0) r (w .1) (w .2) in omega arith;
-      link-used = λ r b w. let l = used-above-next S t (w .0) r (w .1) (w .2) in omega arith;
+      version-used = λ r b w. used-above-version S t (w .0) r (w .1) (w .2);
+      link-used = λ r b w. used-above-next S t (w .0) r (w .1) (w .2);
     }
 
 pub no-clash : (S : ℕ) (t : ℕ → Slot) → NoTwins S t → someClash S t ≡ false

@@ -200,5 +200,4 @@ module _ {P S : ℕ} {t : ℕ → Slot} {bytes : ℕ → List ℕ} {comm : ℕ �
       by (inr w) =
           let g = w .1 in
           let e = ap comm (g .is-top .of-page) in
-          let c = exposed-back (g .last) (g .is-top .contents) (g .is-top .stored) (top-exposed p (g .last) (g .is-top) (g .exposed)) in
-          rw (committedOf, walk-red p (w .0) g, g .is-top .found) (omega arith)
+          rw (committedOf, walk-red p (w .0) g, g .is-top .found) (exposed-back (g .last) (g .is-top .contents) (g .is-top .stored) (top-exposed p (g .last) (g .is-top) (g .exposed)) ∙ e)

@@ -11,7 +11,7 @@ use Rattle.record.specs.declared.Record.{Record}
 use Rattle.state.specs.declared.PageState.{PageState}
 use Rattle.state.specs.State.{inFlight, isWritten}
 use Rattle.protocol.specs.View.{View, recordView, LinksTo, IsAt}
-use Rattle.protocol.specs.Shared.{SharedCore, SharedLive, WithinUsed, OpenAtOnce, OpenWithin, plan, AtUsed, Predecessor}
+use Rattle.protocol.specs.Shared.{SharedCore, SharedLive, WithinUsed, OpenAtOnce, OpenWithin, plan}
 use Rattle.protocol.specs.BackPointer.{AheadOrStraddled, BackPointerCore, Core}
 
 -- The same pairs, and the same committed versions and kept contents of each page.
@@ -71,7 +71,7 @@ module _ {P : ℕ} {R R′ : Record → List ℕ → Type 0} {comm comm′ : ℕ
       record {
         shared = shared-core-same recordView same shared;
         own = record {
-          exposed-back = λ r b w l. let e = at-page r b w in let c = exposed-back r b (back r b w) (omega arith) in omega arith;
+          exposed-back = λ r b w l. let e = at-page r b w in exposed-back r b (back r b w) (omega arith) ∙ e;
           committed-clear = λ r K b d w u e s. committed-clear r K b d (back r b w) (back K d u) (e ∙ sym (at-page r b w)) s;
           exposed-link = λ r b w l. let e = at-page r b w in over r b w (exposed-link r b (back r b w) (omega arith));
         };
@@ -132,7 +132,7 @@ module _ {X : Type 0} (view : View X) {P : ℕ} {R : X → List ℕ → Type 0} 
 
   absent :
       (p : ℕ) → p < P → inFlight (st′ p) ≡ true → isWritten (st′ p) ≡ false → Launched P st st′ Entered Entered′ p ⊎ GoesOn P st st′ Entered Entered′ p
-      → (r : X) (b : List ℕ) → R r b → AtUsed view st′ p r → ⊥
+      → (r : X) (b : List ℕ) → R r b → IsAt view r p (st′ p .used) → ⊥
   absent p h f w (inl l) r b v e =
       let u = within-used .version-used r b v in
       let a = ap (λ (x : ℕ). st x .used) (e .0) in
@@ -141,7 +141,7 @@ module _ {X : Type 0} (view : View X) {P : ℕ} {R : X → List ℕ → Type 0} 
       omega arith
   absent p h f w (inr g) r b v e =
       unwritten-absent p h (ap inFlight (sym (g .unchanged)) ∙ f) (ap isWritten (sym (g .unchanged)) ∙ w) r b v
-      (e .0, let v = e .1 in let u = ap (λ (s : PageState). s .used) (g .unchanged) in omega arith)
+      (e .0, e .1 ∙ ap (λ (s : PageState). s .used) (g .unchanged))
 
   not-entered :
       (p : ℕ) → p < P → inFlight (st′ p) ≡ true → isWritten (st′ p) ≡ false → Launched P st st′ Entered Entered′ p ⊎ GoesOn P st st′ Entered Entered′ p
@@ -153,7 +153,7 @@ module _ {X : Type 0} (view : View X) {P : ℕ} {R : X → List ℕ → Type 0} 
   planned :
       (p : ℕ) → p < P → inFlight (st′ p) ≡ true → Launched P st st′ Entered Entered′ p ⊎ GoesOn P st st′ Entered Entered′ p
       → (r : X) (b : List ℕ) → R r b → view .nextPage r ≡ p → view .nextVersion r ≡ st′ p .used
-      → Predecessor view st′ p r
+      → (inFlight (st′ (view .page r)) ≡ true) × (st′ (view .page r) .next ≡ p) × (view .version r ≡ st′ (view .page r) .used)
   planned p h f (inl l) r b v e n =
       absurd (let u = within-used .link-used r b v in
       let a = ap (λ (x : ℕ). st x .used) e in

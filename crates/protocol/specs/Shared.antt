@@ -6,7 +6,7 @@ use mathlib.Core.Logic.{_⊎_}
 use mathlib.Core.Bool.{true, false}
 use Rattle.state.specs.declared.PageState.{PageState}
 use Rattle.state.specs.State.{inFlight, isWritten}
-use Rattle.protocol.specs.View.{View, Exposed, IsCommitted, LinksTo, IsAt, LinkSettled, VersionWithin, LinkWithin}
+use Rattle.protocol.specs.View.{View, Exposed, IsCommitted, LinksTo, IsAt}
 
 module _ {X : Type 0} (view : View X) (R : X → List ℕ → Type 0) (comm : ℕ → ℕ) where
   -- the link of r is committed already, or leads to no record
@@ -30,7 +30,7 @@ module _ {X : Type 0} (view : View X) (R : X → List ℕ → Type 0) (comm : �
     -- each page has its committed version, with the kept contents
     pub committed-kept : (p : ℕ) → p < P → (r : X) × R r (kept p) × IsAt view r p (comm p)
     -- a committed record links to a version that is committed or older
-    pub committed-link : (r : X) (b : List ℕ) → R r b → IsCommitted view comm r → LinkSettled view comm r
+    pub committed-link : (r : X) (b : List ℕ) → R r b → IsCommitted view comm r → view .nextVersion r ≤ comm (view .nextPage r)
     -- committed records of different pages have different links
     pub links-apart :
         (r s : X) (b d : List ℕ)
@@ -56,18 +56,10 @@ module _ {X : Type 0} (view : View X) where
   abbrev pub plan : (ℕ → PageState) → ℕ → X
   plan st p = view .planned p (st p .used) (st p .committed) (st p .next) (st (st p .next) .used)
 
-  -- r is the record of page p at its used version
-  abbrev pub AtUsed : (ℕ → PageState) → ℕ → X → Type 0
-  AtUsed st p r = IsAt view r p (st p .used)
-
-  -- r is at the used version of the page before p on its cycle
-  abbrev pub Predecessor : (ℕ → PageState) → ℕ → X → Type 0
-  Predecessor st p r = (inFlight (st (view .page r)) ≡ true) × (st (view .page r) .next ≡ p) × (view .version r ≡ st (view .page r) .used)
-
   -- no record and no link is above its page's used version
   pub record WithinUsed (R : X → List ℕ → Type 0) (used : ℕ → ℕ) : Type 0 where
-    pub version-used : (r : X) (b : List ℕ) → R r b → VersionWithin view used r
-    pub link-used : (r : X) (b : List ℕ) → R r b → LinkWithin view used r
+    pub version-used : (r : X) (b : List ℕ) → R r b → view .version r ≤ used (view .page r)
+    pub link-used : (r : X) (b : List ℕ) → R r b → view .nextVersion r ≤ used (view .nextPage r)
 
   -- What the records are to a known state, with the contents entered for pages in flight.
   pub record SharedLive (P : ℕ) (R : X → List ℕ → Type 0) (st : ℕ → PageState) (Entered : ℕ → List ℕ → Type 0) : Type 0 where
@@ -76,7 +68,7 @@ module _ {X : Type 0} (view : View X) where
     pub written-stored : (p : ℕ) → p < P → inFlight (st p) ≡ true → isWritten (st p) ≡ true → (b : List ℕ) × R (plan st p) b × Entered p b
     -- of a page in flight and not written there is no record at its used version
     pub unwritten-absent :
-        (p : ℕ) → p < P → inFlight (st p) ≡ true → isWritten (st p) ≡ false → (r : X) (b : List ℕ) → R r b → AtUsed st p r → ⊥
+        (p : ℕ) → p < P → inFlight (st p) ≡ true → isWritten (st p) ≡ false → (r : X) (b : List ℕ) → R r b → IsAt view r p (st p .used) → ⊥
     -- … and nothing is entered
     pub unwritten-not-entered : (p : ℕ) → p < P → inFlight (st p) ≡ true → isWritten (st p) ≡ false → (b : List ℕ) → Entered p b → ⊥
     -- only a page's predecessor on its cycle links to its used version, and from its own used version
@@ -88,4 +80,4 @@ module _ {X : Type 0} (view : View X) where
         → R r b
         → view .nextPage r ≡ p
         → view .nextVersion r ≡ st p .used
-        → Predecessor st p r
+        → (inFlight (st (view .page r)) ≡ true) × (st (view .page r) .next ≡ p) × (view .version r ≡ st (view .page r) .used)

@@ -11,7 +11,7 @@ use Rattle.state.specs.declared.PageState.{PageState}
 use Rattle.state.specs.State.{inFlight, isWritten}
 use Rattle.state.specs.StateLaws.{PageFacts, StateFacts}
 use Rattle.state.specs.CycleLaws.{Flies, next-flies}
-use Rattle.protocol.specs.View.{View, recordView, planned-record-back, LinksTo, IsAt, IsCommitted, Exposed, VersionWithin, LinkWithin}
+use Rattle.protocol.specs.View.{View, recordView, planned-record-back, LinksTo, IsAt, IsCommitted, Exposed}
 use Rattle.protocol.specs.Shared.{SharedCore, SharedLive, WithinUsed, plan, commOf, usedOf}
 
 -- the set R with the pair of r and these bytes added
@@ -64,7 +64,7 @@ module _ {X : Type 0} (view : View X) {P : ℕ} {R R′ : X → List ℕ → Typ
 
   -- no old record is at the added one's page and version
   pub not-there : (x : X) (b : List ℕ) → R x b → view .page x ≡ p → view .version x ≡ st p .used → ⊥
-  not-there x b w e v = unwritten-absent p (flies .below) (flies .flies) unwritten x b w (e, omega arith)
+  not-there x b w e v = unwritten-absent p (flies .below) (flies .flies) unwritten x b w (e, v)
 
   -- a link that led to no record leads to none, unless to the added one
   pub none-more :
@@ -118,10 +118,10 @@ module _ {X : Type 0} (view : View X) {P : ℕ} {R R′ : X → List ℕ → Typ
   within-used-more =
       record {
         version-used =
-            old-and-new (λ x b. VersionWithin view (usedOf st) x) (within-used .version-used)
+            old-and-new (λ x b. view .version x ≤ st (view .page x) .used) (within-used .version-used)
             (let a = ap (λ (x : ℕ). st x .used) (plan-page view st p) in let v = plan-version view st p in omega arith);
         link-used =
-            old-and-new (λ x b. LinkWithin view (usedOf st) x) (within-used .link-used)
+            old-and-new (λ x b. view .nextVersion x ≤ st (view .nextPage x) .used) (within-used .link-used)
             (let a = ap (λ (x : ℕ). st x .used) (plan-next view st p) in let v = plan-next-version view st p in omega arith);
       }
 

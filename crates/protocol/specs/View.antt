@@ -39,17 +39,6 @@ Obsolete view comm r = view .version r < comm (view .page r)
 abbrev pub IsCommitted : {X : Type 0} → View X → (ℕ → ℕ) → X → Type 0
 IsCommitted view comm r = view .version r ≡ comm (view .page r)
 
--- r links to a version that is committed or older
-abbrev pub LinkSettled : {X : Type 0} → View X → (ℕ → ℕ) → X → Type 0
-LinkSettled view comm r = view .nextVersion r ≤ comm (view .nextPage r)
-
--- r's version is at most its page's used version, and so its link's
-abbrev pub VersionWithin : {X : Type 0} → View X → (ℕ → ℕ) → X → Type 0
-VersionWithin view used r = view .version r ≤ used (view .page r)
-
-abbrev pub LinkWithin : {X : Type 0} → View X → (ℕ → ℕ) → X → Type 0
-LinkWithin view used r = view .nextVersion r ≤ used (view .nextPage r)
-
 -- r is the record of page p at version v
 abbrev pub IsAt : {X : Type 0} → View X → X → (p v : ℕ) → Type 0
 IsAt view r p v = (view .page r ≡ p) × (view .version r ≡ v)
