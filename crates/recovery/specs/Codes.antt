@@ -1,18 +1,17 @@
 -- A verdict as one number, so that a table of verdicts fits an array: a page, 256 for committed, 257 for uncommitted.
 use Prim.Native.Nat.{ℕ, zero, suc, _<_}
 use native.Mathlib.Omega.{arith}
-use mathlib.Core.Path.{_≡_, refl, sym, ap, ap₂, _∙_, subst}
+use mathlib.Core.Path.{_≡_, refl, ap, _∙_}
 use mathlib.Core.List.{List}
 use mathlib.Core.Bool.{cond}
 use lib.Dec.{eqb}
 use lib.ListN.{getD}
-use borrow.Author.Tests.{eq-eqb, ne-eqb}
-use Rattle.bounded.specs.Choice.{on-eq}
+use borrow.Author.Tests.{ne-eqb}
 use Rattle.table.specs.Tabulate.{tabulate, tabulate-at}
 use Rattle.recovery.specs.declared.Verdict.{Verdict}
 use Rattle.recovery.specs.declared.Verdict.the-variants.{Committed, Uncommitted, On}
 use Rattle.recovery.specs.declared.Walk.{Walk}
-use Rattle.recovery.specs.Follow.{link, oneMore, followFrom, follow}
+use Rattle.recovery.specs.Follow.{link, followFrom, follow}
 
 unfoldable pub codeOf : Verdict → ℕ
 codeOf (On page) = page

@@ -1,10 +1,10 @@
 -- The tables that recovery keeps, one entry a page: highest slots, verdict codes, committed and used versions; and the answers by them.
-use Prim.Native.Nat.{ℕ, zero, suc, _+_, _*_, _≤_, _<_, max}
+use Prim.Native.Nat.{ℕ, _+_, _*_, _≤_, _<_, max}
 use native.Mathlib.Omega.{arith}
 use native.Mathlib.Numerals.{add-one}
 use mathlib.Core.Path.{_≡_, refl, sym, ap, ap₂, _∙_}
 use mathlib.Core.List.{List}
-use mathlib.Core.Bool.{Bool, true, false, cond, not, _&&_, _||_}
+use mathlib.Core.Bool.{true, false, cond, not, _&&_, _||_}
 use lib.Dec.{ltb, eqb}
 use lib.ListN.{length, getD, set}
 use borrow.Author.Tests.{lt-ltb, le-ltb}
@@ -25,7 +25,6 @@ use Rattle.table.specs.TableLaws.{sound-at, highest-is, highest-held}
 use Rattle.table.specs.HighestSlot.{highestSlot, named, highest-read, highest-slot-exists, beyond-blank}
 use Rattle.table.specs.Tabulate.{tabulate, tabulate-at, tabulate-cong, raise-tabulate}
 use Rattle.volume.specs.Volume.{sizesOk, wordsFit, stateFits}
-use Rattle.recovery.specs.declared.Verdict.{Verdict}
 use Rattle.recovery.specs.declared.Verdict.the-variants.{Committed, Uncommitted, On}
 use Rattle.recovery.specs.declared.End.{End}
 use Rattle.recovery.specs.declared.End.the-variants as ends

@@ -9,7 +9,7 @@ use borrow.Author.Tests.{lt-ltb, le-ltb, eq-eqb, ne-eqb}
 use lib.ListN.{length, getD, set, replicate, length-set, length-replicate, getD-replicate}
 use lib.Seq.{ext-getD, getD-set-same, getD-set-other}
 use Rattle.bounded.specs.Choice.{on-lt, on-eq}
-use Rattle.bounded.specs.Parts.{part, joinParts}
+use Rattle.bounded.specs.Parts.{joinParts}
 use Rattle.bounded.specs.PartsLaws.{length-joinParts, part-joinParts, part-at}
 
 -- f 0 to f (n − 1)

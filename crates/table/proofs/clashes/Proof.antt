@@ -1,5 +1,4 @@
 use borrow.Author.Needs.{needs}
-use mathlib.Core.Path.{sym, ap, _∙_}
 use Rattle.table.specs.Table.{clash}
 use Rattle.table.proofs.clashes.Statement.{statement}
 use Rattle.table.proofs.clashes.Tie as tie

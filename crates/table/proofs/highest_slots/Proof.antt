@@ -1,6 +1,6 @@
-use Prim.Native.Nat.{ℕ, _≤_, _-_}
+use Prim.Native.Nat.{_≤_, _-_}
 use native.Mathlib.Omega.{arith}
-use mathlib.Core.Path.{_≡_, refl, _∙_}
+use mathlib.Core.Path.{_≡_, refl}
 use Rattle.record.specs.Slot.{slotAt}
 use Rattle.table.specs.HighestSlot.{highestSlot}
 use Rattle.table.specs.Tabulate.{tabulate, tabulate-same}

@@ -1,6 +1,5 @@
 use borrow.Author.Needs.{needs}
 use borrow.Author.Tests.{ne-eqb, eq-eqb}
-use mathlib.Core.Path.{sym, ap, _∙_}
 use Rattle.record.specs.Slot.{holds}
 use Rattle.table.specs.Table.{ofVersion}
 use Rattle.table.proofs.holds_version.Statement.{statement}

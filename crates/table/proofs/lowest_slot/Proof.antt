@@ -1,7 +1,7 @@
 use Prim.Native.Nat.{ℕ, _≤_, _<_, _-_}
 use native.Mathlib.Omega.{arith}
 use mathlib.Core.Path.{_≡_, sym, ap, _∙_}
-use mathlib.Core.Bool.{true, false}
+use mathlib.Core.Bool.{false}
 use Rattle.bounded.specs.BelowLaws.{first-is, first-none, below-suc}
 use Rattle.record.specs.Slot.{slotAt, holds}
 use Rattle.table.specs.Table.{ofVersion, lowestSlot}

@@ -1,7 +1,7 @@
-use Prim.Native.Nat.{ℕ, _≤_, _-_}
+use Prim.Native.Nat.{_≤_, _-_}
 use native.Mathlib.Omega.{arith}
 use mathlib.Core.Path.{_≡_, sym, ap₂, _∙_}
-use mathlib.Core.Bool.{true, false}
+use mathlib.Core.Bool.{false}
 use Rattle.bounded.specs.Below.{someBelow}
 use Rattle.bounded.specs.BelowLaws.{some-zero, some-more, some-of}
 use Rattle.record.specs.Slot.{slotAt}

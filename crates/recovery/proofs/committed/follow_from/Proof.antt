@@ -1,7 +1,7 @@
 use borrow.Author.Needs.{needs}
 use native.Mathlib.Omega.{arith}
-use Prim.Native.Nat.{ℕ, _≤_, _<_, _-_}
-use mathlib.Core.Path.{_≡_, sym, ap, _∙_}
+use Prim.Native.Nat.{_≤_, _<_, _-_}
+use mathlib.Core.Path.{_≡_, sym, _∙_}
 use Rattle.recovery.specs.Codes.{coded}
 use Rattle.recovery.specs.Follow.{follow}
 use Rattle.recovery.specs.WalkLaws.{leftOf, left-at-start, left-committed, left-uncommitted, left-back, left-on, left-none}

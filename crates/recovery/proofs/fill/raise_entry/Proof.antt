@@ -1,8 +1,7 @@
 use borrow.Author.Needs.{needs}
 use native.Mathlib.Omega.{arith}
-use Prim.Native.Nat.{ℕ, max}
+use Prim.Native.Nat.{max}
 use mathlib.Core.Path.{_≡_, sym, ap, _∙_}
-use mathlib.Core.List.{List}
 use lib.ListN.{set, getD}
 use lib.Seq.{set-getD}
 use Rattle.recovery.proofs.fill.raise_entry.Statement.{statement}
