@@ -121,7 +121,7 @@ pub extern "C" fn bpcc_read(
     ensures { λ r. ⌜ returned r (now (out .exit))
         ≡ readOutcome width pages slots (volume (now (words .entry)) (now (contents .entry)) (now (state .entry))) page (now (out .entry)) ⌝ }
 {
-    volume::read(pages, slots, words, contents, state, page, out)
+    reader::read(pages, slots, words, contents, state, page, out)
 }
 
 // Document 01's ★ cases hold of the definitions that the calls' contracts cite, and so do the bounds of P and S.

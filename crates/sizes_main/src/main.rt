@@ -82,12 +82,12 @@ fn read_largest(words: &[u32], contents: &mut [u8], state: &[u32], out: &mut [u8
     put_byte(contents, 8191, 5);
     show(
         b"read 255",
-        volume::read(256, 1024, words, contents, state, 255, out),
+        reader::read(256, 1024, words, contents, state, 255, out),
     );
     show_byte(b"byte read", out, 31);
     show(
         b"read 256",
-        volume::read(256, 1024, words, contents, state, 256, out),
+        reader::read(256, 1024, words, contents, state, 256, out),
     );
 }
 
@@ -124,7 +124,7 @@ fn read_one(name: &[u8], words: &[u32], contents: &[u8], state: &[u32], page: u3
     let mut out = [7u8; 32];
     show(
         name,
-        volume::read(1, 1, words, contents, state, page, &mut out),
+        reader::read(1, 1, words, contents, state, page, &mut out),
     );
     show_byte(b"byte", &out, 31);
 }

@@ -1,4 +1,4 @@
-// The volume: sizes and lists as every call checks them; format and read. The definitions are in specs/.
+// The volume: sizes and lists as every call checks them; format, and the slot that a read copies. The definitions are in specs/.
 ghost use mathlib.Core.Path.{_≡_};
 ghost use Prim.Native.Nat.{_+_, _*_, _≤_, _<_};
 ghost use lib.ListN.{length};
@@ -12,7 +12,6 @@ ghost use Rattle.table.specs.Table.{lowestSlot};
 ghost use Rattle.volume.specs.Volume.{volume, sizesOk, wordsFit, contentsFit, stateFits, volumeFits, listOk};
 ghost use Rattle.volume.specs.ListLaws.{newAt};
 ghost use Rattle.volume.specs.Format.{formattedWords, formattedContents, formatOutcome};
-ghost use Rattle.volume.specs.Read.{readOutcome};
 ghost use Rattle.volume.specs.FormatLaws.{freshWords, freshBytes};
 
 // Bytes of contents a slot has: the `width` of the contracts, which the proofs of format and read hold it to.
@@ -195,40 +194,4 @@ pub fn committed_slot(words: &[u32], slots: u32, state: &[u32], page: u32) -> u3
 {
     let s = state::page_at(state, page);
     table::lowest_slot(words, slots, page, s.committed)
-}
-
-// Read: the bytes of the page's committed version, copied to `out`.
-pub fn read(
-    pages: u32,
-    slots: u32,
-    words: &[u32],
-    contents: &[u8],
-    state: &[u32],
-    page: u32,
-    out: &mut [u8],
-) -> u64
-    ensures { λ r. ⌜ returned r (now (out .exit))
-        ≡ readOutcome width pages slots (volume (now (words .entry)) (now (contents .entry)) (now (state .entry))) page (now (out .entry)) ⌝ }
-{
-    if !volume_fits(WIDTH as u32, pages, slots, words, contents, state) {
-        return outcome::reply(1, 0);
-    }
-    if out.len() != WIDTH {
-        return outcome::reply(1, 0);
-    }
-    if !table::table_sound(words, pages, slots) {
-        return outcome::reply(2, 0);
-    }
-    if !state::state_sound(state, pages) {
-        return outcome::reply(5, 0);
-    }
-    if page >= pages {
-        return outcome::reply(6, 0);
-    }
-    let slot = committed_slot(words, slots, state, page);
-    if slot >= slots {
-        return outcome::reply(14, 0);
-    }
-    record::read_slot(contents, slot, out);
-    outcome::reply(0, 0)
 }
