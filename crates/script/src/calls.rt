@@ -171,7 +171,7 @@ pub fn read(
     if state.len() < s {
         return outcome::reply(1, 0);
     }
-    volume::read(
+    reader::read(
         pages,
         slots,
         &words[0..w],
