@@ -1,4 +1,4 @@
-// The script program: a line's meaning, what it prints and what it leaves. The definitions are in specs/.
+// The script program: a line's meaning, what it prints and what it leaves.
 pub mod calls; // calls.rt: the calls on the parts of buffers that are in use
 pub mod feed; // feed.rt: the bytes of a script one by one
 pub mod line; // line.rt: what a line says

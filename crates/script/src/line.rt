@@ -1,4 +1,4 @@
-// What a line of a script says: cursor functions over its bytes. The definitions are in specs/.
+// What a line of a script says: cursor functions over its bytes.
 
 // A line: a call with its numbers. A list of pages or slots stands beside it, in a lent array; `count` says how many.
 pub enum Line {
