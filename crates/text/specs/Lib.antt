@@ -1,0 +1,4 @@
+pub mod Scan
+pub mod Print
+pub mod ScanLaws
+pub mod PrintLaws
