@@ -1,0 +1,60 @@
+-- Lines read: document 01's sample, the other calls, and lines that are not as shown.
+use Prim.Native.String.{String}
+use mathlib.Core.Path.{_≡_, refl}
+use mathlib.Core.List.{List, [], _∷_, map}
+use Rattle.text.specs.Scan.{bytes, behind, maxNumber, isDigit, endNumber, numberFrom, number}
+use Rattle.line.specs.Line.{
+  Said,
+  onNumber,
+  onText,
+  onNumbers,
+  atEnd,
+  listBehind,
+  listFrom,
+  numbers,
+  formatMeans,
+  fillMeans,
+  writeMeans,
+  withdrawMeans,
+  launchMeans,
+  eraseMeans,
+  plainMeans,
+  callMeans,
+  lineMeans,
+}
+
+pub record Case : Type 0 where
+  pub line : String
+  pub says : Said
+
+abbrev pub case : String → Said → Case
+case line says = record { line = line; says = says }
+
+unfoldable pub cases : List Case
+cases =
+    case "op=format pages=2 slots=4" (Said.Format 2 4)
+    ∷ case "op=launch pages=0,1" (Said.Launch (0 ∷ 1 ∷ []))
+    ∷ case "op=write page=0 slot=2 fill=3" (Said.Write 0 2 3)
+    ∷ case "op=cut" Said.Cut
+    ∷ case "op=recover" Said.Recover
+    ∷ case "op=launch pages=1" (Said.Launch (1 ∷ []))
+    ∷ case "op=list" Said.Listing
+    ∷ case "op=withdraw page=12" (Said.Withdraw 12)
+    ∷ case "op=erase slots=3,0,4294967295" (Said.Erase (3 ∷ 0 ∷ 4294967295 ∷ []))
+    ∷ case "op=format pages=002 slots=4" (Said.Format 2 4)
+    ∷ case "op=format pages=2 slots=4 " Said.Malformed
+    ∷ case "op=format pages=2  slots=4" Said.Malformed
+    ∷ case "op=format pages=2 slots=4294967296" Said.Malformed
+    ∷ case "op=format slots=4 pages=2" Said.Malformed
+    ∷ case "op=launch pages=" Said.Malformed
+    ∷ case "op=launch pages=0,,1" Said.Malformed
+    ∷ case "op=launch pages=0,1," Said.Malformed
+    ∷ case "op=write page=0 slot=2 fill=256" Said.Malformed
+    ∷ case "op=write page=-1 slot=2 fill=3" Said.Malformed
+    ∷ case "op=cuts" Said.Malformed
+    ∷ case "" Said.Malformed
+    ∷ []
+
+pub cases-hold : map (λ (c : Case). lineMeans 64 (bytes (c .line))) cases ≡ map (λ (c : Case). c .says) cases
+unfolding cases bytes behind maxNumber isDigit endNumber numberFrom number onNumber onText onNumbers atEnd listBehind listFrom numbers formatMeans fillMeans writeMeans withdrawMeans launchMeans eraseMeans plainMeans callMeans lineMeans
+cases-hold = refl
