@@ -5,7 +5,7 @@ use Rattle.line.proofs.erase_at.Statement.{statement}
 use Rattle.line.proofs.erase_at.Tie as tie
 
 list-at-requires : tie.Need-list-at-requires
-list-at-requires c κs = search needs
+list-at-requires c κs = tt
 
 same-length : tie.Need-same-length
 same-length c = search needs

@@ -6,13 +6,13 @@ use Rattle.line.proofs.fill_at.Statement.{statement}
 use Rattle.line.proofs.fill_at.Tie as tie
 
 number-at-requires : tie.Need-number-at-requires
-number-at-requires c κs = search needs
+number-at-requires c κs = tt
 
 enum-known-value : tie.Need-enum-known-value
-enum-known-value c = search needs
+enum-known-value c = c .match .keys1
 
 enum-told : tie.Need-enum-told
-enum-told c = search needs
+enum-told c = c .match .keys2
 
 returns : tie.Need-returns
 unfolding said fillMeans onNumber
@@ -27,7 +27,7 @@ cast-t9 : tie.Need-cast-t9
 cast-t9 c = search needs
 
 ended-requires : tie.Need-ended-requires
-ended-requires c κs = search needs
+ended-requires c κs = tt
 
 returns-3 : tie.Need-returns-3
 unfolding said fillMeans onNumber

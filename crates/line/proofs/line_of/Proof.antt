@@ -1,3 +1,4 @@
+use mathlib.Core.Path.{refl}
 use borrow.Author.Tests.{lt-ltb, le-ltb}
 use Rattle.text.specs.Scan.{bytes}
 use Rattle.line.specs.Line.{said, lineMeans, callMeans, onText}
@@ -11,16 +12,16 @@ unfolding said lineMeans
 returns c = rw (lt-ltb _ _ (c .if1 .taken))
 
 slice-aggregate-after : tie.Need-slice-aggregate-after
-slice-aggregate-after c = search needs
+slice-aggregate-after c = refl
 
 after-requires : tie.Need-after-requires
-after-requires c κs = search needs
+after-requires c κs = tt
 
 enum-known-at : tie.Need-enum-known-at
-enum-known-at c = search needs
+enum-known-at c = c .match .keys1
 
 format-at-requires : tie.Need-format-at-requires
-format-at-requires c κs = search needs
+format-at-requires c κs = tt
 
 returns-2 : tie.Need-returns-2
 unfolding bytes said lineMeans callMeans onText
@@ -33,19 +34,19 @@ returns-2 c =
     (c .format-at .ensures _)
 
 enum-told : tie.Need-enum-told
-enum-told c = search needs
+enum-told c = c .match .keys2
 
 slice-aggregate-after-2 : tie.Need-slice-aggregate-after-2
-slice-aggregate-after-2 c = search needs
+slice-aggregate-after-2 c = refl
 
 after-requires-2 : tie.Need-after-requires-2
-after-requires-2 c κs = search needs
+after-requires-2 c κs = tt
 
 enum-known-at-2 : tie.Need-enum-known-at-2
-enum-known-at-2 c = search needs
+enum-known-at-2 c = c .match2 .keys1
 
 launch-at-requires : tie.Need-launch-at-requires
-launch-at-requires c κs = search needs
+launch-at-requires c κs = tt
 
 same-length : tie.Need-same-length
 same-length c = search needs
@@ -63,19 +64,19 @@ returns-3 c =
     (c .before .before .launch-at .ensures)
 
 enum-told-2 : tie.Need-enum-told-2
-enum-told-2 c = search needs
+enum-told-2 c = c .match2 .keys2
 
 slice-aggregate-after-3 : tie.Need-slice-aggregate-after-3
-slice-aggregate-after-3 c = search needs
+slice-aggregate-after-3 c = refl
 
 after-requires-3 : tie.Need-after-requires-3
-after-requires-3 c κs = search needs
+after-requires-3 c κs = tt
 
 enum-known-at-3 : tie.Need-enum-known-at-3
-enum-known-at-3 c = search needs
+enum-known-at-3 c = c .match3 .keys1
 
 write-at-requires : tie.Need-write-at-requires
-write-at-requires c κs = search needs
+write-at-requires c κs = tt
 
 returns-4 : tie.Need-returns-4
 unfolding bytes said lineMeans callMeans onText
@@ -92,19 +93,19 @@ returns-4 c =
     (c .write-at .ensures _)
 
 enum-told-3 : tie.Need-enum-told-3
-enum-told-3 c = search needs
+enum-told-3 c = c .match3 .keys2
 
 slice-aggregate-after-4 : tie.Need-slice-aggregate-after-4
-slice-aggregate-after-4 c = search needs
+slice-aggregate-after-4 c = refl
 
 after-requires-4 : tie.Need-after-requires-4
-after-requires-4 c κs = search needs
+after-requires-4 c κs = tt
 
 enum-known-at-4 : tie.Need-enum-known-at-4
-enum-known-at-4 c = search needs
+enum-known-at-4 c = c .match4 .keys1
 
 withdraw-at-requires : tie.Need-withdraw-at-requires
-withdraw-at-requires c κs = search needs
+withdraw-at-requires c κs = tt
 
 returns-5 : tie.Need-returns-5
 unfolding bytes said lineMeans callMeans onText
@@ -123,19 +124,19 @@ returns-5 c =
     (c .withdraw-at .ensures _)
 
 enum-told-4 : tie.Need-enum-told-4
-enum-told-4 c = search needs
+enum-told-4 c = c .match4 .keys2
 
 slice-aggregate-after-5 : tie.Need-slice-aggregate-after-5
-slice-aggregate-after-5 c = search needs
+slice-aggregate-after-5 c = refl
 
 after-requires-5 : tie.Need-after-requires-5
-after-requires-5 c κs = search needs
+after-requires-5 c κs = tt
 
 enum-known-at-5 : tie.Need-enum-known-at-5
-enum-known-at-5 c = search needs
+enum-known-at-5 c = c .match5 .keys1
 
 erase-at-requires : tie.Need-erase-at-requires
-erase-at-requires c κs = search needs
+erase-at-requires c κs = tt
 
 same-length-2 : tie.Need-same-length-2
 same-length-2 c = search needs
@@ -159,10 +160,10 @@ returns-6 c =
     (c .before .before .erase-at .ensures)
 
 enum-told-5 : tie.Need-enum-told-5
-enum-told-5 c = search needs
+enum-told-5 c = c .match5 .keys2
 
 plain-requires : tie.Need-plain-requires
-plain-requires c κs = search needs
+plain-requires c κs = tt
 
 returns-7 : tie.Need-returns-7
 unfolding bytes said lineMeans callMeans onText

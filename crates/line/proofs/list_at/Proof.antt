@@ -4,7 +4,6 @@ use native.Mathlib.Omega.{arith}
 use mathlib.Core.Path.{_≡_, refl}
 use lib.ListN.{length, drop, length-set}
 use Rattle.line.specs.LineLaws.{number-is, number-not, Goes, goes-first, goes-full, goes-not, goes-wrong, goes-end, goes-on}
-use borrow.Author.Needs.{needs}
 use Rattle.line.proofs.list_at.Statement.{statement}
 use Rattle.line.proofs.list_at.Tie as tie
 
@@ -22,10 +21,10 @@ number-at-requires : tie.Need-number-at-requires Inv-loop μ-loop
 number-at-requires c κs = tt
 
 enum-known-value : tie.Need-enum-known-value Inv-loop μ-loop
-enum-known-value c = search needs
+enum-known-value c = c .match .keys1
 
 enum-told : tie.Need-enum-told Inv-loop μ-loop
-enum-told c = search needs
+enum-told c = c .match .keys2
 
 same-length : tie.Need-same-length Inv-loop μ-loop
 same-length c = c .before .before .before .before .loop .inv .1

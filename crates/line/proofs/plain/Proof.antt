@@ -1,40 +1,40 @@
+use mathlib.Core.Path.{refl}
 use Rattle.text.specs.Scan.{bytes}
 use Rattle.line.specs.Line.{said, plainMeans, onText}
 use Rattle.line.specs.LineLaws.{text-at, text-nowhere}
-use borrow.Author.Needs.{needs}
 use Rattle.line.proofs.plain.Statement.{statement}
 use Rattle.line.proofs.plain.Tie as tie
 
 slice-aggregate-after : tie.Need-slice-aggregate-after
-slice-aggregate-after c = search needs
+slice-aggregate-after c = refl
 
 after-requires : tie.Need-after-requires
-after-requires c κs = search needs
+after-requires c κs = tt
 
 enum-known-at : tie.Need-enum-known-at
-enum-known-at c = search needs
+enum-known-at c = c .match .keys1
 
 ended-requires : tie.Need-ended-requires
-ended-requires c κs = search needs
+ended-requires c κs = tt
 
 returns : tie.Need-returns
 unfolding bytes said plainMeans onText
 returns c l = rw (text-at (c .before .before .before .before .before .before .before .args .line .now) (c .before .before .before .before .after .ensures) (c .before .before .at .given .1)) (c .ended .ensures l)
 
 enum-told : tie.Need-enum-told
-enum-told c = search needs
+enum-told c = c .match .keys2
 
 slice-aggregate-after-2 : tie.Need-slice-aggregate-after-2
-slice-aggregate-after-2 c = search needs
+slice-aggregate-after-2 c = refl
 
 after-requires-2 : tie.Need-after-requires-2
-after-requires-2 c κs = search needs
+after-requires-2 c κs = tt
 
 enum-known-at-2 : tie.Need-enum-known-at-2
-enum-known-at-2 c = search needs
+enum-known-at-2 c = c .match2 .keys1
 
 ended-requires-2 : tie.Need-ended-requires-2
-ended-requires-2 c κs = search needs
+ended-requires-2 c κs = tt
 
 returns-2 : tie.Need-returns-2
 unfolding bytes said plainMeans onText
@@ -47,19 +47,19 @@ returns-2 c l =
     (c .ended2 .ensures l)
 
 enum-told-2 : tie.Need-enum-told-2
-enum-told-2 c = search needs
+enum-told-2 c = c .match2 .keys2
 
 slice-aggregate-after-3 : tie.Need-slice-aggregate-after-3
-slice-aggregate-after-3 c = search needs
+slice-aggregate-after-3 c = refl
 
 after-requires-3 : tie.Need-after-requires-3
-after-requires-3 c κs = search needs
+after-requires-3 c κs = tt
 
 enum-known-at-3 : tie.Need-enum-known-at-3
-enum-known-at-3 c = search needs
+enum-known-at-3 c = c .match3 .keys1
 
 ended-requires-3 : tie.Need-ended-requires-3
-ended-requires-3 c κs = search needs
+ended-requires-3 c κs = tt
 
 returns-3 : tie.Need-returns-3
 unfolding bytes said plainMeans onText
@@ -73,7 +73,7 @@ returns-3 c l =
     (c .ended3 .ensures l)
 
 enum-told-3 : tie.Need-enum-told-3
-enum-told-3 c = search needs
+enum-told-3 c = c .match3 .keys2
 
 returns-4 : tie.Need-returns-4
 unfolding bytes said plainMeans onText

@@ -1,24 +1,23 @@
 use Rattle.line.specs.Line.{said, withdrawMeans, onNumber}
 use Rattle.line.specs.LineLaws.{number-is, number-not}
-use borrow.Author.Needs.{needs}
 use Rattle.line.proofs.withdraw_at.Statement.{statement}
 use Rattle.line.proofs.withdraw_at.Tie as tie
 
 number-at-requires : tie.Need-number-at-requires
-number-at-requires c κs = search needs
+number-at-requires c κs = tt
 
 enum-known-page : tie.Need-enum-known-page
-enum-known-page c = search needs
+enum-known-page c = c .match .keys1
 
 enum-told : tie.Need-enum-told
-enum-told c = search needs
+enum-told c = c .match .keys2
 
 returns : tie.Need-returns
 unfolding said withdrawMeans onNumber
 returns c l = rw (number-not (c .before .before .before .before .args .line .now) (c .before .before .number-at .ensures) (c .enum-told .given .1))
 
 ended-requires : tie.Need-ended-requires
-ended-requires c κs = search needs
+ended-requires c κs = tt
 
 returns-2 : tie.Need-returns-2
 unfolding said withdrawMeans onNumber

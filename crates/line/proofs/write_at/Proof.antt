@@ -1,34 +1,34 @@
+use mathlib.Core.Path.{refl}
 use Rattle.text.specs.Scan.{bytes}
 use Rattle.line.specs.Line.{said, writeMeans, onNumber, onText}
 use Rattle.line.specs.LineLaws.{number-is, number-not, text-at, text-nowhere}
-use borrow.Author.Needs.{needs}
 use Rattle.line.proofs.write_at.Statement.{statement}
 use Rattle.line.proofs.write_at.Tie as tie
 
 number-at-requires : tie.Need-number-at-requires
-number-at-requires c κs = search needs
+number-at-requires c κs = tt
 
 enum-known-page : tie.Need-enum-known-page
-enum-known-page c = search needs
+enum-known-page c = c .match .keys1
 
 enum-told : tie.Need-enum-told
-enum-told c = search needs
+enum-told c = c .match .keys2
 
 returns : tie.Need-returns
 unfolding said writeMeans onNumber
 returns c l = rw (number-not (c .before .before .before .before .args .line .now) (c .before .before .number-at .ensures) (c .enum-told .given .1))
 
 slice-aggregate-after : tie.Need-slice-aggregate-after
-slice-aggregate-after c = search needs
+slice-aggregate-after c = refl
 
 after-requires : tie.Need-after-requires
-after-requires c κs = search needs
+after-requires c κs = tt
 
 enum-known-next : tie.Need-enum-known-next
-enum-known-next c = search needs
+enum-known-next c = c .match2 .keys1
 
 enum-told-2 : tie.Need-enum-told-2
-enum-told-2 c = search needs
+enum-told-2 c = c .match2 .keys2
 
 returns-2 : tie.Need-returns-2
 unfolding bytes said writeMeans onNumber onText
@@ -40,13 +40,13 @@ returns-2 c l =
     )
 
 number-at-requires-2 : tie.Need-number-at-requires-2
-number-at-requires-2 c κs = search needs
+number-at-requires-2 c κs = tt
 
 enum-known-slot : tie.Need-enum-known-slot
-enum-known-slot c = search needs
+enum-known-slot c = c .match3 .keys1
 
 enum-told-3 : tie.Need-enum-told-3
-enum-told-3 c = search needs
+enum-told-3 c = c .match3 .keys2
 
 returns-3 : tie.Need-returns-3
 unfolding bytes said writeMeans onNumber onText
@@ -59,16 +59,16 @@ returns-3 c l =
     )
 
 slice-aggregate-after-2 : tie.Need-slice-aggregate-after-2
-slice-aggregate-after-2 c = search needs
+slice-aggregate-after-2 c = refl
 
 after-requires-2 : tie.Need-after-requires-2
-after-requires-2 c κs = search needs
+after-requires-2 c κs = tt
 
 enum-known-rest : tie.Need-enum-known-rest
-enum-known-rest c = search needs
+enum-known-rest c = c .match4 .keys1
 
 enum-told-4 : tie.Need-enum-told-4
-enum-told-4 c = search needs
+enum-told-4 c = c .match4 .keys2
 
 returns-4 : tie.Need-returns-4
 unfolding bytes said writeMeans onNumber onText
@@ -82,7 +82,7 @@ returns-4 c l =
     )
 
 fill-at-requires : tie.Need-fill-at-requires
-fill-at-requires c κs = search needs
+fill-at-requires c κs = tt
 
 returns-5 : tie.Need-returns-5
 unfolding bytes said writeMeans onNumber onText
