@@ -1,0 +1,38 @@
+use borrow.Author.Needs.{needs}
+use Rattle.volume.specs.Read.{readSlot}
+use Rattle.listing.specs.Listing.{pageText}
+use Rattle.listing.specs.ListingLaws.{readable}
+use Rattle.listing.proofs.put_page.Statement.{statement}
+use Rattle.listing.proofs.put_page.Tie as tie
+
+page-at-requires : tie.Need-page-at-requires
+page-at-requires c κs = readable _ _ _ _ _ (c .before .before .before .before .pre) .state-there
+
+committed-slot-requires : tie.Need-committed-slot-requires
+committed-slot-requires c κs = let r = readable _ _ _ _ _ (c .before .before .before .before .before .pre) in (r .table-there, r .state-there)
+
+drawn-of-requires : tie.Need-drawn-of-requires
+drawn-of-requires c κs = search needs
+
+put-fields-requires : tie.Need-put-fields-requires
+put-fields-requires c κs = search needs
+
+same-length : tie.Need-same-length
+same-length c = search needs
+
+returns : tie.Need-returns
+unfolding pageText readSlot
+returns c =
+    rw (c .before .before .before .before .before .before .page-at .ensures, c .before .before .before .before .before .committed-slot .ensures, c .before .before .before .before .drawn-of .ensures) at
+    (c .before .before .put-fields .ensures)
+
+pub put-page-spec : {M : Type 1} → statement M
+put-page-spec =
+    tie.close
+    (tie.spec
+    page-at-requires
+    committed-slot-requires
+    drawn-of-requires
+    put-fields-requires
+    same-length
+    returns)
