@@ -26,8 +26,8 @@ drop-least n l =
     on-lt n (length l)
     (λ (h : n < length l). let e : min n (length l) ≡ n = omega arith in rw e)
     (λ (h : length l ≤ n).
-      let e : min n (length l) ≡ length l = omega arith in
-      rw (e, drop-of-length-le l (let q : length l ≤ length l = omega arith in q), drop-of-length-le l h))
+    let e : min n (length l) ≡ length l = omega arith in
+    rw (e, drop-of-length-le l (let q : length l ≤ length l = omega arith in q), drop-of-length-le l h))
 
 -- the front lent, and put back as ys
 module _ (n k : ℕ) (l : List ℕ) (e : k ≡ min n (length l)) where

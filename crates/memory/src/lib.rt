@@ -35,7 +35,7 @@ pub fn format(
 ) -> u64
     ensures { λ r. ⌜ returned r (volume (now (words .exit)) (now (contents .exit)) (now (state .exit)))
         ≡ leaving (volumeBack width pages slots (volume (now (words .entry)) (now (contents .entry)) (now (state .entry))))
-          (formatOutcome width pages slots (inUse width pages slots (volume (now (words .entry)) (now (contents .entry)) (now (state .entry))))) ⌝ }
+        (formatOutcome width pages slots (inUse width pages slots (volume (now (words .entry)) (now (contents .entry)) (now (state .entry))))) ⌝ }
 {
     let w = least(5 * (slots as usize), words.len());
     let b = least(32 * (slots as usize), contents.len());
@@ -71,7 +71,7 @@ pub fn write(
 ) -> u64
     ensures { λ r. ⌜ returned r (volume (now (words .exit)) (now (contents .exit)) (now (state .exit)))
         ≡ leaving (volumeBack width pages slots (volume (now (words .entry)) (now (contents .entry)) (now (state .entry))))
-          (writeOutcome width pages slots (inUse width pages slots (volume (now (words .entry)) (now (contents .entry)) (now (state .entry)))) page slot (replicate width fill)) ⌝ }
+        (writeOutcome width pages slots (inUse width pages slots (volume (now (words .entry)) (now (contents .entry)) (now (state .entry)))) page slot (replicate width fill)) ⌝ }
 {
     let w = least(5 * (slots as usize), words.len());
     let b = least(32 * (slots as usize), contents.len());
@@ -108,7 +108,7 @@ pub fn erase(
 ) -> u64
     ensures { λ r. ⌜ returned r (flash (now (words .exit)) (now (contents .exit)))
         ≡ leaving (flashBack width slots (flash (now (words .entry)) (now (contents .entry))))
-          (eraseOutcome width pages slots (inUse width pages slots (volume (now (words .entry)) (now (contents .entry)) (now (state .entry)))) (take count (now (list .entry)))) ⌝ }
+        (eraseOutcome width pages slots (inUse width pages slots (volume (now (words .entry)) (now (contents .entry)) (now (state .entry)))) (take count (now (list .entry)))) ⌝ }
 {
     let w = least(5 * (slots as usize), words.len());
     let b = least(32 * (slots as usize), contents.len());

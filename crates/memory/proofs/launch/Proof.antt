@@ -46,7 +46,6 @@ returns c =
     rw (← front-lent (a .count) _ (a .list .now) (c .before .before .before .before .before .least2 .ensures))
     (state-called (a .pages) _ _ _ _ (λ (s : List ℕ). launchOutcome (a .pages) (a .slots) s (take (c .before .before .before .before .before .least2 .result - 0) (drop 0 (a .list .now)))) (c .before .before .before .before .before .before .least .ensures) (c .before .before .launch .ensures))
 
-
 pub launch-spec : {M : Type 1} → statement M
 launch-spec =
     tie.close
