@@ -8,12 +8,12 @@ use mathlib.Core.List.{List, [], _∷_, _++_, append-assoc}
 use lib.ListN.{length, getD, take, drop, set, drop-of-length-le}
 use lib.Seq.{drop-cons, take-suc-set}
 use borrow.Author.Tests.{eq-eqb, ne-eqb}
-use Rattle.text.specs.Scan.{number, Scanned, scanned, restAt, numberAt}
+use Rattle.text.specs.Scan.{behind, number, Scanned, scanned, restAt, numberAt}
 use Rattle.text.specs.declared.scan.Place.{Place}
 use Rattle.text.specs.declared.scan.Place.the-variants.{At, Nowhere}
 use Rattle.text.specs.declared.scan.Number.{Number}
 use Rattle.text.specs.declared.scan.Number.the-variants.{Is, Not}
-use Rattle.line.specs.Line.{Said, onText, onNumbers, atEnd, listBehind, listFrom, numbers, listed}
+use Rattle.line.specs.Line.{Said, onNumber, onText, onNumbers, atEnd, listBehind, listFrom, numbers, listed}
 
 -- What the scanner answered at a place in the line.
 module _ (line : List ℕ) where
@@ -41,6 +41,33 @@ module _ (line : List ℕ) where
   pub not-at-end : (at : ℕ) (says : Said) → at < length line → Said.Malformed ≡ atEnd (drop at line) says
   unfolding atEnd
   not-at-end at says h = rw (drop-cons line at 0 h)
+
+-- a number with a field's name behind it: the number, and what is behind both
+unfoldable pub numberThen : (name : List ℕ) → Option Scanned → Option Scanned
+numberThen name none = none
+numberThen name (some n) = Option·map (scanned (n .value)) (behind name (n .rest))
+
+-- What is said behind a number, and behind a number and a name.
+module _ {o : Option Scanned} (f : ℕ → List ℕ → Said) where
+  pub on-is : {x : Said} {value : ℕ} {s : List ℕ} → o ≡ some (scanned value s) → x ≡ f value s → x ≡ onNumber o f
+  unfolding onNumber
+  on-is e q = rw e q
+
+  pub on-not : o ≡ none → Said.Malformed ≡ onNumber o f
+  unfolding onNumber
+  on-not e = rw e
+
+pub on-both : (f : ℕ → List ℕ → Said) (value : ℕ) (o : Option (List ℕ)) → onNumber (Option·map (scanned value) o) f ≡ onText o (f value) Said.Malformed
+unfolding onNumber onText
+on-both f value none = refl
+on-both f value (some s) = refl
+
+pub on-then :
+    {x : Said} (name : List ℕ) (o : Option Scanned) (f : ℕ → List ℕ → Said) → x ≡ onNumber (numberThen name o) f
+    → x ≡ onNumber o (λ (value : ℕ) (s : List ℕ). onText (behind name s) (f value) Said.Malformed)
+unfolding numberThen onNumber
+on-then name none f e = e
+on-then name (some n) f e = e ∙ on-both f (n .value) (behind name (n .rest))
 
 -- What a list of numbers says, by how many there are.
 module _ {o : Option (List ℕ)} (f : List ℕ → Said) where

@@ -3,6 +3,8 @@ ghost use mathlib.Core.Path.{_≡_};
 ghost use mathlib.Core.List.{List};
 ghost use Prim.Native.Nat.{ℕ};
 ghost use lib.ListN.{length, drop};
+ghost use Rattle.text.specs.Scan.{number, numberAt};
+ghost use Rattle.line.specs.LineLaws.{numberThen};
 ghost use Rattle.line.specs.Line.{said, listed, lineMeans, formatMeans, fillMeans, writeMeans, withdrawMeans, launchMeans, eraseMeans, plainMeans, atEnd, numbers};
 use text::scan::Number;
 use text::scan::Place;
@@ -54,20 +56,30 @@ fn ended(line: &[u8], at: usize, says: Line) -> Line
     says
 }
 
+// The number at `at` with the next field's name behind it: its value, and the place after both.
+fn number_then(line: &[u8], at: usize, name: &[u8]) -> Number
+    ensures { λ r. ⌜ numberAt (now (line .entry)) r ≡ numberThen (now (name .entry)) (number (drop at (now (line .entry)))) ⌝ }
+{
+    let Number::Is { value, end } = text::scan::number_at(line, at) else {
+        return Number::Not;
+    };
+    let Place::At(next) = text::scan::after(line, end, name) else {
+        return Number::Not;
+    };
+    Number::Is { value, end: next }
+}
+
 // "op=format pages=2 slots=4", from the first number on
 fn format_at(line: &[u8], at: usize) -> Line
     ensures { λ r. ⌜ ((l : List ℕ) → said r l ≡ formatMeans (drop at (now (line .entry)))) ⌝ }
 {
-    let Number::Is { value: pages, end } = text::scan::number_at(line, at) else {
-        return Line::Malformed;
-    };
-    let Place::At(next) = text::scan::after(line, end, b" slots=") else {
+    let Number::Is { value: pages, end } = number_then(line, at, b" slots=") else {
         return Line::Malformed;
     };
     let Number::Is {
         value: slots,
         end: last,
-    } = text::scan::number_at(line, next)
+    } = text::scan::number_at(line, end)
     else {
         return Line::Malformed;
     };
@@ -99,23 +111,17 @@ fn fill_at(line: &[u8], at: usize, page: u32, slot: u32) -> Line
 fn write_at(line: &[u8], at: usize) -> Line
     ensures { λ r. ⌜ ((l : List ℕ) → said r l ≡ writeMeans (drop at (now (line .entry)))) ⌝ }
 {
-    let Number::Is { value: page, end } = text::scan::number_at(line, at) else {
-        return Line::Malformed;
-    };
-    let Place::At(next) = text::scan::after(line, end, b" slot=") else {
+    let Number::Is { value: page, end } = number_then(line, at, b" slot=") else {
         return Line::Malformed;
     };
     let Number::Is {
         value: slot,
         end: last,
-    } = text::scan::number_at(line, next)
+    } = number_then(line, end, b" fill=")
     else {
         return Line::Malformed;
     };
-    let Place::At(rest) = text::scan::after(line, last, b" fill=") else {
-        return Line::Malformed;
-    };
-    fill_at(line, rest, page, slot)
+    fill_at(line, last, page, slot)
 }
 
 // "op=withdraw page=", from the number on

@@ -10,7 +10,7 @@ use lib.ListN.{length, replicate}
 use borrow.Author.Tests.{eq-eqb, ne-eqb, ltb-true, not-false}
 use Rattle.bounded.specs.Choice.{on-eq, on-lt, both-left}
 use Rattle.bounded.specs.Parts.{joinFrom, joinParts}
-use Rattle.outcome.specs.Outcome.{_⇒_otherwise_, passed, settled-answer}
+use Rattle.outcome.specs.Outcome.{passed, settled-answer}
 use Rattle.record.specs.Slot.{slotAt, bytesAt}
 use Rattle.state.specs.State.{stateAt, stateSound}
 use Rattle.table.specs.Table.{tableSound}
@@ -27,17 +27,17 @@ module _ (answers : ℕ → ℕ) where
   unfolding firstRefusal
   none-refused = refl
 
-  pub none-more : (n : ℕ) → firstRefusal n answers ≡ 0 → answers n ≡ 0 → firstRefusal (n + 1) answers ≡ 0
+  pub none-more : (n answer : ℕ) → firstRefusal n answers ≡ 0 → answer ≡ answers n → answer ≡ 0 → firstRefusal (n + 1) answers ≡ 0
   unfolding firstRefusal
-  none-more n e h = rw (add-one n, eq-eqb (firstRefusal n answers) 0 e) h
+  none-more n answer e q z = rw (add-one n, eq-eqb (firstRefusal n answers) 0 e) (sym q ∙ z)
 
-  pub first-found : (n page : ℕ) → firstRefusal page answers ≡ 0 → ¬ (answers page ≡ 0) → page < n → answers page ≡ firstRefusal n answers
+  pub first-found : (n page answer : ℕ) → firstRefusal page answers ≡ 0 → answer ≡ answers page → ¬ (answer ≡ 0) → page < n → answer ≡ firstRefusal n answers
   unfolding firstRefusal
-  first-found zero page e d h = absurd (omega arith)
-  first-found (suc n) page e d h =
+  first-found zero page answer e q d h = absurd (omega arith)
+  first-found (suc n) page answer e q d h =
       on-lt page n
-      (λ (q : page < n). let k = first-found n page e d q in rw (ne-eqb (firstRefusal n answers) 0 (λ z. d (k ∙ z))) k)
-      (λ (q : n ≤ page). let k : n ≡ page = omega arith in rw (k, eq-eqb (firstRefusal page answers) 0 e))
+      (λ (l : page < n). let k = first-found n page answer e q d l in rw (ne-eqb (firstRefusal n answers) 0 (λ z. d (k ∙ z))) k)
+      (λ (l : n ≤ page). let k : n ≡ page = omega arith in rw (k, eq-eqb (firstRefusal page answers) 0 e) q)
 
   pub all-accepted : (n page : ℕ) → firstRefusal n answers ≡ 0 → page < n → answers page ≡ 0
   unfolding firstRefusal
@@ -62,11 +62,11 @@ join-from-more {A} f (suc n) i last e =
     ap (λ (rest : List A). f i ++ rest) (join-from-more f n (suc i) last (omega arith)) ∙ sym (append-assoc (f i) (joinFrom n (suc i) f) (f last))
 
 pub parts-next :
-    (f : ℕ → List ℕ) (out out₁ : List ℕ) (at at₁ n : ℕ) → shown out₁ at₁ ≡ added out at (joinParts n f) → length out₁ ≡ length out
-    → added out₁ at₁ (f n) ≡ added out at (joinParts (n + 1) f)
+    (f : ℕ → List ℕ) (out out₁ text : List ℕ) (at at₁ n : ℕ) → shown out₁ at₁ ≡ added out at (joinParts n f) → length out₁ ≡ length out
+    → text ≡ added out₁ at₁ (f n) → text ≡ added out at (joinParts (n + 1) f)
 unfolding joinParts
-parts-next f out out₁ at at₁ n e l =
-    added-next out out₁ at at₁ (joinFrom n 0 f) (f n) e l ∙ ap (added out at) (rw (add-one n) (sym (join-from-more f n 0 n (omega arith))))
+parts-next f out out₁ text at at₁ n e l q =
+    q ∙ added-next out out₁ at at₁ (joinFrom n 0 f) (f n) e l ∙ ap (added out at) (rw (add-one n) (sym (join-from-more f n 0 n (omega arith))))
 
 module _ (w P S : ℕ) (v : Volume) where
   -- Where the read of a page is accepted, the buffers have the table and the page's state.
@@ -87,10 +87,14 @@ module _ (w P S : ℕ) (v : Volume) where
       record { table-there = omega arith; state-there = omega arith }
 
   -- A refused list is its answer; an accepted one its pages and the answer 0.
-  pub list-refused : (answer : ℕ) → answer ≡ listAnswer w P S v → ¬ (answer ≡ 0) → answerText answer ≡ listText w P S v
-  unfolding listText
-  list-refused answer e d = rw (← e, ne-eqb answer 0 d)
+  module _ (answer : ℕ) (e : answer ≡ listAnswer w P S v) (out : List ℕ) (at : ℕ) (text : List ℕ) where
+    pub list-refused : ¬ (answer ≡ 0) → text ≡ added out at (answerText answer) → text ≡ added out at (listText w P S v)
+    unfolding listText
+    list-refused d q = rw (← e, ne-eqb answer 0 d) q
 
-  pub list-accepted : (answer : ℕ) → answer ≡ listAnswer w P S v → answer ≡ 0 → joinParts P (pageText w P S v) ++ answerText 0 ≡ listText w P S v
-  unfolding listText
-  list-accepted answer e z = rw (← e, eq-eqb answer 0 z)
+    pub list-accepted :
+        (out₁ : List ℕ) (at₁ : ℕ) → answer ≡ 0 → shown out₁ at₁ ≡ added out at (joinParts P (pageText w P S v)) → length out₁ ≡ length out
+        → text ≡ added out₁ at₁ (answerText 0) → text ≡ added out at (listText w P S v)
+    unfolding listText
+    list-accepted out₁ at₁ z h l q =
+        rw (← e, eq-eqb answer 0 z) (q ∙ added-next out out₁ at at₁ (joinParts P (pageText w P S v)) (answerText 0) h l)

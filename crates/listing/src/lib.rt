@@ -1,6 +1,5 @@
 // What the script line op=list prints of a volume.
 ghost use mathlib.Core.Path.{_≡_};
-ghost use mathlib.Core.List.{_++_};
 ghost use Rattle.bounded.specs.Limits.{width};
 ghost use Rattle.bounded.specs.Parts.{joinParts};
 ghost use Rattle.volume.specs.Volume.{volume};

@@ -37,6 +37,14 @@ module _ (n k : ℕ) (l : List ℕ) (e : k ≡ min n (length l)) where
   pub front-back : (ys : List ℕ) → putMid 0 (k - 0) l ys ≡ ys ++ drop n l
   front-back ys = rw (post-is 0 k l (omega arith), e, drop-least n l)
 
+-- a volume lent from the front of memory
+pub volume-lent :
+    (w P S kw kb ks : ℕ) (m : Volume) → kw ≡ min (5 * S) (length (m .flash .words)) → kb ≡ min (w * S) (length (m .flash .contents)) → ks ≡ min (4 * P) (length (m .state))
+    → volume (take (kw - 0) (drop 0 (m .flash .words))) (take (kb - 0) (drop 0 (m .flash .contents))) (take (ks - 0) (drop 0 (m .state))) ≡ inUse w P S m
+unfolding inUse
+volume-lent w P S kw kb ks m ew eb es =
+    rw (front-lent (5 * S) kw (m .flash .words) ew, front-lent (w * S) kb (m .flash .contents) eb, front-lent (4 * P) ks (m .state) es)
+
 -- A call on the front of the state, on that of the flash, and on that of a volume.
 pub state-called : (P k r : ℕ) (memory after : List ℕ) (f : List ℕ → Outcome (List ℕ)) → k ≡ min (4 * P) (length memory) → returned r after ≡ f (take (k - 0) (drop 0 memory)) → returned r (putMid 0 (k - 0) memory after) ≡ leaving (stateBack P memory) (f (take (4 * P) memory))
 unfolding leaving stateBack

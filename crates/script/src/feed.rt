@@ -1,18 +1,29 @@
 // The bytes of a script one by one: a line is held in a buffer until it ends.
-
-use super::line;
+ghost use mathlib.Core.Path.{_≡_};
+ghost use lib.ListN.{length};
+ghost use Rattle.bounded.specs.Limits.{width};
+ghost use Rattle.volume.specs.Volume.{volume};
+ghost use Rattle.text.specs.Print.{shown, added};
+ghost use Rattle.script.specs.Script.{standing};
+ghost use Rattle.script.specs.Feed.{carried, fed};
 use super::step;
 use super::step::Run;
 
 // A line carried out.
-pub fn run_line(
+fn run_line(
     run: Run,
     text: &[u8],
     words: &mut [u32],
     contents: &mut [u8],
     state: &mut [u32],
     out: &mut [u8],
-) -> Run {
+) -> Run
+    ensures stands { λ s. ⌜ standing s (volume (now (words .exit)) (now (contents .exit)) (now (state .exit)))
+        ≡ carried width (standing run (volume (now (words .entry)) (now (contents .entry)) (now (state .entry)))) (now (text .entry)) .leaves ⌝ }
+    ensures prints { λ s. ⌜ shown (now (out .exit)) (s .at) ≡ added (now (out .entry)) (run .at)
+        (carried width (standing run (volume (now (words .entry)) (now (contents .entry)) (now (state .entry)))) (now (text .entry)) .prints) ⌝ }
+    ensures holds { λ s. ⌜ s .held ≡ run .held ⌝ }
+{
     let mut list = [0u32; 64];
     let said = line::line_of(text, &mut list);
     step::step(run, said, &list, words, contents, state, out)
@@ -26,22 +37,15 @@ pub fn end_line(
     contents: &mut [u8],
     state: &mut [u32],
     out: &mut [u8],
-) -> Run {
-    let n = run.held;
-    if n > buffer.len() {
-        return step::refuse(run, out);
-    }
+) -> Run
+    ensures stands { λ s. ⌜ standing s (volume (now (words .exit)) (now (contents .exit)) (now (state .exit)))
+        ≡ carried width (standing run (volume (now (words .entry)) (now (contents .entry)) (now (state .entry)))) (shown (now (buffer .entry)) (run .held)) .leaves ⌝ }
+    ensures prints { λ s. ⌜ shown (now (out .exit)) (s .at) ≡ added (now (out .entry)) (run .at)
+        (carried width (standing run (volume (now (words .entry)) (now (contents .entry)) (now (state .entry)))) (shown (now (buffer .entry)) (run .held)) .prints) ⌝ }
+    ensures holds { λ s. ⌜ s .held ≡ 0 ⌝ }
+{
+    let n = memory::least(run.held, buffer.len());
     run_line(run.holding(0), &buffer[0..n], words, contents, state, out)
-}
-
-// A byte of a line held. A buffer of 513 bytes holds every line of 512 bytes, and enough of a longer one to refuse it.
-fn hold(run: Run, byte: u8, buffer: &mut [u8]) -> Run {
-    let n = run.held;
-    if n < buffer.len() {
-        buffer[n] = byte;
-        return run.holding(n + 1);
-    }
-    run
 }
 
 // The next byte of a script.
@@ -53,9 +57,16 @@ pub fn feed(
     contents: &mut [u8],
     state: &mut [u32],
     out: &mut [u8],
-) -> Run {
+) -> Run
+    ensures stands { λ s. ⌜ standing s (volume (now (words .exit)) (now (contents .exit)) (now (state .exit)))
+        ≡ fed width (length (now (buffer .entry))) (standing run (volume (now (words .entry)) (now (contents .entry)) (now (state .entry)))) (shown (now (buffer .entry)) (run .held)) byte .turned .leaves ⌝ }
+    ensures prints { λ s. ⌜ shown (now (out .exit)) (s .at) ≡ added (now (out .entry)) (run .at)
+        (fed width (length (now (buffer .entry))) (standing run (volume (now (words .entry)) (now (contents .entry)) (now (state .entry)))) (shown (now (buffer .entry)) (run .held)) byte .turned .prints) ⌝ }
+    ensures holds { λ s. ⌜ shown (now (buffer .exit)) (s .held)
+        ≡ fed width (length (now (buffer .entry))) (standing run (volume (now (words .entry)) (now (contents .entry)) (now (state .entry)))) (shown (now (buffer .entry)) (run .held)) byte .held ⌝ }
+{
     if byte != 10 {
-        return hold(run, byte, buffer);
+        return run.holding(text::print::put(buffer, run.held, byte));
     }
     end_line(run, buffer, words, contents, state, out)
 }

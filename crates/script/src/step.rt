@@ -1,8 +1,17 @@
 // One line of a script carried out on a volume, and what it prints.
-
-use super::calls;
-use super::line::Line;
-use super::print;
+ghost use Prim.Native.Nat.{ℕ, _^_, _/_, _%_};
+ghost use mathlib.Core.Path.{_≡_};
+ghost use mathlib.Core.List.{List};
+ghost use mathlib.Core.Bool.{true};
+ghost use Rattle.bounded.specs.Limits.{width};
+ghost use Rattle.volume.specs.Volume.{Volume, volume};
+ghost use Rattle.text.specs.Print.{shown, added};
+ghost use Rattle.line.specs.Line.{said};
+ghost use Rattle.listing.specs.Listing.{answerText, listText};
+ghost use Rattle.memory.specs.Memory.{inUse};
+ghost use Rattle.script.specs.Script.{standing, doneText, refusedTurn, formatTurn, lineTurn, isFormat, isEarly, turn};
+use line::Line;
+use text::print;
 
 // Where a run stands: the volume's sizes, both 0 before a format has answered 0; the place in the buffer for output; the bytes
 // held of a line that has not ended; and whether the run has ended.
@@ -27,7 +36,9 @@ impl Run {
     }
 
     // The run with its output up to `at`.
-    pub fn printed(self, at: usize) -> Run {
+    pub fn printed(self, at: usize) -> Run
+        ensures { λ r. ⌜ r ≡ record { pages = self .pages; slots = self .slots; at = at; held = self .held; over = self .over } ⌝ }
+    {
         Run {
             pages: self.pages,
             slots: self.slots,
@@ -38,7 +49,9 @@ impl Run {
     }
 
     // The run ended, with its output up to `at`.
-    pub fn ended(self, at: usize) -> Run {
+    pub fn ended(self, at: usize) -> Run
+        ensures { λ r. ⌜ r ≡ record { pages = self .pages; slots = self .slots; at = at; held = self .held; over = true } ⌝ }
+    {
         Run {
             pages: self.pages,
             slots: self.slots,
@@ -49,7 +62,9 @@ impl Run {
     }
 
     // The run with so many bytes of a line held.
-    pub fn holding(self, held: usize) -> Run {
+    pub fn holding(self, held: usize) -> Run
+        ensures { λ r. ⌜ r ≡ record { pages = self .pages; slots = self .slots; at = self .at; held = held; over = self .over } ⌝ }
+    {
         Run {
             pages: self.pages,
             slots: self.slots,
@@ -60,7 +75,9 @@ impl Run {
     }
 
     // The run on a volume of these sizes.
-    pub fn on(self, pages: u32, slots: u32) -> Run {
+    pub fn on(self, pages: u32, slots: u32) -> Run
+        ensures { λ r. ⌜ r ≡ record { pages = pages; slots = slots; at = self .at; held = self .held; over = self .over } ⌝ }
+    {
         Run {
             pages,
             slots,
@@ -71,24 +88,22 @@ impl Run {
     }
 }
 
-// The answer in a call's number.
-fn answer_in(r: u64) -> u32 {
-    (r % 4294967296) as u32
-}
-
-// The second number in a call's number.
-fn second_in(r: u64) -> u32 {
-    (r / 4294967296) as u32
-}
-
 // A line with a call's answer.
-fn say(run: Run, out: &mut [u8], r: u64) -> Run {
-    run.printed(print::put_answer(out, run.at, answer_in(r)))
+fn say(run: Run, out: &mut [u8], r: u64) -> Run
+    ensures stands { λ s. ⌜ ((memory : Volume) → standing s memory ≡ standing run memory) ⌝ }
+    ensures prints { λ s. ⌜ shown (now (out .exit)) (s .at) ≡ added (now (out .entry)) (run .at) (answerText (r % 2 ^ 32)) ⌝ }
+    ensures holds { λ s. ⌜ s .held ≡ run .held ⌝ }
+{
+    run.printed(listing::put_answer(out, run.at, outcome::answer_of(r)))
 }
 
 // "Any other line … prints answer=line and ends the run."
-pub fn refuse(run: Run, out: &mut [u8]) -> Run {
-    run.ended(print::put_malformed(out, run.at))
+fn refuse(run: Run, out: &mut [u8]) -> Run
+    ensures stands { λ s. ⌜ ((memory : Volume) → standing s memory ≡ refusedTurn (standing run memory) .leaves) ⌝ }
+    ensures prints { λ s. ⌜ ((memory : Volume) → shown (now (out .exit)) (s .at) ≡ added (now (out .entry)) (run .at) (refusedTurn (standing run memory) .prints)) ⌝ }
+    ensures holds { λ s. ⌜ s .held ≡ run .held ⌝ }
+{
+    run.ended(print::put_text(out, run.at, b"answer=line\n"))
 }
 
 // "A refused later format leaves the volume as it was."
@@ -100,143 +115,74 @@ fn format_step(
     contents: &mut [u8],
     state: &mut [u32],
     out: &mut [u8],
-) -> Run {
-    let r = calls::format(pages, slots, words, contents, state);
+) -> Run
+    ensures stands { λ s. ⌜ standing s (volume (now (words .exit)) (now (contents .exit)) (now (state .exit)))
+        ≡ formatTurn width (standing run (volume (now (words .entry)) (now (contents .entry)) (now (state .entry)))) pages slots .leaves ⌝ }
+    ensures prints { λ s. ⌜ shown (now (out .exit)) (s .at) ≡ added (now (out .entry)) (run .at)
+        (formatTurn width (standing run (volume (now (words .entry)) (now (contents .entry)) (now (state .entry)))) pages slots .prints) ⌝ }
+    ensures holds { λ s. ⌜ s .held ≡ run .held ⌝ }
+{
+    let r = memory::format(pages, slots, words, contents, state);
     let next = say(run, out, r);
-    if answer_in(r) != 0 {
+    if outcome::answer_of(r) != 0 {
         return next;
     }
     next.on(pages, slots)
 }
 
-// "write with its done after it"
-fn write_step(
-    run: Run,
-    words: &mut [u32],
-    contents: &mut [u8],
-    state: &mut [u32],
-    page: u32,
-    slot: u32,
-    fill: u8,
-    out: &mut [u8],
-) -> Run {
-    let r = calls::write(
+// A write's answer, "with its done after it".
+fn say_done(run: Run, out: &mut [u8], r: u64) -> Run
+    ensures stands { λ s. ⌜ ((memory : Volume) → standing s memory ≡ standing run memory) ⌝ }
+    ensures prints { λ s. ⌜ shown (now (out .exit)) (s .at) ≡ added (now (out .entry)) (run .at) (doneText (r % 2 ^ 32) (r / 2 ^ 32)) ⌝ }
+    ensures holds { λ s. ⌜ s .held ≡ run .held ⌝ }
+{
+    let a = print::put_field(out, run.at, b"answer=", outcome::answer_of(r));
+    let b = print::put_field(out, a, b" done=", outcome::second_of(r));
+    run.printed(print::put_text(out, b, b"\n"))
+}
+
+// The pages of the volume in front of memory, listed.
+fn list_step(run: Run, words: &[u32], contents: &[u8], state: &[u32], out: &mut [u8]) -> Run
+    ensures stands { λ s. ⌜ ((memory : Volume) → standing s memory ≡ standing run memory) ⌝ }
+    ensures prints { λ s. ⌜ shown (now (out .exit)) (s .at) ≡ added (now (out .entry)) (run .at)
+        (listText width (run .pages) (run .slots) (inUse width (run .pages) (run .slots) (volume (now (words .entry)) (now (contents .entry)) (now (state .entry))))) ⌝ }
+    ensures holds { λ s. ⌜ s .held ≡ run .held ⌝ }
+{
+    let w = memory::least(5 * (run.slots as usize), words.len());
+    let b = memory::least(32 * (run.slots as usize), contents.len());
+    let s = memory::least(4 * (run.pages as usize), state.len());
+    run.printed(listing::list(
         run.pages,
         run.slots,
-        words,
-        contents,
-        state,
-        page,
-        slot,
-        fill,
-    );
-    run.printed(print::put_done(out, run.at, answer_in(r), second_in(r)))
+        &words[0..w],
+        &contents[0..b],
+        &state[0..s],
+        out,
+        run.at,
+    ))
 }
 
-// The answer of a page's read.
-fn read_answer(
-    pages: u32,
-    slots: u32,
-    words: &[u32],
-    contents: &[u8],
-    state: &[u32],
-    page: u32,
-) -> u64 {
-    let mut bytes = [0u8; 32];
-    calls::read(pages, slots, words, contents, state, page, &mut bytes)
-}
-
-// The answer of the first page whose read is refused; 0 where none is.
-fn list_answer(pages: u32, slots: u32, words: &[u32], contents: &[u8], state: &[u32]) -> u64 {
-    let mut p = 0;
-    while p < pages {
-        let r = read_answer(pages, slots, words, contents, state, p);
-        if answer_in(r) != 0 {
-            return r;
-        }
-        p += 1;
+fn is_format(line: Line) -> bool
+    ensures { λ r. ⌜ ((list : List ℕ) → r ≡ isFormat (said line list)) ⌝ }
+{
+    match line {
+        Line::Format { pages: _, slots: _ } => true,
+        _ => false,
     }
-    0
 }
 
-// The slot that is read.
-fn slot_read(pages: u32, slots: u32, words: &[u32], state: &[u32], page: u32) -> u32 {
-    let w = 5 * (slots as usize);
-    let s = 4 * (pages as usize);
-    if words.len() < w {
-        return slots;
+// "a line other than format before a format has answered 0"
+fn is_early(pages: u32, line: Line) -> bool
+    ensures { λ r. ⌜ ((list : List ℕ) → r ≡ isEarly pages (said line list)) ⌝ }
+{
+    if pages > 0 {
+        return false;
     }
-    if state.len() < s {
-        return slots;
-    }
-    if page >= pages {
-        return slots;
-    }
-    volume::committed_slot(&words[0..w], slots, &state[0..s], page)
+    !is_format(line)
 }
 
-// The page's committed version.
-fn version_of(state: &[u32], page: u32) -> u32 {
-    let i = 4 * (page as usize);
-    if i < state.len() {
-        return state[i];
-    }
-    0
-}
-
-// "drawn is what Count gives for its bytes"
-fn drawn_of(
-    pages: u32,
-    slots: u32,
-    words: &[u32],
-    contents: &[u8],
-    state: &[u32],
-    page: u32,
-) -> u32 {
-    let mut bytes = [0u8; 32];
-    calls::read(pages, slots, words, contents, state, page, &mut bytes);
-    second_in(bits::count(&bytes))
-}
-
-// A page's line.
-fn list_page(
-    run: Run,
-    words: &[u32],
-    contents: &[u8],
-    state: &[u32],
-    page: u32,
-    out: &mut [u8],
-) -> Run {
-    let version = version_of(state, page);
-    let slot = slot_read(run.pages, run.slots, words, state, page);
-    let drawn = drawn_of(run.pages, run.slots, words, contents, state, page);
-    run.printed(print::put_page(out, run.at, page, version, slot, drawn))
-}
-
-// The pages' lines.
-fn list_pages(run: Run, words: &[u32], contents: &[u8], state: &[u32], out: &mut [u8]) -> Run {
-    let pages = run.pages;
-    let mut now = run;
-    let mut p = 0;
-    while p < pages {
-        now = list_page(now, words, contents, state, p, out);
-        p += 1;
-    }
-    now
-}
-
-// "If a read is refused, list prints only one line, answer= and the first such number."
-fn list_step(run: Run, words: &[u32], contents: &[u8], state: &[u32], out: &mut [u8]) -> Run {
-    let r = list_answer(run.pages, run.slots, words, contents, state);
-    if answer_in(r) != 0 {
-        return say(run, out, r);
-    }
-    let listed = list_pages(run, words, contents, state, out);
-    say(listed, out, r)
-}
-
-// A line other than format, on a volume.
-fn call_step(
+// A line other than one that comes too early, carried out.
+fn line_step(
     run: Run,
     line: Line,
     list: &[u32],
@@ -244,44 +190,62 @@ fn call_step(
     contents: &mut [u8],
     state: &mut [u32],
     out: &mut [u8],
-) -> Run {
+) -> Run
+    ensures stands { λ s. ⌜ standing s (volume (now (words .exit)) (now (contents .exit)) (now (state .exit)))
+        ≡ lineTurn width (standing run (volume (now (words .entry)) (now (contents .entry)) (now (state .entry)))) (said line (now (list .entry))) .leaves ⌝ }
+    ensures prints { λ s. ⌜ shown (now (out .exit)) (s .at) ≡ added (now (out .entry)) (run .at)
+        (lineTurn width (standing run (volume (now (words .entry)) (now (contents .entry)) (now (state .entry)))) (said line (now (list .entry))) .prints) ⌝ }
+    ensures holds { λ s. ⌜ s .held ≡ run .held ⌝ }
+{
     match line {
-        Line::Launch { count } => {
-            let r = calls::launch(run.pages, run.slots, state, list, count);
-            say(run, out, r)
-        }
-        Line::Write { page, slot, fill } => write_step(
+        Line::Format { pages, slots } => format_step(
             run,
+            pages,
+            slots,
             words,
             contents,
             state,
-            page,
-            slot,
-            fill,
             out,
         ),
+        Line::Launch { count } => {
+            let r = memory::launch(run.pages, run.slots, state, list, count);
+            say(run, out, r)
+        }
+        Line::Write { page, slot, fill } => {
+            let r = memory::write(
+                run.pages,
+                run.slots,
+                words,
+                contents,
+                state,
+                page,
+                slot,
+                fill,
+            );
+            say_done(run, out, r)
+        }
         Line::Withdraw { page } => {
-            let r = calls::withdraw(run.pages, run.slots, state, page);
+            let r = memory::withdraw(run.pages, run.slots, state, page);
             say(run, out, r)
         }
         Line::Erase { count } => {
-            let r = calls::erase(run.pages, run.slots, words, contents, state, list, count);
+            let r = memory::erase(run.pages, run.slots, words, contents, state, list, count);
             say(run, out, r)
         }
         Line::Recover => {
-            let r = calls::recover(run.pages, run.slots, words, state);
+            let r = memory::recover(run.pages, run.slots, words, state);
             say(run, out, r)
         }
         Line::Cut => {
-            let r = calls::cut(run.pages, state);
-            say(run, out, r)
+            memory::cut(run.pages, state);
+            say(run, out, 0)
         }
         Line::List => list_step(run, words, contents, state, out),
-        _ => refuse(run, out),
+        Line::Malformed => refuse(run, out),
     }
 }
 
-// One line carried out; "a line other than format before a format has answered 0 … ends the run".
+// One line carried out.
 pub fn step(
     run: Run,
     line: Line,
@@ -290,12 +254,15 @@ pub fn step(
     contents: &mut [u8],
     state: &mut [u32],
     out: &mut [u8],
-) -> Run {
-    if let Line::Format { pages, slots } = line {
-        return format_step(run, pages, slots, words, contents, state, out);
-    }
-    if run.pages < 1 {
+) -> Run
+    ensures stands { λ s. ⌜ standing s (volume (now (words .exit)) (now (contents .exit)) (now (state .exit)))
+        ≡ turn width (standing run (volume (now (words .entry)) (now (contents .entry)) (now (state .entry)))) (said line (now (list .entry))) .leaves ⌝ }
+    ensures prints { λ s. ⌜ shown (now (out .exit)) (s .at) ≡ added (now (out .entry)) (run .at)
+        (turn width (standing run (volume (now (words .entry)) (now (contents .entry)) (now (state .entry)))) (said line (now (list .entry))) .prints) ⌝ }
+    ensures holds { λ s. ⌜ s .held ≡ run .held ⌝ }
+{
+    if is_early(run.pages, line) {
         return refuse(run, out);
     }
-    call_step(run, line, list, words, contents, state, out)
+    line_step(run, line, list, words, contents, state, out)
 }

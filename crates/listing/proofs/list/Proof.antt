@@ -1,7 +1,6 @@
-use mathlib.Core.Path.{sym, ap, _∙_}
+use mathlib.Core.Path.{sym, _∙_}
 use borrow.Author.Needs.{needs}
-use Rattle.text.specs.Print.{added}
-use Rattle.text.specs.PrintLaws.{added-next}
+use Rattle.volume.specs.Volume.{volume}
 use Rattle.listing.specs.ListingLaws.{list-refused, list-accepted}
 use Rattle.listing.proofs.list.Statement.{statement}
 use Rattle.listing.proofs.list.Tie as tie
@@ -17,8 +16,8 @@ same-length c = search needs
 
 returns : tie.Need-returns
 returns c =
-    c .before .before .put-answer .ensures
-    ∙ ap (added _ _) (list-refused _ _ _ _ _ (c .before .before .before .before .before .list-answer .ensures) (c .before .before .before .before .if1 .taken))
+    list-refused _ _ _ _ _ (c .before .before .before .before .before .list-answer .ensures) _ _ _
+    (c .before .before .before .before .if1 .taken) (c .before .before .put-answer .ensures)
 
 put-pages-requires : tie.Need-put-pages-requires
 put-pages-requires c κs = sym (c .before .before .list-answer .ensures) ∙ c .before .if1 .left
@@ -32,9 +31,9 @@ same-length-2 c = search needs
 returns-2 : tie.Need-returns-2
 returns-2 c =
     let p = c .before .before .before .before .before .before .put-pages in
-    c .before .before .put-answer2 .ensures
-    ∙ added-next _ _ _ _ _ _ (p .ensures) (p .kept .1 .1 .1 .1 .1 .0)
-    ∙ ap (added _ _) (list-accepted _ _ _ _ _ (c .before .before .before .before .before .before .before .before .before .list-answer .ensures) (c .before .before .before .before .before .before .before .before .if1 .left))
+    let a = c .before .before .before .before .before .before .before .before .before .before .before .before .before .before .args in
+    list-accepted _ _ _ (volume (a .words .now) (a .contents .now) (a .state .now)) _ (c .before .before .before .before .before .before .before .before .before .list-answer .ensures) _ _ _ _ _
+    (c .before .before .before .before .before .before .before .before .if1 .left) (p .ensures) (p .kept .1 .1 .1 .1 .1 .0) (c .before .before .put-answer2 .ensures)
 
 pub list-spec : {M : Type 1} → statement M
 list-spec =

@@ -1,6 +1,7 @@
+-- The invariant: no page before `page` is refused.
 use Prim.Native.Nat.{ℕ, _-_, _≤_}
 use native.Mathlib.Omega.{arith}
-use mathlib.Core.Path.{_≡_, sym, _∙_}
+use mathlib.Core.Path.{_≡_, sym}
 use Rattle.bounded.specs.Limits.{width}
 use Rattle.volume.specs.Volume.{volume}
 use Rattle.listing.specs.Listing.{pageRead, firstRefusal, listAnswer}
@@ -24,9 +25,8 @@ read-answer-requires c κs = tt
 returns : tie.Need-returns Inv-loop μ-loop
 unfolding listAnswer
 returns c =
-    let r = c .before .read-answer in
     let l = c .before .before .before .loop in
-    r .ensures ∙ first-found _ _ (l .page) (l .inv .1) (λ z. c .if1 .taken (r .ensures ∙ z)) (omega arith)
+    first-found _ _ (l .page) _ (l .inv .1) (c .before .read-answer .ensures) (c .if1 .taken) (omega arith)
 
 add-page : tie.Need-add-page Inv-loop μ-loop
 add-page c = omega arith
@@ -35,7 +35,7 @@ loop-less : tie.Need-loop-less Inv-loop μ-loop
 loop-less c = omega arith
 
 loop-again : tie.Need-loop-again Inv-loop μ-loop
-loop-again c = (omega arith, none-more _ _ (c .before .before .before .loop .inv .1) (sym (c .before .read-answer .ensures) ∙ c .if1 .left))
+loop-again c = (omega arith, none-more _ _ _ (c .before .before .before .loop .inv .1) (c .before .read-answer .ensures) (c .if1 .left))
 
 returns-2 : tie.Need-returns-2 Inv-loop μ-loop
 unfolding listAnswer

@@ -23,7 +23,10 @@ same-length c = search needs
 returns : tie.Need-returns
 unfolding pageText readSlot
 returns c =
-    rw (c .before .before .before .before .before .before .page-at .ensures, c .before .before .before .before .before .committed-slot .ensures, c .before .before .before .before .drawn-of .ensures) at
+    let s = c .before .before .before .before .before .before .page-at in
+    let slot = c .before .before .before .before .before .committed-slot in
+    let drawn = c .before .before .before .before .drawn-of in
+    rw (s .ensures, slot .ensures, drawn .ensures) at
     (c .before .before .put-fields .ensures)
 
 pub put-page-spec : {M : Type 1} → statement M

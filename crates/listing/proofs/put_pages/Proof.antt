@@ -1,3 +1,4 @@
+-- The invariant: the lines of the pages before `page` are put.
 use Prim.Native.Nat.{_-_, _≤_}
 use native.Mathlib.Omega.{arith}
 use mathlib.Core.Path.{_≡_, refl, _∙_}
@@ -37,7 +38,7 @@ loop-again : tie.Need-loop-again Inv-loop μ-loop
 loop-again c =
     let p = c .before .before .put-page in
     let l = c .before .before .before .before .before .loop in
-    (omega arith, p .kept .1 .1 .1 .1 .1 .1 .0 ∙ l .inv .1, p .ensures ∙ parts-next (pageText _ _ _ _) _ _ _ _ _ (l .inv .2) (l .inv .1))
+    (omega arith, p .kept .1 .1 .1 .1 .1 .1 .0 ∙ l .inv .1, parts-next (pageText _ _ _ _) _ _ _ _ _ _ (l .inv .2) (l .inv .1) (p .ensures))
 
 same-length : tie.Need-same-length Inv-loop μ-loop
 same-length c = c .before .loop .inv .1

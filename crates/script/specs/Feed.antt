@@ -1,0 +1,30 @@
+-- A script byte by byte: what a line's bytes do, and what the next byte does.
+use Prim.Native.Nat.{ℕ}
+use mathlib.Core.List.{List, [], _∷_, _++_}
+use mathlib.Core.Bool.{cond}
+use lib.Dec.{eqb}
+use lib.ListN.{take}
+use Rattle.line.specs.Line.{lineMeans}
+use Rattle.script.specs.Script.{Standing, Turn, turnTo, turn}
+
+-- "lists 1 to 64 entries"
+abbrev pub maxEntries : ℕ
+maxEntries = 64
+
+-- what a line of these bytes does
+unfoldable pub carried : (w : ℕ) → Standing → List ℕ → Turn
+carried w s line = turn w s (lineMeans maxEntries line)
+
+-- What a byte does: a turn, and the bytes that are then held of a line that has not ended.
+pub record Fed : Type 0 where
+  pub turned : Turn
+  pub held : List ℕ
+
+-- The next byte of a script, where these bytes are held of a line that has not ended and there is room for `room` of them: a line end
+-- (byte 10) has the line carried out; any other byte is held, as far as there is room. 513 bytes of room hold every line of 512, and enough of a longer one
+-- for it to be refused.
+unfoldable pub fed : (w room : ℕ) → Standing → (held : List ℕ) (byte : ℕ) → Fed
+fed w room s held byte =
+    cond (eqb byte 10)
+    (record { turned = carried w s held; held = [] })
+    (record { turned = turnTo s (s .memory) []; held = take room (held ++ (byte ∷ [])) })

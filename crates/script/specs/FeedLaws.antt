@@ -1,0 +1,60 @@
+-- Laws of a script's bytes.
+use Prim.Native.Nat.{ℕ, _-_, min}
+use mathlib.Core.Path.{_≡_, refl, sym, ap, _∙_}
+use mathlib.Core.List.{List, [], _∷_}
+use mathlib.Core.Bool.{true, false}
+use lib.Dec.{eqb}
+use lib.ListN.{length, take, drop}
+use borrow.Author.Tests.{ne-eqb, eq-eqb}
+use Rattle.volume.specs.Volume.{Volume}
+use Rattle.memory.specs.MemoryLaws.{front-lent}
+use Rattle.text.specs.Print.{shown, added}
+use Rattle.text.specs.PrintLaws.{added-none}
+use Rattle.line.specs.Line.{Said, lineMeans}
+use Rattle.script.specs.declared.step.Run.{Run}
+use Rattle.script.specs.Script.{Standing, standing, Turn, turnTo, turn}
+use Rattle.script.specs.StepLaws.{Went}
+use Rattle.script.specs.Feed.{maxEntries, carried, Fed, fed}
+
+-- the run with so many bytes of a line held
+abbrev pub holdingTo : Run → ℕ → Run
+holdingTo run held = record { pages = run .pages; slots = run .slots; at = run .at; held = held; over = run .over }
+
+module _ (w : ℕ) (run s : Run) (m m₁ : Volume) (out out₁ : List ℕ) where
+  -- a line said as it means
+  pub line-carried :
+      (says : Said) (line : List ℕ) (k : ℕ) → says ≡ lineMeans k line → k ≡ maxEntries → Went run s m₁ out out₁ (turn w (standing run m) says)
+      → Went run s m₁ out out₁ (carried w (standing run m) line)
+  unfolding carried
+  line-carried says line k e n h = rw (← n, ← e) h
+
+  -- A run that carried out the line it held, and holds nothing.
+  abbrev pub Ended : List ℕ → Type 0
+  Ended buffer =
+      (standing s m₁ ≡ carried w (standing run m) (shown buffer (run .held)) .leaves)
+      × ((shown out₁ (s .at) ≡ added out (run .at) (carried w (standing run m) (shown buffer (run .held)) .prints)) × (s .held ≡ 0))
+
+  pub held-carried :
+      (buffer : List ℕ) (r : Run) (k : ℕ) → r ≡ holdingTo run 0 → k ≡ min (run .held) (length buffer)
+      → Went r s m₁ out out₁ (carried w (standing r m) (take (k - 0) (drop 0 buffer))) → Ended buffer
+  unfolding standing shown
+  held-carried buffer r k e n h = rw (← front-lent (run .held) k buffer n) (rw e at h)
+
+  module _ (buffer buffer₁ : List ℕ) (byte : ℕ) where
+    -- what a byte did
+    abbrev pub Took : Type 0
+    Took =
+        (standing s m₁ ≡ fed w (length buffer) (standing run m) (shown buffer (run .held)) byte .turned .leaves)
+        × ((shown out₁ (s .at) ≡ added out (run .at) (fed w (length buffer) (standing run m) (shown buffer (run .held)) byte .turned .prints))
+        × (shown buffer₁ (s .held) ≡ fed w (length buffer) (standing run m) (shown buffer (run .held)) byte .held))
+
+    pub took-line-end : byte ≡ 10 → Ended buffer → Took
+    unfolding fed shown standing
+    took-line-end e h = let q : eqb byte 10 ≡ true = eq-eqb byte 10 e in rw (q, h .1 .1) (h .0, (h .1 .0, refl))
+
+    pub took-byte :
+        ¬ (byte ≡ 10) → m₁ ≡ m → out₁ ≡ out → (held : ℕ) → s ≡ holdingTo run held → shown buffer₁ held ≡ added buffer (run .held) (byte ∷ []) → Took
+    unfolding fed standing turnTo added
+    took-byte d em eo held e h =
+        let q : eqb byte 10 ≡ false = ne-eqb byte 10 d in
+        rw (q, em, eo, e) (refl, (added-none out (run .at), h))

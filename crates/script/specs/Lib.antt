@@ -1,0 +1,4 @@
+pub mod Script
+pub mod StepLaws
+pub mod Feed
+pub mod FeedLaws
