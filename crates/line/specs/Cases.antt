@@ -38,6 +38,7 @@ cases =
     ∷ case "op=cut" Said.Cut
     ∷ case "op=recover" Said.Recover
     ∷ case "op=launch pages=1" (Said.Launch (1 ∷ []))
+    ∷ case "op=write page=1 slot=3 fill=3" (Said.Write 1 3 3)
     ∷ case "op=list" Said.Listing
     ∷ case "op=withdraw page=12" (Said.Withdraw 12)
     ∷ case "op=erase slots=3,0,4294967295" (Said.Erase (3 ∷ 0 ∷ 4294967295 ∷ []))

@@ -8,7 +8,6 @@ ghost use Rattle.outcome.specs.Outcome.{returned};
 ghost use Rattle.collect.specs.EraseLaws.{flash};
 ghost use Rattle.volume.specs.Volume.{volume};
 ghost use Rattle.volume.specs.Format.{formatOutcome};
-ghost use Rattle.volume.specs.Read.{readOutcome};
 ghost use Rattle.transact.specs.Launch.{launchOutcome};
 ghost use Rattle.transact.specs.Write.{writeOutcome};
 ghost use Rattle.transact.specs.Withdraw.{withdrawOutcome};

@@ -1,20 +1,35 @@
 -- Laws of a script's bytes.
-use Prim.Native.Nat.{ℕ, _-_, min}
-use mathlib.Core.Path.{_≡_, refl, sym, ap, _∙_}
+use Prim.Native.Nat.{ℕ, _-_, _≤_, _<_, min}
+use native.Mathlib.Omega.{arith}
+use mathlib.Core.Path.{_≡_, refl}
 use mathlib.Core.List.{List, [], _∷_}
 use mathlib.Core.Bool.{true, false}
-use lib.Dec.{eqb}
-use lib.ListN.{length, take, drop}
-use borrow.Author.Tests.{ne-eqb, eq-eqb}
+use lib.Dec.{ltb, eqb}
+use lib.ListN.{length, take, drop, length-take}
+use lib.Seq.{take-all}
+use borrow.Author.Tests.{ne-eqb, eq-eqb, lt-ltb}
+use Rattle.bounded.specs.Choice.{on-lt}
 use Rattle.volume.specs.Volume.{Volume}
 use Rattle.memory.specs.MemoryLaws.{front-lent}
 use Rattle.text.specs.Print.{shown, added}
 use Rattle.text.specs.PrintLaws.{added-none}
 use Rattle.line.specs.Line.{Said, lineMeans}
 use Rattle.script.specs.declared.step.Run.{Run}
-use Rattle.script.specs.Script.{Standing, standing, Turn, turnTo, turn}
+use Rattle.script.specs.Script.{standing, turnTo, turn}
 use Rattle.script.specs.StepLaws.{Went}
-use Rattle.script.specs.Feed.{maxEntries, carried, Fed, fed}
+use Rattle.script.specs.Feed.{maxEntries, carried, fed}
+
+-- The first 513 bytes of a line say what the line says: more than 512 are malformed, whatever they are.
+pub enough-held : (k : ℕ) (line : List ℕ) → lineMeans k (take 513 line) ≡ lineMeans k line
+unfolding lineMeans
+enough-held k line =
+    on-lt 512 (length line)
+    (λ (h : 512 < length line).
+    let e = length-take 513 line in
+    let a : ltb 512 (length (take 513 line)) ≡ true = lt-ltb 512 (length (take 513 line)) (omega arith) in
+    let b : ltb 512 (length line) ≡ true = lt-ltb 512 (length line) h in
+    rw (a, b))
+    (λ (h : length line ≤ 512). let e = take-all 513 line (omega arith) in rw e)
 
 -- the run with so many bytes of a line held
 abbrev pub holdingTo : Run → ℕ → Run

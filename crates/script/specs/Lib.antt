@@ -2,3 +2,4 @@ pub mod Script
 pub mod StepLaws
 pub mod Feed
 pub mod FeedLaws
+pub mod Room

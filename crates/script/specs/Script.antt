@@ -1,6 +1,6 @@
 -- A script's run line by line: what each line prints and what it leaves, by the calls' outcome definitions.
 use Prim.Native.Nat.{ℕ, _*_}
-use mathlib.Core.List.{List, [], _∷_, _++_}
+use mathlib.Core.List.{List, _++_}
 use mathlib.Core.Bool.{Bool, true, false, cond, not, _&&_}
 use lib.Dec.{eqb}
 use lib.ListN.{take, replicate}

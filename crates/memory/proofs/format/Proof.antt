@@ -1,8 +1,6 @@
-use Prim.Native.Nat.{ℕ}
-use mathlib.Core.List.{List}
 use borrow.Author.Needs.{needs}
 use Rattle.bounded.specs.Limits.{width}
-use Rattle.volume.specs.Volume.{Volume, volume}
+use Rattle.volume.specs.Volume.{volume}
 use Rattle.volume.specs.Format.{formatOutcome}
 use Rattle.memory.specs.MemoryLaws.{volume-called}
 use Rattle.memory.proofs.format.Statement.{statement}
