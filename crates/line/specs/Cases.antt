@@ -5,6 +5,7 @@ use mathlib.Core.List.{List, [], _∷_, map}
 use Rattle.text.specs.Scan.{bytes, behind, maxNumber, isDigit, endNumber, numberFrom, number}
 use Rattle.line.specs.Line.{
   Said,
+  numberThen,
   onNumber,
   onText,
   onNumbers,
@@ -57,5 +58,5 @@ cases =
     ∷ []
 
 pub cases-hold : map (λ (c : Case). lineMeans 64 (bytes (c .line))) cases ≡ map (λ (c : Case). c .says) cases
-unfolding cases bytes behind maxNumber isDigit endNumber numberFrom number onNumber onText onNumbers atEnd listBehind listFrom numbers formatMeans fillMeans writeMeans withdrawMeans launchMeans eraseMeans plainMeans callMeans lineMeans
+unfolding cases bytes behind maxNumber isDigit endNumber numberFrom number numberThen onNumber onText onNumbers atEnd listBehind listFrom numbers formatMeans fillMeans writeMeans withdrawMeans launchMeans eraseMeans plainMeans callMeans lineMeans
 cases-hold = refl

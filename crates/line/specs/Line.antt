@@ -5,7 +5,7 @@ use mathlib.Core.List.{List, [], _∷_}
 use mathlib.Core.Bool.{cond}
 use lib.Dec.{ltb, eqb}
 use lib.ListN.{length, take}
-use Rattle.text.specs.Scan.{bytes, behind, number, Scanned}
+use Rattle.text.specs.Scan.{bytes, behind, number, Scanned, scanned}
 use Rattle.line.specs.declared.Line.{Line}
 use Rattle.line.specs.declared.Line.the-variants as lines
 
@@ -37,6 +37,11 @@ said lines.Malformed list = Malformed
 unfoldable pub onNumber : Option Scanned → (ℕ → List ℕ → Said) → Said
 onNumber none f = Malformed
 onNumber (some n) f = f (n .value) (n .rest)
+
+-- a number with a field's name behind it: the number, and what is behind both
+unfoldable pub numberThen : (name : List ℕ) → Option Scanned → Option Scanned
+numberThen name none = none
+numberThen name (some n) = Option·map (scanned (n .value)) (behind name (n .rest))
 
 -- what is said behind a text where it stands, and else
 unfoldable pub onText : Option (List ℕ) → (List ℕ → Said) → Said → Said
@@ -76,10 +81,9 @@ listed (suc n) list = some (take (suc n) list)
 -- "op=format pages=2 slots=4"
 unfoldable pub formatMeans : List ℕ → Said
 formatMeans s =
-    onNumber (number s) (λ pages s.
-    onText (behind (bytes " slots=") s) (λ s.
+    onNumber (numberThen (bytes " slots=") (number s)) (λ pages s.
     onNumber (number s) (λ slots s.
-    atEnd s (Format pages slots))) Malformed)
+    atEnd s (Format pages slots)))
 
 -- "fill at most 255"
 unfoldable pub fillMeans : (page slot : ℕ) → List ℕ → Said
@@ -90,10 +94,9 @@ fillMeans page slot s =
 -- "op=write page=0 slot=2 fill=3"
 unfoldable pub writeMeans : List ℕ → Said
 writeMeans s =
-    onNumber (number s) (λ page s.
-    onText (behind (bytes " slot=") s) (λ s.
-    onNumber (number s) (λ slot s.
-    onText (behind (bytes " fill=") s) (fillMeans page slot) Malformed)) Malformed)
+    onNumber (numberThen (bytes " slot=") (number s)) (λ page s.
+    onNumber (numberThen (bytes " fill=") (number s)) (λ slot s.
+    fillMeans page slot s))
 
 -- "op=withdraw page="
 unfoldable pub withdrawMeans : List ℕ → Said

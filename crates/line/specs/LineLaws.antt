@@ -42,12 +42,7 @@ module _ (line : List ℕ) where
   unfolding atEnd
   not-at-end at says h = rw (drop-cons line at 0 h)
 
--- a number with a field's name behind it: the number, and what is behind both
-unfoldable pub numberThen : (name : List ℕ) → Option Scanned → Option Scanned
-numberThen name none = none
-numberThen name (some n) = Option·map (scanned (n .value)) (behind name (n .rest))
-
--- What is said behind a number, and behind a number and a name.
+-- What is said behind a number.
 module _ {o : Option Scanned} (f : ℕ → List ℕ → Said) where
   pub on-is : {x : Said} {value : ℕ} {s : List ℕ} → o ≡ some (scanned value s) → x ≡ f value s → x ≡ onNumber o f
   unfolding onNumber
@@ -56,18 +51,6 @@ module _ {o : Option Scanned} (f : ℕ → List ℕ → Said) where
   pub on-not : o ≡ none → Said.Malformed ≡ onNumber o f
   unfolding onNumber
   on-not e = rw e
-
-pub on-both : (f : ℕ → List ℕ → Said) (value : ℕ) (o : Option (List ℕ)) → onNumber (Option·map (scanned value) o) f ≡ onText o (f value) Said.Malformed
-unfolding onNumber onText
-on-both f value none = refl
-on-both f value (some s) = refl
-
-pub on-then :
-    {x : Said} (name : List ℕ) (o : Option Scanned) (f : ℕ → List ℕ → Said) → x ≡ onNumber (numberThen name o) f
-    → x ≡ onNumber o (λ (value : ℕ) (s : List ℕ). onText (behind name s) (f value) Said.Malformed)
-unfolding numberThen onNumber
-on-then name none f e = e
-on-then name (some n) f e = e ∙ on-both f (n .value) (behind name (n .rest))
 
 -- What a list of numbers says, by how many there are.
 module _ {o : Option (List ℕ)} (f : List ℕ → Said) where

@@ -4,8 +4,7 @@ ghost use mathlib.Core.List.{List};
 ghost use Prim.Native.Nat.{ℕ};
 ghost use lib.ListN.{length, drop};
 ghost use Rattle.text.specs.Scan.{number, numberAt};
-ghost use Rattle.line.specs.LineLaws.{numberThen};
-ghost use Rattle.line.specs.Line.{said, listed, lineMeans, formatMeans, fillMeans, writeMeans, withdrawMeans, launchMeans, eraseMeans, plainMeans, atEnd, numbers};
+ghost use Rattle.line.specs.Line.{numberThen, said, listed, lineMeans, formatMeans, fillMeans, writeMeans, withdrawMeans, launchMeans, eraseMeans, plainMeans, atEnd, numbers};
 use text::scan::Number;
 use text::scan::Place;
 

@@ -10,7 +10,8 @@ use borrow.Author.Tests.{ne-eqb, eq-eqb}
 use Rattle.outcome.specs.Outcome.{Outcome, returned}
 use Rattle.record.specs.Flash.{Flash}
 use Rattle.volume.specs.Volume.{Volume}
-use Rattle.volume.specs.Format.{formatOutcome}
+use Rattle.volume.specs.Format.{formatAnswer, formatOutcome}
+use Rattle.volume.specs.CallLaws.{format-refused as volume-refused}
 use Rattle.transact.specs.Launch.{launchOutcome}
 use Rattle.transact.specs.Write.{writeOutcome}
 use Rattle.transact.specs.Withdraw.{withdrawOutcome}
@@ -172,3 +173,11 @@ early-later pages says h = let q : eqb pages 0 ≡ false = ne-eqb _ _ (λ (z : p
 pub early-first : (pages : ℕ) (says : Said) (b : Bool) → pages ≤ 0 → b ≡ isFormat says → not b ≡ isEarly pages says
 unfolding isEarly
 early-first pages says b h e = let q : eqb pages 0 ≡ true = eq-eqb pages 0 (omega arith) in rw (q, e)
+
+-- "A refused later format leaves the volume as it was": everything is where it was.
+pub refused-format : (w : ℕ) (s : Standing) (P S : ℕ) → ¬ (formatAnswer w P S (inUse w P S (s .memory)) ≡ 0) → formatTurn w s P S .leaves ≡ s
+unfolding formatTurn formatted leaving volumeBack
+refused-format w s P S d =
+    let e = volume-refused w P S (inUse w P S (s .memory)) d in
+    let q : eqb (formatAnswer w P S (inUse w P S (s .memory))) 0 ≡ false = ne-eqb _ _ d in
+    rw (e, q, flash-same w P S (s .memory), state-same w P S (s .memory))

@@ -1,7 +1,7 @@
 use mathlib.Core.Path.{refl}
 use Rattle.text.specs.Scan.{bytes}
 use Rattle.line.specs.Line.{said, formatMeans}
-use Rattle.line.specs.LineLaws.{number-is, number-not, on-is, on-not, on-then}
+use Rattle.line.specs.LineLaws.{number-is, number-not, on-is, on-not}
 use Rattle.line.proofs.format_at.Statement.{statement}
 use Rattle.line.proofs.format_at.Tie as tie
 
@@ -21,7 +21,7 @@ returns : tie.Need-returns
 unfolding bytes said formatMeans
 returns c l =
     let line = c .before .before .before .before .before .args .line .now in
-    on-then _ _ _ (on-not _ (number-not line (c .before .before .number-then .ensures) (c .enum-told .given .1)))
+    on-not _ (number-not line (c .before .before .number-then .ensures) (c .enum-told .given .1))
 
 number-at-requires : tie.Need-number-at-requires
 number-at-requires c κs = tt
@@ -36,8 +36,7 @@ returns-2 : tie.Need-returns-2
 unfolding bytes said formatMeans
 returns-2 c l =
     let line = c .before .before .before .before .before .before .before .before .before .args .line .now in
-    on-then _ _ _
-    (on-is _ (number-is line (c .before .before .before .before .before .before .number-then .ensures) (c .before .before .before .before .pages .given .1)) (on-not _ (number-not line (c .before .before .number-at .ensures) (c .enum-told2 .given .1))))
+    on-is _ (number-is line (c .before .before .before .before .before .before .number-then .ensures) (c .before .before .before .before .pages .given .1)) (on-not _ (number-not line (c .before .before .number-at .ensures) (c .enum-told2 .given .1)))
 
 ended-requires : tie.Need-ended-requires
 ended-requires c κs = tt
@@ -46,9 +45,8 @@ returns-3 : tie.Need-returns-3
 unfolding bytes said formatMeans
 returns-3 c l =
     let line = c .before .before .before .before .before .before .before .before .before .before .before .args .line .now in
-    on-then _ _ _
-    (on-is _ (number-is line (c .before .before .before .before .before .before .before .before .number-then .ensures) (c .before .before .before .before .before .before .pages .given .1))
-    (on-is _ (number-is line (c .before .before .before .before .number-at .ensures) (c .before .before .slots .given .1)) (c .ended .ensures l)))
+    on-is _ (number-is line (c .before .before .before .before .before .before .before .before .number-then .ensures) (c .before .before .before .before .before .before .pages .given .1))
+    (on-is _ (number-is line (c .before .before .before .before .number-at .ensures) (c .before .before .slots .given .1)) (c .ended .ensures l))
 
 pub format-at-spec : {M : Type 1} → statement M
 format-at-spec =

@@ -1,5 +1,6 @@
 use Rattle.text.specs.Scan.{numberAt}
-use Rattle.line.specs.LineLaws.{number-is, number-not, text-at, text-nowhere, numberThen}
+use Rattle.line.specs.Line.{numberThen}
+use Rattle.line.specs.LineLaws.{number-is, number-not, text-at, text-nowhere}
 use Rattle.line.proofs.number_then.Statement.{statement}
 use Rattle.line.proofs.number_then.Tie as tie
 

@@ -1,7 +1,7 @@
 use mathlib.Core.Path.{refl}
 use Rattle.text.specs.Scan.{bytes}
 use Rattle.line.specs.Line.{said, writeMeans}
-use Rattle.line.specs.LineLaws.{number-is, number-not, on-is, on-not, on-then}
+use Rattle.line.specs.LineLaws.{number-is, number-not, on-is, on-not}
 use Rattle.line.proofs.write_at.Statement.{statement}
 use Rattle.line.proofs.write_at.Tie as tie
 
@@ -21,7 +21,7 @@ returns : tie.Need-returns
 unfolding bytes said writeMeans
 returns c l =
     let line = c .before .before .before .before .before .args .line .now in
-    on-then _ _ _ (on-not _ (number-not line (c .before .before .number-then .ensures) (c .enum-told .given .1)))
+    on-not _ (number-not line (c .before .before .number-then .ensures) (c .enum-told .given .1))
 
 slice-aggregate-number-then-2 : tie.Need-slice-aggregate-number-then-2
 slice-aggregate-number-then-2 c = refl
@@ -39,9 +39,8 @@ returns-2 : tie.Need-returns-2
 unfolding bytes said writeMeans
 returns-2 c l =
     let line = c .before .before .before .before .before .before .before .before .before .before .args .line .now in
-    on-then _ _ _
-    (on-is _ (number-is line (c .before .before .before .before .before .before .before .number-then .ensures) (c .before .before .before .before .before .page .given .1))
-    (on-then _ _ _ (on-not _ (number-not line (c .before .before .number-then2 .ensures) (c .enum-told2 .given .1)))))
+    on-is _ (number-is line (c .before .before .before .before .before .before .before .number-then .ensures) (c .before .before .before .before .before .page .given .1))
+    (on-not _ (number-not line (c .before .before .number-then2 .ensures) (c .enum-told2 .given .1)))
 
 fill-at-requires : tie.Need-fill-at-requires
 fill-at-requires c κs = tt
@@ -50,9 +49,8 @@ returns-3 : tie.Need-returns-3
 unfolding bytes said writeMeans
 returns-3 c l =
     let line = c .before .before .before .before .before .before .before .before .before .before .before .before .args .line .now in
-    on-then _ _ _
-    (on-is _ (number-is line (c .before .before .before .before .before .before .before .before .before .number-then .ensures) (c .before .before .before .before .before .before .before .page .given .1))
-    (on-then _ _ _ (on-is _ (number-is line (c .before .before .before .before .number-then2 .ensures) (c .before .before .slot .given .1)) (c .fill-at .ensures l))))
+    on-is _ (number-is line (c .before .before .before .before .before .before .before .before .before .number-then .ensures) (c .before .before .before .before .before .before .before .page .given .1))
+    (on-is _ (number-is line (c .before .before .before .before .number-then2 .ensures) (c .before .before .slot .given .1)) (c .fill-at .ensures l))
 
 pub write-at-spec : {M : Type 1} → statement M
 write-at-spec =
