@@ -1,14 +1,13 @@
 -- What holds where a call answers 0: none of its refusals' conditions is met.
 use Prim.Native.Nat.{ℕ, _<_}
-use native.Mathlib.Omega.{arith}
 use mathlib.Core.Path.{_≡_, refl}
 use mathlib.Core.List.{List}
-use mathlib.Core.Bool.{Bool, true, false, not, _&&_}
+use mathlib.Core.Bool.{true, false, not, _&&_}
 use lib.Dec.{ltb, eqb}
 use lib.ListN.{length}
 use borrow.Author.Tests.{ltb-true, eqb-true, not-false}
 use Rattle.bounded.specs.Choice.{both-left, both-right}
-use Rattle.outcome.specs.Outcome.{_⇒_otherwise_, passed}
+use Rattle.outcome.specs.Outcome.{passed}
 use Rattle.record.specs.Slot.{slotAt, isBlank}
 use Rattle.state.specs.State.{stateAt, stateSound, inFlight, isWritten}
 use Rattle.table.specs.Table.{tableSound}

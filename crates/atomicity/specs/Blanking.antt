@@ -1,7 +1,6 @@
 -- Blanking slots: the set of (record, contents) pairs loses the records of the blanked slots and no other.
-use Prim.Native.Nat.{ℕ, zero, suc, _*_, _≤_, _<_}
+use Prim.Native.Nat.{ℕ, suc, _<_}
 use native.Mathlib.Omega.{arith}
-use native.Mathlib.Decide.{ℕ-discrete}
 use mathlib.Core.Path.{_≡_, refl, sym, ap, _∙_, subst}
 use mathlib.Core.List.{List, [], _∷_, map, List·Memᴰ, List·Memᴰ·head, List·Memᴰ·tail, List·Memᴰ·not-nil, List·Memᴰ·cases-cons}
 use mathlib.Core.Logic.{_⊎_, inl, inr, ⊎-elim}
@@ -12,12 +11,12 @@ use Rattle.record.specs.declared.Record.{Record}
 use Rattle.record.specs.declared.Slot.the-variants.{Blank, Holds}
 use Rattle.record.specs.Slot.{slotAt, bytesAt}
 use Rattle.record.specs.Flash.{Flash, Step, applyAll}
-use Rattle.record.specs.FlashLaws.{Sized, Blanked, SameSlot, blanks-sized, blanks-listed, blanks-unlisted}
+use Rattle.record.specs.FlashLaws.{Sized, blanks-listed, blanks-unlisted}
 use Rattle.state.specs.declared.PageState.{PageState}
 use Rattle.table.specs.TableLaws.{blank-holds}
 use Rattle.collect.specs.Permission.{mayErase}
 use Rattle.collect.specs.Erase.{eraseSteps}
-use Rattle.protocol.specs.View.{InSlots, NoTwins, finds-in-slots}
+use Rattle.protocol.specs.View.{NoTwins, finds-in-slots}
 use Rattle.protocol.specs.Permitted.{may-erase-permitted}
 use Rattle.protocol.specs.Fewer.{Erased}
 use Rattle.atomicity.specs.Run.{doneOf}

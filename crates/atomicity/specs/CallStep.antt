@@ -1,9 +1,9 @@
 -- A call that returns keeps the invariant: refused it changes nothing, accepted it is its step.
-use Prim.Native.Nat.{ℕ, zero, suc, _*_, _≤_, _<_}
+use Prim.Native.Nat.{ℕ, _≤_, _<_}
 use native.Mathlib.Omega.{arith}
 use mathlib.Core.Path.{_≡_, refl, sym, ap, _∙_, subst}
 use mathlib.Core.List.{List, []}
-use mathlib.Core.Bool.{Bool, true, false}
+use mathlib.Core.Bool.{true, false}
 use lib.ListN.{length}
 use Rattle.bounded.specs.Limits.{noNumber}
 use Rattle.bounded.specs.Choice.{never}
@@ -13,12 +13,12 @@ use Rattle.record.specs.declared.Slot.the-variants.{Blank, Holds}
 use Rattle.record.specs.Slot.{slotAt, isBlank}
 use Rattle.record.specs.Flash.{Flash, apply}
 use Rattle.record.specs.FlashLaws.{Sized, store-sized}
-use Rattle.state.specs.State.{stateAt, stateWords}
+use Rattle.state.specs.State.{stateAt}
 use Rattle.state.specs.StateLaws.{length-stateWords}
 use Rattle.state.specs.Change.{launched, withdrawn, afterWrite}
 use Rattle.state.specs.CycleLaws.{Flies}
 use Rattle.volume.specs.Volume.{Volume}
-use Rattle.volume.specs.SizesLaws.{Sizes, Fits}
+use Rattle.volume.specs.SizesLaws.{Fits}
 use Rattle.transact.specs.Launch.{launchAnswer, launchOutcome}
 use Rattle.transact.specs.Write.{planOf, writeAnswer, writeStep, writeChange, writeOutcome}
 use Rattle.transact.specs.Withdraw.{withdrawAnswer, withdrawOutcome}
@@ -30,7 +30,7 @@ use Rattle.recovery.specs.RecoverLaws.{recover-refused, recover-fills}
 use Rattle.atomicity.specs.Call.{Call, withState, withFlash, perform}
 use Rattle.atomicity.specs.Model.{Model, accept, closeAll, enter}
 use Rattle.atomicity.specs.RingLaunch.{listed-some, listed-launchable}
-use Rattle.atomicity.specs.Invariant.{Held, Live}
+use Rattle.atomicity.specs.Invariant.{Live}
 use Rattle.atomicity.specs.Accepted.{launchable, withdrawable, writable, erasable}
 use Rattle.atomicity.specs.StateWords.{live-words}
 use Rattle.atomicity.specs.LaunchStep.{launched-live}

@@ -16,7 +16,7 @@ use Rattle.transact.specs.Write.{writeDone, writeChange}
 use Rattle.transact.specs.CallLaws.{write-done}
 use Rattle.protocol.specs.Shared.{commOf}
 use Rattle.atomicity.specs.Call.{Call, perform, plannedSteps, flashSteps}
-use Rattle.atomicity.specs.Run.{doneOf, after}
+use Rattle.atomicity.specs.Run.{doneOf}
 use Rattle.atomicity.specs.Model.{Told, Model, accept, closeAll, enter, learns}
 use Rattle.atomicity.specs.Promise.{toldOfCrash}
 use Rattle.atomicity.specs.Invariant.{Lost}

@@ -1,24 +1,22 @@
 -- Erasing keeps the invariant, whole or cut short: slots that may be erased are blanked.
 use Prim.Native.Nat.{ℕ, _<_}
-use mathlib.Core.Path.{_≡_, refl, sym, ap, _∙_, subst}
+use mathlib.Core.Path.{_≡_, refl, sym, _∙_, subst}
 use mathlib.Core.List.{List, [], _∷_, map, List·Memᴰ}
-use mathlib.Core.Bool.{Bool, true, false}
-use lib.ListN.{length, getD}
-use Rattle.record.specs.Slot.{slotAt, bytesAt}
+use mathlib.Core.Bool.{true, false}
+use Rattle.record.specs.Slot.{slotAt}
 use Rattle.record.specs.Flash.{Flash, Step, applyAll}
 use Rattle.record.specs.FlashLaws.{Sized, blanks-sized}
 use Rattle.state.specs.State.{stateAt}
 use Rattle.volume.specs.Volume.{Volume}
-use Rattle.volume.specs.SizesLaws.{Sizes, Fits}
-use Rattle.volume.specs.ListLaws.{Listed, list-facts}
-use Rattle.collect.specs.Permission.{mayErase, mayEraseAll}
+use Rattle.volume.specs.ListLaws.{list-facts}
+use Rattle.collect.specs.Permission.{mayErase}
 use Rattle.collect.specs.PermissionLaws.{may-erase-all}
 use Rattle.protocol.specs.View.{NoTwins}
 use Rattle.protocol.specs.Shared.{commOf}
 use Rattle.protocol.specs.BackPointer.{Core}
 use Rattle.protocol.specs.Fewer.{core-fewer, live-erased}
 use Rattle.atomicity.specs.Model.{Model}
-use Rattle.atomicity.specs.Invariant.{Held, Live, Lost}
+use Rattle.atomicity.specs.Invariant.{Held, Live}
 use Rattle.atomicity.specs.Blanking.{member-at, blanking-apart, blanking-erases}
 use Rattle.atomicity.specs.Accepted.{Erasable}
 

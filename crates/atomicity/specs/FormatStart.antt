@@ -1,34 +1,30 @@
 -- A formatted volume has the invariant, with the zeros kept.
-use Prim.Native.Nat.{ℕ, _*_, _≤_, _<_}
+use Prim.Native.Nat.{ℕ, _≤_, _<_}
 use native.Mathlib.Omega.{arith}
-use mathlib.Core.Path.{_≡_, refl, sym, ap, _∙_, subst}
+use mathlib.Core.Path.{_≡_, refl, sym, ap, _∙_}
 use mathlib.Core.List.{List, []}
-use mathlib.Core.Logic.{_⊎_, inl, inr}
-use mathlib.Core.Bool.{Bool, true, false, cond}
+use mathlib.Core.Logic.{inr}
+use mathlib.Core.Bool.{Bool, false, cond}
 use lib.Dec.{ltb}
-use lib.ListN.{length, replicate, length-replicate}
+use lib.ListN.{replicate, length-replicate}
 use borrow.Author.Tests.{lt-ltb, le-ltb}
-use Rattle.bounded.specs.Limits.{highestVersion, maxPages, noNumber}
 use Rattle.bounded.specs.Choice.{on-lt, never}
-use Rattle.bounded.specs.Parts.{part, joinParts}
+use Rattle.bounded.specs.Parts.{part}
 use Rattle.bounded.specs.PartsLaws.{part-joinParts, length-joinParts}
 use Rattle.record.specs.declared.Record.{Record}
-use Rattle.record.specs.declared.Slot.{Slot}
 use Rattle.record.specs.declared.Slot.the-variants.{Blank, Holds}
 use Rattle.record.specs.Slot.{wordsOf, slotOf, slotAt, bytesAt, formattedRecord, blankRecord, recordSound}
 use Rattle.record.specs.SlotLaws.{words-length, slot-of-words, slot-of-blank, sound-test}
 use Rattle.record.specs.Flash.{Flash}
 use Rattle.record.specs.FlashLaws.{Sized}
-use Rattle.state.specs.declared.PageState.{PageState}
-use Rattle.state.specs.State.{stateAt, stateWords, inFlight}
-use Rattle.state.specs.StateLaws.{StateFacts, PageFacts, length-stateWords}
+use Rattle.state.specs.State.{stateAt, inFlight}
+use Rattle.state.specs.StateLaws.{StateFacts, length-stateWords}
 use Rattle.state.specs.Change.{atRest, freshState}
 use Rattle.table.specs.TableLaws.{blank-holds}
-use Rattle.volume.specs.Volume.{Volume}
 use Rattle.volume.specs.SizesLaws.{Sizes, Fits}
 use Rattle.volume.specs.Format.{formattedWords, formattedContents, formatted}
 use Rattle.protocol.specs.View.{NoTwins, recordView}
-use Rattle.protocol.specs.Shared.{SharedCore, SharedLive, commOf}
+use Rattle.protocol.specs.Shared.{SharedLive, commOf}
 use Rattle.protocol.specs.BackPointer.{Core}
 use Rattle.atomicity.specs.Model.{Model, freshModel}
 use Rattle.atomicity.specs.Rings.{IsEntered}

@@ -1,16 +1,14 @@
 -- The invariant of a run: while the state is known, and after a crash until a recover has answered 0.
-use Prim.Native.Nat.{ℕ, _*_}
+use Prim.Native.Nat.{ℕ}
 use mathlib.Core.Path.{_≡_}
 use mathlib.Core.List.{List, []}
-use mathlib.Core.Bool.{Bool, true, false}
-use lib.ListN.{length}
+use mathlib.Core.Bool.{true, false}
 use Rattle.record.specs.declared.Record.{Record}
 use Rattle.record.specs.Slot.{slotAt, bytesAt}
 use Rattle.record.specs.Flash.{Flash}
 use Rattle.state.specs.declared.PageState.{PageState}
 use Rattle.state.specs.State.{stateAt}
 use Rattle.state.specs.StateLaws.{StateFacts}
-use Rattle.volume.specs.Volume.{Volume}
 use Rattle.volume.specs.SizesLaws.{Fits}
 use Rattle.protocol.specs.View.{InSlots, NoTwins, recordView}
 use Rattle.protocol.specs.Shared.{SharedLive, commOf}

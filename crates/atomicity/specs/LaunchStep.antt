@@ -1,9 +1,9 @@
 -- Launching keeps the invariant: the records stay, and a ring of pages that were at rest opens.
-use Prim.Native.Nat.{ℕ, _+_, _≤_, _<_}
+use Prim.Native.Nat.{ℕ, _≤_, _<_}
 use native.Mathlib.Omega.{arith}
 use mathlib.Core.Path.{_≡_, refl, sym, ap, _∙_, subst}
 use mathlib.Core.List.{List, [], _∷_}
-use mathlib.Core.Logic.{_⊎_, inl, inr}
+use mathlib.Core.Logic.{inl, inr}
 use mathlib.Core.Bool.{true, false}
 use lib.ListN.{length, getD}
 use Rattle.bounded.specs.Limits.{noNumber}
@@ -11,19 +11,17 @@ use Rattle.bounded.specs.Choice.{never}
 use Rattle.record.specs.Flash.{Flash}
 use Rattle.state.specs.declared.PageState.{PageState}
 use Rattle.state.specs.State.{inFlight, isWritten}
-use Rattle.state.specs.StateLaws.{StateFacts}
 use Rattle.state.specs.Change.{following, launchedPage, launched}
 use Rattle.state.specs.Walk.{Launchable}
 use Rattle.state.specs.LaunchLaws.{launched-sound}
 use Rattle.protocol.specs.View.{recordView}
-use Rattle.protocol.specs.Shared.{SharedLive, commOf}
-use Rattle.protocol.specs.SameSet.{SameRecords, core-same, StateChanges, Launched, GoesOn, live-changes}
+use Rattle.protocol.specs.SameSet.{core-same, StateChanges, live-changes}
 use Rattle.atomicity.specs.Call.{Call}
 use Rattle.atomicity.specs.Model.{Model, newRing, accept}
 use Rattle.atomicity.specs.Rings.{IsEntered}
 use Rattle.atomicity.specs.RingCycle.{entered-flies}
 use Rattle.atomicity.specs.RingLaunch.{launched-listed, launched-cases, launched-flying, launch-match, launch-entered}
-use Rattle.atomicity.specs.Invariant.{Held, Live}
+use Rattle.atomicity.specs.Invariant.{Live}
 
 module _ (w P S : ℕ) (fits : P ≤ noNumber) (f : Flash) (st : ℕ → PageState) (m : Model) (l : Live w P S f st m)
     (pages : List ℕ) (some : 1 ≤ length pages) (ok : Launchable P st pages) where

@@ -1,11 +1,10 @@
 -- Promise 3, stated.
-use Prim.Native.Nat.{ℕ, zero, suc, _*_, _<_}
+use Prim.Native.Nat.{ℕ, _*_, _<_}
 use mathlib.Core.Path.{_≡_}
 use mathlib.Core.List.{List, [], _∷_}
 use mathlib.Core.Bool.{Bool, true, false, _&&_}
 use lib.Dec.{eqb}
 use lib.ListN.{length}
-use Rattle.outcome.specs.Outcome.{Outcome}
 use Rattle.record.specs.Flash.{Flash}
 use Rattle.volume.specs.Volume.{Volume}
 use Rattle.volume.specs.Format.{formatOutcome}

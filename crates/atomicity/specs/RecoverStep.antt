@@ -1,37 +1,35 @@
 -- Recovery, under the invariant: recover answers 0 and read gives the kept contents; and the state that it fills is known again.
-use Prim.Native.Nat.{ℕ, _*_, _≤_, _<_}
+use Prim.Native.Nat.{ℕ, _*_, _<_}
 use native.Mathlib.Omega.{arith}
 use mathlib.Core.Path.{_≡_, refl, sym, ap, _∙_, subst}
 use mathlib.Core.List.{List, []}
-use mathlib.Core.Bool.{Bool, true, false}
+use mathlib.Core.Bool.{false}
 use lib.ListN.{length}
 use Rattle.bounded.specs.Choice.{never}
 use Rattle.outcome.specs.Outcome.{Outcome}
-use Rattle.record.specs.declared.Record.{Record}
 use Rattle.record.specs.Slot.{slotAt, bytesAt}
 use Rattle.record.specs.Flash.{Flash}
 use Rattle.record.specs.FlashLaws.{Sized}
 use Rattle.state.specs.declared.PageState.{PageState}
-use Rattle.state.specs.State.{stateAt, stateWords, stateSound, inFlight}
+use Rattle.state.specs.State.{stateAt, stateWords, inFlight}
 use Rattle.state.specs.StateLaws.{length-stateWords, state-sound-facts}
 use Rattle.state.specs.Change.{atRest}
-use Rattle.state.specs.CycleLaws.{Flies}
 use Rattle.volume.specs.Volume.{Volume}
 use Rattle.volume.specs.SizesLaws.{Sizes, Fits, sizes-test, words-fit-exactly, state-fits-exactly, fits-test}
 use Rattle.volume.specs.Read.{readOutcome}
 use Rattle.recovery.specs.Recover.{usedOf, recovered, recoverAnswer, recoverOutcome}
 use Rattle.recovery.specs.RecoverLaws.{recover-fills}
-use Rattle.protocol.specs.View.{InSlots, NoTwins, recordView}
-use Rattle.protocol.specs.Shared.{SharedLive, SharedCore, WithinUsed, commOf}
+use Rattle.protocol.specs.View.{NoTwins, recordView}
+use Rattle.protocol.specs.Shared.{SharedLive, commOf}
 use Rattle.protocol.specs.BackPointer.{Core}
-use Rattle.protocol.specs.SameSet.{SameRecords, core-same}
+use Rattle.protocol.specs.SameSet.{core-same}
 use Rattle.protocol.specs.RecoverAnswers.{recover-accepts, found-within-used}
 use Rattle.protocol.specs.ReadsKept.{filled-page, filled-sound, read-outcome-kept}
 use Rattle.atomicity.specs.Model.{Model, closeAll}
 use Rattle.atomicity.specs.Promise.{Recovers}
 use Rattle.atomicity.specs.Rings.{IsEntered}
 use Rattle.atomicity.specs.RingClose.{no-rings-match}
-use Rattle.atomicity.specs.Invariant.{Held, Live, Lost}
+use Rattle.atomicity.specs.Invariant.{Held, Live}
 
 module _ (w P S : ℕ) (f : Flash) (sizes : Sizes P S) (size : Sized w S f) (apart : NoTwins S (slotAt (f .words)))
     {comm : ℕ → ℕ} {kept : ℕ → List ℕ} (core : Core (Held w S f) comm P kept) (state : List ℕ) (long : length state ≡ 4 * P) where

@@ -1,12 +1,11 @@
 -- Runs with crashes: document 01, "Runs, cuts and the ledger".
-use Prim.Native.Nat.{ℕ, zero, suc, _*_}
+use Prim.Native.Nat.{ℕ, suc, _*_}
 use mathlib.Core.Path.{_≡_}
-use mathlib.Core.List.{List, [], _∷_, _++_}
+use mathlib.Core.List.{List, [], _∷_}
 use mathlib.Core.Bool.{Bool, true, false, cond, not, _&&_}
 use lib.Dec.{eqb}
 use lib.ListN.{length}
-use Rattle.outcome.specs.Outcome.{Outcome}
-use Rattle.record.specs.Flash.{Flash, Step, applyAll}
+use Rattle.record.specs.Flash.{Step, applyAll}
 use Rattle.volume.specs.Volume.{Volume}
 use Rattle.volume.specs.Format.{formatOutcome}
 use Rattle.atomicity.specs.Call.{Call, perform, flashSteps}

@@ -1,17 +1,15 @@
 -- Runs that meet the premises and end in contents that are not the formatted zeros, computed.
-use Prim.Native.Nat.{ℕ, zero, suc, _*_}
+use Prim.Native.Nat.{ℕ}
 use mathlib.Core.Path.{_≡_, refl}
-use mathlib.Core.List.{List, [], _∷_, _++_}
+use mathlib.Core.List.{List, [], _∷_}
 use mathlib.Core.Bool.{Bool, true, false}
 use lib.Dec.{eqb}
 use lib.ListN.{replicate}
-use Rattle.record.specs.Flash.{Flash}
 use Rattle.record.specs.Slot.{blankRecord}
 use Rattle.table.specs.Given.{given, tableOf}
 use Rattle.volume.specs.Volume.{Volume}
-use Rattle.volume.specs.Format.{formatOutcome}
 use Rattle.atomicity.specs.Call.{Call}
-use Rattle.atomicity.specs.Run.{Event, World, started, after, keepsPremises}
+use Rattle.atomicity.specs.Run.{Event, started, after}
 use Rattle.atomicity.specs.Model.{freshModel}
 use Rattle.atomicity.specs.Promise.{Premises, modelAfter}
 use Rattle.atomicity.specs.Computing.{computing}

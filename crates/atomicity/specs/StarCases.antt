@@ -1,6 +1,6 @@
 -- Document 01's cases 1 to 12 (★) as one table, with one theorem.
 use Prim.Native.Nat.{ℕ, _*_}
-use mathlib.Core.Path.{_≡_, refl, sym, ap, _∙_, subst}
+use mathlib.Core.Path.{_≡_, refl, sym, ap, _∙_}
 use mathlib.Core.List.{List, [], _∷_, _++_}
 use lib.ListN.{replicate}
 use Rattle.bounded.specs.Limits.{width, noNumber}
@@ -14,8 +14,6 @@ use Rattle.transact.specs.Write.{writeOutcome}
 use Rattle.transact.specs.Cases.{launchRows, launch-rows}
 use Rattle.transact.specs.Computing.{computing as transact-computing}
 use Rattle.collect.specs.Cases.{eraseRows, volume6, erase-rows}
-use Rattle.collect.specs.Computing.{computing as collect-computing}
-use Rattle.recovery.specs.Recover.{recoverOutcome}
 use Rattle.recovery.specs.Cases.{recoverOn, table4, recoveryRows, recovery-rows}
 use Rattle.recovery.specs.Computing.{computing as recovery-computing}
 

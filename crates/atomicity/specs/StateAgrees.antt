@@ -1,15 +1,14 @@
 -- The paper's InvComm and InvUsed: after every list whose state is known, recovery's committed versions are the state's, and no version is mentioned
 -- above the state's used one.
-use Prim.Native.Nat.{ℕ, _≤_, _<_, max}
+use Prim.Native.Nat.{ℕ, _≤_, _<_}
 use native.Mathlib.Omega.{arith}
-use mathlib.Core.Path.{_≡_, refl, sym, ap, _∙_, subst}
+use mathlib.Core.Path.{_≡_, refl, sym, _∙_, subst}
 use mathlib.Core.List.{List}
 use mathlib.Core.Bool.{Bool, true, false, cond}
 use lib.Dec.{eqb}
 use borrow.Author.Tests.{eqb-true}
-use Rattle.bounded.specs.Choice.{on-test, never}
+use Rattle.bounded.specs.Choice.{never}
 use Rattle.bounded.specs.BelowLaws.{max-bound}
-use Rattle.record.specs.declared.Record.{Record}
 use Rattle.record.specs.declared.Slot.{Slot}
 use Rattle.record.specs.declared.Slot.the-variants.{Blank, Holds}
 use Rattle.record.specs.Slot.{slotAt, bytesAt}
@@ -17,13 +16,11 @@ use Rattle.state.specs.declared.PageState.{PageState}
 use Rattle.state.specs.State.{stateAt}
 use Rattle.volume.specs.Volume.{Volume}
 use Rattle.recovery.specs.Recover.{committedOf, mentioned, usedOf}
-use Rattle.protocol.specs.View.{recordView}
-use Rattle.protocol.specs.Shared.{SharedLive, WithinUsed}
 use Rattle.protocol.specs.Recovers.{committed-found}
-use Rattle.atomicity.specs.Run.{Event, World, started, after}
+use Rattle.atomicity.specs.Run.{Event, started, after}
 use Rattle.atomicity.specs.Model.{Model, freshModel}
 use Rattle.atomicity.specs.Promise.{modelAfter, Premises}
-use Rattle.atomicity.specs.Invariant.{Held, Live, Holding, known, unknown}
+use Rattle.atomicity.specs.Invariant.{Live, Holding, known, unknown}
 use Rattle.atomicity.specs.Atomicity.{reached}
 
 -- recovery on the flash of this volume would find the state's committed versions, and used versions not above the state's

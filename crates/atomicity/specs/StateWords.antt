@@ -1,21 +1,19 @@
 -- The invariant sees a state below P alone, so what holds of a function from page to state holds of the words made of it.
-use Prim.Native.Nat.{ℕ, _≤_, _<_}
+use Prim.Native.Nat.{ℕ, _<_}
 use native.Mathlib.Omega.{arith}
-use mathlib.Core.Path.{_≡_, refl, sym, ap, _∙_, subst}
+use mathlib.Core.Path.{_≡_, refl, sym, ap, _∙_}
 use mathlib.Core.List.{List}
-use mathlib.Core.Logic.{_⊎_, inl, inr}
-use mathlib.Core.Bool.{true}
+use mathlib.Core.Logic.{inr}
 use Rattle.record.specs.Flash.{Flash}
 use Rattle.state.specs.declared.PageState.{PageState}
 use Rattle.state.specs.State.{stateAt, stateWords, inFlight}
 use Rattle.state.specs.StateLaws.{StateFacts, facts-cong, stateAt-words}
 use Rattle.protocol.specs.View.{recordView}
-use Rattle.protocol.specs.Shared.{SharedLive, commOf}
-use Rattle.protocol.specs.SameSet.{SameRecords, core-same, StateChanges, GoesOn, live-changes}
+use Rattle.protocol.specs.SameSet.{core-same, StateChanges, live-changes}
 use Rattle.atomicity.specs.Model.{Model}
 use Rattle.atomicity.specs.Rings.{IsEntered}
 use Rattle.atomicity.specs.RingCycle.{rings-match-cong}
-use Rattle.atomicity.specs.Invariant.{Held, Live}
+use Rattle.atomicity.specs.Invariant.{Live}
 
 module _ (P : ℕ) (st st′ : ℕ → PageState) (same : (p : ℕ) → p < P → st′ p ≡ st p) where
   goes-on : StateFacts P st → (E : ℕ → List ℕ → Type 0) → StateChanges P st st′ E E

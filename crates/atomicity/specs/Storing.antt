@@ -1,9 +1,8 @@
 -- Storing a record in a blank slot: the set of (record, contents) pairs has that pair more.
-use Prim.Native.Nat.{ℕ, zero, suc, _*_, _≤_, _<_}
-use mathlib.Core.Path.{_≡_, refl, sym, ap, _∙_, subst}
+use Prim.Native.Nat.{ℕ, _≤_, _<_}
+use mathlib.Core.Path.{_≡_, refl, sym, ap, _∙_}
 use mathlib.Core.List.{List}
-use mathlib.Core.Logic.{_⊎_, inl, inr}
-use mathlib.Core.Bool.{true}
+use mathlib.Core.Logic.{inl, inr}
 use lib.ListN.{length}
 use Rattle.bounded.specs.Limits.{highestVersion}
 use Rattle.bounded.specs.PartsLaws.{update-same, update-other}

@@ -1,27 +1,25 @@
 -- Withdrawing keeps the invariant: the records stay, and one ring's pages are at rest.
-use Prim.Native.Nat.{ℕ, _≤_, _<_}
+use Prim.Native.Nat.{ℕ}
 use native.Mathlib.Omega.{arith}
 use mathlib.Core.Path.{_≡_, refl, sym, ap, _∙_, subst}
 use mathlib.Core.List.{List}
-use mathlib.Core.Logic.{_⊎_, inl, inr}
-use mathlib.Core.Bool.{Bool, true, false, cond}
+use mathlib.Core.Logic.{inr}
+use mathlib.Core.Bool.{true, false}
 use Rattle.bounded.specs.Choice.{never, on-test}
 use Rattle.record.specs.Flash.{Flash}
 use Rattle.state.specs.declared.PageState.{PageState}
 use Rattle.state.specs.State.{inFlight}
-use Rattle.state.specs.StateLaws.{StateFacts}
 use Rattle.state.specs.Cycle.{onCycle}
 use Rattle.state.specs.Change.{atRest, withdrawnPage, withdrawn}
-use Rattle.state.specs.CycleLaws.{Flies, on-cycle-next, on-cycle-before}
+use Rattle.state.specs.CycleLaws.{Flies, on-cycle-next}
 use Rattle.state.specs.ChangeLaws.{withdrawn-sound}
 use Rattle.protocol.specs.View.{recordView}
-use Rattle.protocol.specs.Shared.{SharedLive, commOf}
-use Rattle.protocol.specs.SameSet.{SameRecords, core-same, StateChanges, Launched, GoesOn, live-changes}
+use Rattle.protocol.specs.SameSet.{core-same, StateChanges, live-changes}
 use Rattle.atomicity.specs.Call.{Call}
 use Rattle.atomicity.specs.Model.{Model, closeRing, accept}
 use Rattle.atomicity.specs.Rings.{IsEntered}
 use Rattle.atomicity.specs.RingClose.{close-entered, withdraw-match}
-use Rattle.atomicity.specs.Invariant.{Held, Live}
+use Rattle.atomicity.specs.Invariant.{Live}
 
 module _ (w P S : ℕ) (f : Flash) (st : ℕ → PageState) (m : Model) (l : Live w P S f st m) (page : ℕ) (y : Flies P st page) where
   on-it : (q : ℕ) → onCycle P st page q ≡ true → withdrawn P st page q ≡ withdrawnPage (st q)

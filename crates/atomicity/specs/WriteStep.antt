@@ -1,35 +1,32 @@
 -- Writing keeps the invariant: one planned record more, and its ring stays open or is completed.
 use Prim.Native.Nat.{ℕ, _≤_, _<_}
-use native.Mathlib.Omega.{arith}
 use mathlib.Core.Path.{_≡_, refl, sym, ap, _∙_, subst}
 use mathlib.Core.List.{List}
-use mathlib.Core.Bool.{Bool, true, false}
+use mathlib.Core.Bool.{true, false}
 use lib.ListN.{length}
 use Rattle.bounded.specs.Limits.{highestVersion}
 use Rattle.bounded.specs.Choice.{on-test}
 use Rattle.record.specs.declared.Record.{Record}
 use Rattle.record.specs.declared.Slot.the-variants.{Blank}
-use Rattle.record.specs.Slot.{slotAt, recordSound, plannedRecord}
+use Rattle.record.specs.Slot.{slotAt, plannedRecord}
 use Rattle.record.specs.SlotLaws.{sound-facts}
 use Rattle.record.specs.Flash.{Flash, Step, apply}
 use Rattle.record.specs.FlashLaws.{Sized}
 use Rattle.state.specs.declared.PageState.{PageState}
-use Rattle.state.specs.State.{inFlight, isWritten}
-use Rattle.state.specs.StateLaws.{StateFacts}
-use Rattle.state.specs.Cycle.{onCycle}
+use Rattle.state.specs.State.{isWritten}
 use Rattle.state.specs.Change.{marked, completes, completed, afterWrite}
 use Rattle.state.specs.CycleLaws.{Flies}
 use Rattle.state.specs.ChangeLaws.{after-write-sound}
 use Rattle.state.specs.CompletionLaws.{after-write-done, after-write-not}
 use Rattle.transact.specs.Write.{planOf, writeStep}
 use Rattle.protocol.specs.View.{recordView, NoTwins}
-use Rattle.protocol.specs.Shared.{SharedCore, SharedLive, plan, commOf}
+use Rattle.protocol.specs.Shared.{plan}
 use Rattle.protocol.specs.BackPointer.{Core}
 use Rattle.protocol.specs.Stored.{Writes, not-there}
 use Rattle.protocol.specs.OneMore.{core-more, live-more}
 use Rattle.protocol.specs.Completed.{live-completed}
 use Rattle.protocol.specs.CompletedCore.{core-completed}
-use Rattle.protocol.specs.SameSet.{SameRecords, core-same}
+use Rattle.protocol.specs.SameSet.{core-same}
 use Rattle.protocol.specs.WriteSteps.{planned-sound, missing-page, marks-of, completes-with}
 use Rattle.atomicity.specs.Model.{Model, enter}
 use Rattle.atomicity.specs.Rings.{IsEntered}

@@ -1,14 +1,13 @@
 -- allBelow is exactly "each", someBelow exactly "there is", maxBelow the highest, firstBelow the first; and the laws of counting loops.
-use Prim.Native.Nat.{ℕ, zero, suc, _+_, _≤_, _<_, max}
+use Prim.Native.Nat.{ℕ, zero, suc, _+_, _≤_, _<_}
 use native.Mathlib.Omega.{arith}
 use native.Mathlib.Numerals.{add-one}
 use mathlib.Core.Path.{_≡_, refl, sym, ap, ap₂, _∙_, subst}
 use mathlib.Core.Logic.{_⊎_, inl, inr, _↔_}
-use mathlib.Core.Bool.{Bool, true, false, cond, _&&_, _||_, not}
-use lib.Dec.{ltb}
+use mathlib.Core.Bool.{Bool, true, false, _&&_, _||_}
 use borrow.Author.Tests.{lt-ltb, le-ltb}
-use Rattle.bounded.specs.Choice.{on-lt, on-eq, on-test, never, both, both-left, both-right, either, either-left, either-right, neither-left, neither-right, same-test}
-use Rattle.bounded.specs.Below.{allBelow, someBelow, sumBelow, maxBelow, firstBelow, foundOr}
+use Rattle.bounded.specs.Choice.{on-lt, on-test, never, both, both-left, both-right, either-left, either-right}
+use Rattle.bounded.specs.Below.{allBelow, someBelow, sumBelow, maxBelow, firstBelow}
 
 -- Each number below n + 1 is n or below n.
 pub below-suc {ℓ} : {C : Type ℓ} (k n : ℕ) → k < suc n → (k < n → C) → (k ≡ n → C) → C

@@ -1,14 +1,12 @@
 -- Writing one part changes that part and no other; a list is its parts joined. Each law is over the width.
-use Prim.Native.Nat.{ℕ, zero, suc, _+_, _*_, _-_, _≤_, _<_, min}
-use native.Mathlib.Nat.{add-sub-cancel-left, mul-le-mul-left, mul-suc, mul-zero}
+use Prim.Native.Nat.{ℕ, zero, suc, _+_, _*_, _-_, _≤_, _<_}
+use native.Mathlib.Nat.{mul-le-mul-left, mul-suc, mul-zero}
 use native.Mathlib.Omega.{arith}
-use native.Mathlib.Numerals.{add-one}
 use mathlib.Core.Path.{_≡_, refl, sym, ap, ap₂, _∙_, subst}
-use mathlib.Core.List.{List, [], _∷_, _++_, append-assoc}
-use mathlib.Core.Bool.{cond}
+use mathlib.Core.List.{List, [], _++_}
 use borrow.Author.Tests.{eq-eqb, ne-eqb}
 use lib.ListN.{length, take, drop, getD, length-append, length-take, length-drop, take-append-drop}
-use lib.Seq.{take-append-le, drop-append-le, take-at, drop-at, take-append-add, drop-append-add, drop-drop, take-take, take-all, length-take-le, ext-getD, getD-take, getD-drop, take-add}
+use lib.Seq.{take-append-le, drop-append-le, take-at, drop-at, drop-append-add, drop-drop, length-take-le, getD-take, getD-drop}
 use Rattle.bounded.specs.Choice.{on-lt, on-eq}
 use Rattle.bounded.specs.Parts.{part, putAt, putPart, joinFrom, joinParts, update}
 

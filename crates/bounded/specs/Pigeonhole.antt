@@ -1,12 +1,12 @@
 -- n + 1 numbers below n are not all different; and a walk that never merges comes back to its start.
-use Prim.Native.Nat.{ℕ, zero, suc, _+_, _-_, _≤_, _<_}
+use Prim.Native.Nat.{ℕ, zero, suc, _-_, _≤_, _<_}
 use native.Mathlib.Omega.{arith}
-use mathlib.Core.Path.{_≡_, refl, sym, ap, _∙_, subst}
+use mathlib.Core.Path.{_≡_, sym}
 use mathlib.Core.Logic.{_⊎_, inl, inr}
-use mathlib.Core.Bool.{Bool, true, false, cond}
+use mathlib.Core.Bool.{true, false, cond}
 use lib.Dec.{ltb, eqb}
 use borrow.Author.Tests.{lt-ltb, le-ltb, eqb-true, eqb-false}
-use Rattle.bounded.specs.Choice.{on-lt, on-eq}
+use Rattle.bounded.specs.Choice.{on-lt}
 use Rattle.bounded.specs.BelowLaws.{some-search}
 
 -- y with the value x squeezed out

@@ -3,26 +3,7 @@ use Prim.Native.String.{String}
 use mathlib.Core.Path.{_≡_, refl}
 use mathlib.Core.List.{List, [], _∷_, map}
 use Rattle.text.specs.Scan.{bytes, behind, maxNumber, isDigit, endNumber, numberFrom, number}
-use Rattle.line.specs.Line.{
-  Said,
-  numberThen,
-  onNumber,
-  onText,
-  onNumbers,
-  atEnd,
-  listBehind,
-  listFrom,
-  numbers,
-  formatMeans,
-  fillMeans,
-  writeMeans,
-  withdrawMeans,
-  launchMeans,
-  eraseMeans,
-  plainMeans,
-  callMeans,
-  lineMeans,
-}
+use Rattle.line.specs.Line.{Said, numberThen, onNumber, onText, onNumbers, atEnd, listBehind, listFrom, numbers, formatMeans, fillMeans, writeMeans, withdrawMeans, launchMeans, eraseMeans, plainMeans, callMeans, lineMeans}
 
 pub record Case : Type 0 where
   pub line : String

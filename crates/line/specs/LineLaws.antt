@@ -8,7 +8,7 @@ use mathlib.Core.List.{List, [], _∷_, _++_, append-assoc}
 use lib.ListN.{length, getD, take, drop, set, drop-of-length-le}
 use lib.Seq.{drop-cons, take-suc-set}
 use borrow.Author.Tests.{eq-eqb, ne-eqb}
-use Rattle.text.specs.Scan.{behind, number, Scanned, scanned, restAt, numberAt}
+use Rattle.text.specs.Scan.{number, Scanned, scanned, restAt, numberAt}
 use Rattle.text.specs.declared.scan.Place.{Place}
 use Rattle.text.specs.declared.scan.Place.the-variants.{At, Nowhere}
 use Rattle.text.specs.declared.scan.Number.{Number}

@@ -5,8 +5,8 @@ use mathlib.Core.List.{List}
 use mathlib.Core.Logic.{_⊎_}
 use Rattle.record.specs.declared.Record.{Record}
 use Rattle.record.specs.SlotLaws.{Straddles}
-use Rattle.protocol.specs.View.{View, Exposed, IsCommitted, recordView}
-use Rattle.protocol.specs.Shared.{SharedCore, SharedLive}
+use Rattle.protocol.specs.View.{Exposed, IsCommitted, recordView}
+use Rattle.protocol.specs.Shared.{SharedCore}
 
 module _ (R : Record → List ℕ → Type 0) (comm : ℕ → ℕ) where
   -- r links to a version above the committed one, or a record not above the committed one straddles its link

@@ -8,10 +8,9 @@ use mathlib.Core.Bool.{Bool, true, false}
 use Rattle.bounded.specs.Choice.{on-lt, on-eq, on-test, never}
 use Rattle.state.specs.declared.PageState.{PageState}
 use Rattle.state.specs.State.{inFlight, isWritten}
-use Rattle.state.specs.StateLaws.{PageFacts, StateFacts}
 use Rattle.state.specs.CycleLaws.{Flies, next-flies}
-use Rattle.protocol.specs.View.{View, LinksTo, decide-links, IsAt, IsCommitted, Exposed}
-use Rattle.protocol.specs.Shared.{SharedCore, SharedLive, WithinUsed, OpenAtOnce, OpenWithin, Open, plan, commOf}
+use Rattle.protocol.specs.View.{View, decide-links, IsAt, IsCommitted, Exposed}
+use Rattle.protocol.specs.Shared.{SharedCore, SharedLive, OpenAtOnce, OpenWithin, plan, commOf}
 use Rattle.protocol.specs.Stored.{Adds, Writes, plan-page, plan-version, plan-next, plan-next-version, none-more, all-sound-more, one-record-more, within-used-more}
 
 -- Page p's cycle, as a test, all of whose pages but p are written; and the state, the kept contents and the entered ones after its completion.

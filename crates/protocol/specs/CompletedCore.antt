@@ -1,18 +1,17 @@
 -- A completed cycle and five-word records: exposed records point back at the committed versions still, and the cycle's own records straddle older links into it.
-use Prim.Native.Nat.{ℕ, zero, suc, _≤_, _<_}
+use Prim.Native.Nat.{ℕ, suc, _≤_, _<_}
 use native.Mathlib.Omega.{arith}
 use mathlib.Core.Path.{_≡_, refl, sym, ap, _∙_, subst}
 use mathlib.Core.List.{List}
 use mathlib.Core.Logic.{_⊎_, inl, inr}
-use mathlib.Core.Bool.{Bool, true, false}
+use mathlib.Core.Bool.{Bool, true}
 use Rattle.bounded.specs.Choice.{on-eq, on-test, never}
 use Rattle.record.specs.declared.Record.{Record}
 use Rattle.record.specs.SlotLaws.{Straddles}
 use Rattle.state.specs.declared.PageState.{PageState}
-use Rattle.state.specs.State.{inFlight}
 use Rattle.state.specs.CycleLaws.{Flies}
-use Rattle.protocol.specs.View.{View, recordView, IsCommitted, Exposed}
-use Rattle.protocol.specs.Shared.{SharedCore, SharedLive, WithinUsed, plan, commOf}
+use Rattle.protocol.specs.View.{recordView, IsCommitted, Exposed}
+use Rattle.protocol.specs.Shared.{SharedCore, SharedLive, plan, commOf}
 use Rattle.protocol.specs.BackPointer.{AheadOrStraddled, BackPointerCore, Core}
 use Rattle.protocol.specs.Stored.{Adds, Writes, plan-page, plan-version, within-used-more, plan-back, plan-clear}
 use Rattle.protocol.specs.Completed.{Completes, StillExposed, still-exposed, CommittedBy, committed-by, next-of, next-version-of, comm-off, comm-rises, page-below, stored-on, shared-core-completed}

@@ -5,18 +5,18 @@ use native.Mathlib.Decide.{ℕ-discrete}
 use mathlib.Core.Path.{_≡_, refl, sym, ap, _∙_, subst}
 use mathlib.Core.List.{List}
 use mathlib.Core.Logic.{_⊎_, inl, inr}
-use mathlib.Core.Bool.{true, false}
+use mathlib.Core.Bool.{true}
 use Rattle.bounded.specs.Choice.{on-lt, on-eq}
 use Rattle.bounded.specs.Limits.{highestVersion}
 use Rattle.record.specs.declared.Record.{Record}
 use Rattle.record.specs.SlotLaws.{Straddles, sound-facts}
 use Rattle.state.specs.declared.PageState.{PageState}
-use Rattle.state.specs.State.{inFlight, isWritten}
-use Rattle.state.specs.StateLaws.{PageFacts, StateFacts}
+use Rattle.state.specs.State.{inFlight}
+use Rattle.state.specs.StateLaws.{StateFacts}
 use Rattle.protocol.specs.View.{View, Finds, Search, recordView, LinksTo, decide-links, IsCommitted, Exposed, greatest}
-use Rattle.protocol.specs.Shared.{SharedCore, SharedLive, WithinUsed, OpenAtOnce, OpenWithin, plan, commOf}
+use Rattle.protocol.specs.Shared.{SharedCore, SharedLive, OpenAtOnce, OpenWithin, plan, commOf}
 use Rattle.protocol.specs.BackPointer.{AheadOrStraddled, BackPointerCore, Core}
-use Rattle.protocol.specs.Permitted.{Needed, Permitted}
+use Rattle.protocol.specs.Permitted.{Permitted}
 
 -- fewer records, and the committed ones among them
 pub record FewerRecords {X : Type 0} (view : View X) (R R′ : X → List ℕ → Type 0) (comm : ℕ → ℕ) : Type 1 where

@@ -6,12 +6,12 @@ use mathlib.Core.List.{List}
 use mathlib.Core.Logic.{_⊎_, inl, inr}
 use mathlib.Core.Bool.{Bool, true, false, cond}
 use lib.Dec.{ltb}
-use borrow.Author.Tests.{lt-ltb, le-ltb, ltb-true, ltb-false}
+use borrow.Author.Tests.{lt-ltb, le-ltb, ltb-false}
 use Rattle.bounded.specs.Choice.{on-test, on-lt}
 use Rattle.record.specs.declared.Record.{Record}
 use Rattle.record.specs.declared.Slot.{Slot}
-use Rattle.record.specs.declared.Slot.the-variants.{Blank, Holds}
-use Rattle.record.specs.Slot.{straddles, someRecord}
+use Rattle.record.specs.declared.Slot.the-variants.{Holds}
+use Rattle.record.specs.Slot.{straddles}
 use Rattle.record.specs.SlotLaws.{Straddles, straddles-facts, straddles-test, some-record-at, some-record-of}
 use Rattle.table.specs.Table.{highest, highestVersionOf, versionIn}
 use Rattle.table.specs.TableLaws.{highest-is, highest-held, highest-page, highest-above, highest-exists, has-record}

@@ -6,13 +6,13 @@ use mathlib.Core.Logic.{_⊎_, inl, inr}
 use mathlib.Core.Bool.{true}
 use Rattle.record.specs.declared.Record.{Record}
 use Rattle.record.specs.declared.Slot.{Slot}
-use Rattle.record.specs.declared.Slot.the-variants.{Blank, Holds}
+use Rattle.record.specs.declared.Slot.the-variants.{Holds}
 use Rattle.record.specs.SlotLaws.{Straddles}
 use Rattle.state.specs.declared.PageState.{PageState}
 use Rattle.state.specs.State.{inFlight}
 use Rattle.collect.specs.Permission.{mayErase}
 use Rattle.collect.specs.PermissionLaws as slots
-use Rattle.protocol.specs.View.{View, recordView, InSlots, Exposed, Obsolete}
+use Rattle.protocol.specs.View.{recordView, InSlots, Exposed, Obsolete}
 use Rattle.protocol.specs.Shared.{commOf}
 
 module _ (R : Record → List ℕ → Type 0) where

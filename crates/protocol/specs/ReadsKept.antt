@@ -3,27 +3,25 @@ use Prim.Native.Nat.{ℕ, _≤_, _<_}
 use native.Mathlib.Omega.{arith}
 use mathlib.Core.Path.{_≡_, refl, sym, ap, _∙_, subst}
 use mathlib.Core.List.{List}
-use mathlib.Core.Bool.{Bool, true, false, not, _&&_}
-use lib.Dec.{ltb, eqb}
+use mathlib.Core.Bool.{true}
 use lib.ListN.{length}
 use borrow.Author.Tests.{lt-ltb, eq-eqb, ltb-true}
-use Rattle.bounded.specs.Choice.{both, never}
-use Rattle.bounded.specs.Limits.{noNumber, highestVersion}
-use Rattle.outcome.specs.Outcome.{_⇒_otherwise_, Outcome, settled, settled-done}
+use Rattle.bounded.specs.Choice.{never}
+use Rattle.bounded.specs.Limits.{highestVersion}
+use Rattle.outcome.specs.Outcome.{settled-done}
 use Rattle.record.specs.declared.Record.{Record}
 use Rattle.record.specs.declared.Slot.{Slot}
-use Rattle.record.specs.declared.Slot.the-variants.{Blank, Holds}
 use Rattle.record.specs.Slot.{slotAt, bytesAt}
 use Rattle.state.specs.declared.PageState.{PageState}
 use Rattle.state.specs.State.{stateAt, stateWords, stateSound, inFlight}
-use Rattle.state.specs.StateLaws.{PageFacts, StateFacts, facts-state-sound, state-sound-means, none-rests, stateAt-words, length-stateWords}
+use Rattle.state.specs.StateLaws.{PageFacts, facts-state-sound, stateAt-words}
 use Rattle.state.specs.Change.{atRest}
-use Rattle.table.specs.Table.{lowestSlot, hasVersion}
+use Rattle.table.specs.Table.{hasVersion}
 use Rattle.volume.specs.Volume.{Volume, volumeFits}
 use Rattle.volume.specs.Read.{readSlot, readAnswer, readOutcome}
 use Rattle.recovery.specs.Recover.{usedOf, recovered}
 use Rattle.protocol.specs.View.{InSlots, recordView}
-use Rattle.protocol.specs.Shared.{SharedCore, WithinUsed}
+use Rattle.protocol.specs.Shared.{SharedCore}
 use Rattle.protocol.specs.BackPointer.{Core}
 use Rattle.protocol.specs.RecoverAnswers.{table-sound, committed-there, recovered-is, found-within-used}
 use Rattle.table.specs.TableLaws.{lowest-holds}

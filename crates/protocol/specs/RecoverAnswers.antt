@@ -4,15 +4,14 @@ use native.Mathlib.Omega.{arith}
 use mathlib.Core.Path.{_≡_, refl, sym, ap, _∙_, subst}
 use mathlib.Core.List.{List}
 use mathlib.Core.Logic.{_⊎_, inl, inr}
-use mathlib.Core.Bool.{Bool, true, false, not, _&&_, _||_}
+use mathlib.Core.Bool.{true, false}
 use Rattle.bounded.specs.Below.{allBelow, someBelow}
-use Rattle.bounded.specs.Choice.{on-test, both, never}
+use Rattle.bounded.specs.Choice.{on-test, never}
 use Rattle.bounded.specs.BelowLaws.{all-of, some-none}
-use Rattle.outcome.specs.Outcome.{_⇒_otherwise_}
 use Rattle.record.specs.declared.Record.{Record}
 use Rattle.record.specs.declared.Slot.{Slot}
 use Rattle.record.specs.declared.Slot.the-variants.{Blank, Holds}
-use Rattle.record.specs.Slot.{slotAt, slotSound, recordSound}
+use Rattle.record.specs.Slot.{slotAt, slotSound}
 use Rattle.state.specs.declared.PageState.{PageState}
 use Rattle.state.specs.Change.{atRest}
 use Rattle.table.specs.Table.{tableSound, someClash, hasRecord, hasVersion}

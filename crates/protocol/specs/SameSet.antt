@@ -10,8 +10,8 @@ use Rattle.bounded.specs.Choice.{on-test, never}
 use Rattle.record.specs.declared.Record.{Record}
 use Rattle.state.specs.declared.PageState.{PageState}
 use Rattle.state.specs.State.{inFlight, isWritten}
-use Rattle.protocol.specs.View.{View, recordView, LinksTo, IsAt}
-use Rattle.protocol.specs.Shared.{SharedCore, SharedLive, WithinUsed, OpenAtOnce, OpenWithin, plan}
+use Rattle.protocol.specs.View.{View, recordView, IsAt}
+use Rattle.protocol.specs.Shared.{SharedCore, SharedLive, OpenAtOnce, OpenWithin, plan}
 use Rattle.protocol.specs.BackPointer.{AheadOrStraddled, BackPointerCore, Core}
 
 -- The same pairs, and the same committed versions and kept contents of each page.

@@ -1,5 +1,5 @@
 -- One record more, the one planned for a page in flight and not written: what holds whether or not its cycle is then complete.
-use Prim.Native.Nat.{ℕ, zero, suc, _≤_, _<_}
+use Prim.Native.Nat.{ℕ, suc, _≤_, _<_}
 use native.Mathlib.Omega.{arith}
 use mathlib.Core.Path.{_≡_, refl, sym, ap, _∙_, subst}
 use mathlib.Core.List.{List}
@@ -8,8 +8,8 @@ use mathlib.Core.Bool.{true, false}
 use Rattle.record.specs.declared.Record.{Record}
 use Rattle.record.specs.SlotLaws.{Straddles}
 use Rattle.state.specs.declared.PageState.{PageState}
-use Rattle.state.specs.State.{inFlight, isWritten}
-use Rattle.state.specs.StateLaws.{PageFacts, StateFacts}
+use Rattle.state.specs.State.{isWritten}
+use Rattle.state.specs.StateLaws.{StateFacts}
 use Rattle.state.specs.CycleLaws.{Flies, next-flies}
 use Rattle.protocol.specs.View.{View, recordView, planned-record-back, LinksTo, IsAt, IsCommitted, Exposed}
 use Rattle.protocol.specs.Shared.{SharedCore, SharedLive, WithinUsed, plan, commOf, usedOf}

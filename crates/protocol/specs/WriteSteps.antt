@@ -1,10 +1,10 @@
 -- A write's state against the steps on records: the planned record is sound, a cycle not completed has a page missing, and what a write makes of the state is what these steps ask for.
-use Prim.Native.Nat.{ℕ, zero, suc, _≤_, _<_}
+use Prim.Native.Nat.{ℕ, suc, _≤_, _<_}
 use native.Mathlib.Omega.{arith}
 use mathlib.Core.Path.{_≡_, refl, sym, ap, _∙_, subst}
 use mathlib.Core.List.{List}
 use mathlib.Core.Logic.{_⊎_, inl, inr, _↔_}
-use mathlib.Core.Bool.{Bool, true, false, cond, not, _||_}
+use mathlib.Core.Bool.{Bool, true, false, not, _||_}
 use lib.Dec.{eqb}
 use borrow.Author.Tests.{eqb-true, eqb-false, not-true, not-false}
 use Rattle.bounded.specs.Choice.{on-eq, on-test, never, neither-left, neither-right, either}
@@ -13,10 +13,10 @@ use Rattle.bounded.specs.Parts.{update}
 use Rattle.bounded.specs.PartsLaws.{update-same, update-other}
 use Rattle.record.specs.declared.Record.{Record}
 use Rattle.record.specs.Slot.{recordSound, plannedRecord}
-use Rattle.record.specs.SlotLaws.{SoundRecord, sound-test}
+use Rattle.record.specs.SlotLaws.{sound-test}
 use Rattle.state.specs.declared.PageState.{PageState}
 use Rattle.state.specs.State.{inFlight, isWritten}
-use Rattle.state.specs.StateLaws.{PageFacts, StateFacts, none-rests}
+use Rattle.state.specs.StateLaws.{StateFacts, none-rests}
 use Rattle.state.specs.Cycle.{along, onCycle}
 use Rattle.state.specs.CycleLaws.{Flies, next-flies, on-cycle-flies, on-cycle-refl, on-cycle-next, on-cycle-before, on-cycle-same}
 use Rattle.state.specs.Change.{atRest, writtenPage, marked, completes, committedPage, completed}

@@ -9,7 +9,7 @@ use lib.Dec.{ltb, leb, eqb}
 use lib.ListN.{length, getD}
 use borrow.Author.Tests.{ltb-true, leb-true, eqb-true, lt-ltb, le-leb, eq-eqb, ne-eqb}
 use Rattle.bounded.specs.Limits.{noNumber, highestVersion}
-use Rattle.bounded.specs.Choice.{on-eq, on-test, never, both, both-left, both-right, either, either-left, either-right, not-no}
+use Rattle.bounded.specs.Choice.{on-eq, on-test, both, both-left, both-right, either, either-left, either-right, not-no}
 use Rattle.bounded.specs.Below.{allBelow}
 use Rattle.bounded.specs.BelowLaws.{all-at, all-of, all-fails, some-of, some-at}
 use Rattle.record.specs.declared.Record.{Record}

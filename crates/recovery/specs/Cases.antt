@@ -1,9 +1,9 @@
 -- Document 01's cases 1 to 5 and 9 to 11: tables that recover, through recover's whole outcome.
 use Prim.Native.Nat.{ℕ, _*_}
-use mathlib.Core.Path.{_≡_, refl}
-use mathlib.Core.List.{List, [], _∷_, _++_, map}
-use lib.ListN.{replicate, getD}
-use Rattle.bounded.specs.Parts.{part, joinFrom, joinParts}
+use mathlib.Core.Path.{refl}
+use mathlib.Core.List.{List, [], _∷_, _++_}
+use lib.ListN.{replicate}
+use Rattle.bounded.specs.Parts.{joinParts}
 use Rattle.outcome.specs.Outcome.{Outcome}
 use Rattle.outcome.specs.Row.{Row, row, RowsHold}
 use Rattle.record.specs.declared.Record.{Record}

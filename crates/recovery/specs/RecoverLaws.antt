@@ -1,17 +1,17 @@
 -- What recover's definitions say as propositions, and what its outcome depends on.
-use Prim.Native.Nat.{ℕ, zero, suc, _≤_, _<_, max}
+use Prim.Native.Nat.{ℕ, _≤_, _<_, max}
 use native.Mathlib.Omega.{arith}
-use mathlib.Core.Path.{_≡_, refl, sym, ap, _∙_, subst}
+use mathlib.Core.Path.{_≡_, refl, sym}
 use mathlib.Core.List.{List}
-use mathlib.Core.Logic.{_⊎_, inl, inr, _↔_}
+use mathlib.Core.Logic.{_↔_}
 use mathlib.Core.Bool.{Bool, true, false, cond, _&&_, not}
 use lib.Dec.{ltb, eqb}
 use lib.ListN.{length}
-use borrow.Author.Tests.{eq-eqb, ltb-true, leb-true}
-use Rattle.bounded.specs.Below.{someBelow, maxBelow}
-use Rattle.bounded.specs.Choice.{on-test, never, both-left, both-right}
-use Rattle.bounded.specs.BelowLaws.{some-at, some-of, max-above, max-bound}
-use Rattle.outcome.specs.Outcome.{_⇒_otherwise_, Outcome, settled, settled-answer, settled-refused, settled-done}
+use borrow.Author.Tests.{eq-eqb}
+use Rattle.bounded.specs.Below.{someBelow}
+use Rattle.bounded.specs.Choice.{never}
+use Rattle.bounded.specs.BelowLaws.{some-at, some-of, max-above}
+use Rattle.outcome.specs.Outcome.{settled-refused, settled-done}
 use Rattle.record.specs.declared.Record.{Record}
 use Rattle.record.specs.declared.Slot.{Slot}
 use Rattle.record.specs.declared.Slot.the-variants.{Blank, Holds}
@@ -20,13 +20,12 @@ use Rattle.record.specs.SlotLaws.{sound-facts}
 use Rattle.state.specs.State.{stateWords}
 use Rattle.table.specs.Table.{tableSound, highest, highestVersionOf}
 use Rattle.table.specs.TableLaws.{highest-is, highest-held, sound-at}
-use Rattle.volume.specs.Volume.{sizesOk, wordsFit, stateFits}
+use Rattle.volume.specs.Volume.{stateFits}
 use Rattle.recovery.specs.declared.Verdict.{Verdict}
 use Rattle.recovery.specs.declared.Verdict.the-variants as says
 use Rattle.recovery.specs.declared.End.{End}
 use Rattle.recovery.specs.declared.End.the-variants as ends
 use Rattle.recovery.specs.Verdict.{isStraddled, linkVerdict, slotVerdict, verdict}
-use Rattle.recovery.specs.Follow.{follow}
 use Rattle.recovery.specs.FollowLaws.{RunsIntoRing, astray-exactly}
 use Rattle.recovery.specs.Recover.{walkOf, isAstray, mentioned, usedOf, recovered, recoverAnswer, recoverOutcome}
 

@@ -19,21 +19,7 @@ use Rattle.text.specs.Scan.{bytes}
 use Rattle.text.specs.Print.{shown, added, decimalIn, decimal}
 use Rattle.line.specs.Line.{Said}
 use Rattle.listing.specs.Listing.{answerText, stateText, fieldsText, pageText, listAnswer, listText}
-use Rattle.script.specs.Script.{
-  Standing,
-  Turn,
-  turnTo,
-  answered,
-  doneText,
-  doneWith,
-  refusedTurn,
-  formatted,
-  formatTurn,
-  cutTurn,
-  lineTurn,
-  isEarly,
-  turn,
-}
+use Rattle.script.specs.Script.{Standing, Turn, turnTo, answered, doneText, doneWith, refusedTurn, formatted, formatTurn, cutTurn, lineTurn, isEarly, turn}
 
 -- the most bytes that a turn prints
 abbrev pub mostPrinted : ℕ

@@ -25,24 +25,7 @@ use Rattle.line.specs.Line.{Said}
 use Rattle.listing.specs.Listing.{answerText, listText}
 use Rattle.listing.specs.ListingLaws.{field-next}
 use Rattle.script.specs.declared.step.Run.{Run}
-use Rattle.script.specs.Script.{
-  Standing,
-  standing,
-  Turn,
-  turnTo,
-  called,
-  answered,
-  doneText,
-  doneWith,
-  refusedTurn,
-  formatted,
-  formatTurn,
-  cutTurn,
-  lineTurn,
-  isFormat,
-  isEarly,
-  turn,
-}
+use Rattle.script.specs.Script.{Standing, standing, Turn, turnTo, called, answered, doneText, doneWith, refusedTurn, formatted, formatTurn, cutTurn, lineTurn, isFormat, isEarly, turn}
 
 -- the run with its output up to `at`, and the same run ended
 abbrev pub printedTo : Run → ℕ → Run

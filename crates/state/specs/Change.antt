@@ -5,7 +5,7 @@ use mathlib.Core.Bool.{Bool, cond}
 use lib.Dec.{ltb, eqb}
 use lib.ListN.{length, getD}
 use Rattle.bounded.specs.Limits.{noNumber}
-use Rattle.bounded.specs.Below.{someBelow, firstBelow}
+use Rattle.bounded.specs.Below.{firstBelow}
 use Rattle.bounded.specs.Parts.{update}
 use Rattle.state.specs.declared.PageState.{PageState}
 use Rattle.state.specs.Cycle.{onCycle, cycleWritten}

@@ -4,12 +4,12 @@ pub mod cycle; // cycle.rt: the cycle through a page, and what ends it
 pub mod launch; // launch.rt: what launches one
 
 ghost use mathlib.Core.Path.{_≡_};
-ghost use mathlib.Core.Bool.{not, _&&_};
+ghost use mathlib.Core.Bool.{not};
 ghost use Prim.Native.Nat.{_+_, _*_, _≤_, _<_};
 ghost use lib.ListN.{length};
 ghost use Rattle.bounded.specs.Below.{allBelow};
 ghost use Rattle.bounded.specs.Parts.{putPart};
-ghost use Rattle.state.specs.State.{pageWords, stateAt, stateWords, inFlight, isWritten, versionsSound, flightSound, writtenSound, pageSound, shareNext, nextsApart, stateSound};
+ghost use Rattle.state.specs.State.{pageWords, stateAt, inFlight, isWritten, versionsSound, flightSound, writtenSound, pageSound, shareNext, nextsApart, stateSound};
 ghost use Rattle.state.specs.Change.{launchedPage, writtenPage};
 ghost use Rattle.state.specs.Walk.{endedPage};
 

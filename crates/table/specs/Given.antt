@@ -1,6 +1,6 @@
 -- Tables given by their records, as document 01's cases give them.
 use Prim.Native.Nat.{ℕ}
-use mathlib.Core.List.{List, [], _∷_, _++_}
+use mathlib.Core.List.{List, [], _∷_}
 use lib.ListN.{getD}
 use Rattle.bounded.specs.Parts.{joinParts}
 use Rattle.record.specs.declared.Record.{Record}

@@ -3,18 +3,18 @@ use Prim.Native.Nat.{ℕ, zero, suc, _≤_, _<_}
 use native.Mathlib.Omega.{arith}
 use mathlib.Core.Path.{_≡_, refl, sym, ap, _∙_, subst}
 use mathlib.Core.Logic.{_↔_}
-use mathlib.Core.Bool.{Bool, true, false, cond, _&&_}
+use mathlib.Core.Bool.{Bool, true, cond}
 use lib.Dec.{ltb, eqb}
-use borrow.Author.Tests.{ltb-true, ltb-false, lt-ltb, eqb-true, eqb-false, eq-eqb, ne-eqb}
+use borrow.Author.Tests.{ltb-true, ltb-false, lt-ltb, eqb-true, eqb-false, eq-eqb}
 use Rattle.bounded.specs.Below.{someBelow}
 use Rattle.bounded.specs.Choice.{on-test, never, both, both-left, both-right}
-use Rattle.bounded.specs.BelowLaws.{below-suc, all-at, some-at, some-of, first-passes, first-found, first-none-before, some-search}
+use Rattle.bounded.specs.BelowLaws.{below-suc, all-at, some-at, some-of, first-passes, first-found, first-none-before}
 use Rattle.record.specs.declared.Record.{Record}
 use Rattle.record.specs.declared.Slot.{Slot}
 use Rattle.record.specs.declared.Slot.the-variants.{Blank, Holds}
 use Rattle.record.specs.SlotLaws.{holds-exactly}
 use Rattle.record.specs.Slot.{slotSound, recordSound, holds, someRecord}
-use Rattle.table.specs.Table.{tableSound, ofPage, ofVersion, clash, someClash, hasRecord, lowestSlot, hasVersion, above, better, highest, versionIn, highestVersionOf}
+use Rattle.table.specs.Table.{tableSound, ofPage, ofVersion, clash, someClash, hasRecord, lowestSlot, hasVersion, above, better, highest, versionIn}
 
 -- two slots' contents never both blank and a record
 pub blank-holds : {s : Slot} {r : Record} → s ≡ Blank → s ≡ Holds r → ⊥

@@ -2,7 +2,7 @@
 use Prim.Native.Nat.{ℕ}
 use mathlib.Core.Path.{_≡_}
 use mathlib.Core.List.{List}
-use Rattle.outcome.specs.Outcome.{Outcome, settled-refused, settled-done}
+use Rattle.outcome.specs.Outcome.{settled-refused, settled-done}
 use Rattle.state.specs.State.{stateAt, stateWords}
 use Rattle.state.specs.Change.{launched, withdrawn}
 use Rattle.volume.specs.Volume.{Volume}

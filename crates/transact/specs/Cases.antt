@@ -1,8 +1,7 @@
 -- Document 01's case 12: launch, withdraw and launch again at the highest version, through the calls' whole outcomes.
 use Prim.Native.Nat.{ℕ}
-use mathlib.Core.Path.{_≡_, refl}
+use mathlib.Core.Path.{refl}
 use mathlib.Core.List.{List, [], _∷_}
-use Rattle.outcome.specs.Outcome.{Outcome}
 use Rattle.outcome.specs.Row.{Row, row, RowsHold}
 use Rattle.state.specs.State.{stateWords}
 use Rattle.state.specs.Change.{atRest}

@@ -1,10 +1,9 @@
 -- The line under document 01's cases: the bounds of P and S, through format's whole outcome.
 use Prim.Native.Nat.{ℕ, _*_}
-use mathlib.Core.Path.{_≡_, refl}
+use mathlib.Core.Path.{refl}
 use mathlib.Core.List.{List, [], _∷_}
 use lib.ListN.{replicate}
 use Rattle.bounded.specs.Limits.{width}
-use Rattle.outcome.specs.Outcome.{Outcome}
 use Rattle.outcome.specs.Row.{Row, row, RowsHold}
 use Rattle.volume.specs.Volume.{Volume}
 use Rattle.volume.specs.Format.{formatOutcome}

@@ -7,7 +7,6 @@ use lib.ListN.{replicate}
 use Rattle.bounded.specs.Parts.{joinParts}
 use Rattle.outcome.specs.Outcome.{_⇒_otherwise_, Outcome, settled}
 use Rattle.record.specs.Slot.{wordsOf, formattedRecord, blankRecord}
-use Rattle.record.specs.Flash.{Flash}
 use Rattle.state.specs.State.{stateWords}
 use Rattle.state.specs.Change.{freshState}
 use Rattle.volume.specs.Volume.{Volume, volumeFits}

@@ -1,9 +1,7 @@
 -- `run_all` is safe and ends: the measure is the number of turns that are left, and every buffer keeps its length.
-use Prim.Native.Nat.{_-_}
 use native.Mathlib.Omega.{arith}
 use mathlib.Core.Path.{_≡_, refl}
 use lib.ListN.{length}
-use borrow.Author.Needs.{needs}
 use Rattle.script_main.proofs.run_all.Statement.{statement}
 use Rattle.script_main.proofs.run_all.Tie as tie
 
