@@ -4,7 +4,7 @@ use native.Mathlib.Omega.{arith}
 use mathlib.Core.Path.{_≡_, refl, sym, ap, _∙_, subst}
 use mathlib.Core.List.{List, [], _∷_, map, List·Memᴰ, List·Memᴰ·head, List·Memᴰ·tail, List·Memᴰ·not-nil, List·Memᴰ·cases-cons}
 use mathlib.Core.Logic.{_⊎_, inl, inr, ⊎-elim}
-use mathlib.Core.Bool.{Bool, true, false, cond}
+use mathlib.Core.Bool.{Bool, true, cond}
 use lib.ListN.{length, getD}
 use Rattle.bounded.specs.Choice.{on-eq, on-test}
 use Rattle.record.specs.declared.Record.{Record}
@@ -15,7 +15,6 @@ use Rattle.record.specs.FlashLaws.{Sized, blanks-listed, blanks-unlisted}
 use Rattle.state.specs.declared.PageState.{PageState}
 use Rattle.table.specs.TableLaws.{blank-holds}
 use Rattle.collect.specs.Permission.{mayErase}
-use Rattle.collect.specs.Erase.{eraseSteps}
 use Rattle.protocol.specs.View.{NoTwins, finds-in-slots}
 use Rattle.protocol.specs.Permitted.{may-erase-permitted}
 use Rattle.protocol.specs.Fewer.{Erased}

@@ -1,7 +1,7 @@
 -- A call of a run with its arguments, and what it gives and leaves: by the outcome definitions that the calls' contracts cite.
 use Prim.Native.Nat.{ℕ}
 use mathlib.Core.List.{List, [], _∷_}
-use mathlib.Core.Bool.{false, cond}
+use mathlib.Core.Bool.{cond}
 use lib.Dec.{eqb}
 use Rattle.outcome.specs.Outcome.{Outcome}
 use Rattle.record.specs.Flash.{Flash, Step}

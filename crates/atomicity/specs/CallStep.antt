@@ -1,9 +1,9 @@
 -- A call that returns keeps the invariant: refused it changes nothing, accepted it is its step.
 use Prim.Native.Nat.{ℕ, _≤_, _<_}
 use native.Mathlib.Omega.{arith}
-use mathlib.Core.Path.{_≡_, refl, sym, ap, _∙_, subst}
-use mathlib.Core.List.{List, []}
-use mathlib.Core.Bool.{true, false}
+use mathlib.Core.Path.{_≡_, refl, sym, ap, subst}
+use mathlib.Core.List.{List}
+use mathlib.Core.Bool.{true}
 use lib.ListN.{length}
 use Rattle.bounded.specs.Limits.{noNumber}
 use Rattle.bounded.specs.Choice.{never}
@@ -27,11 +27,12 @@ use Rattle.collect.specs.Erase.{eraseAnswer, eraseOutcome, eraseSteps}
 use Rattle.collect.specs.CallLaws.{erase-refused, erase-done}
 use Rattle.recovery.specs.Recover.{recoverAnswer, recoverOutcome}
 use Rattle.recovery.specs.RecoverLaws.{recover-refused, recover-fills}
+use Rattle.transact.specs.Accepted.{launch-tests, withdraw-tests, write-tests}
+use Rattle.collect.specs.EraseLaws.{erase-tests}
 use Rattle.atomicity.specs.Call.{Call, withState, withFlash, perform}
 use Rattle.atomicity.specs.Model.{Model, accept, closeAll, enter}
 use Rattle.atomicity.specs.RingLaunch.{listed-some, listed-launchable}
 use Rattle.atomicity.specs.Invariant.{Live}
-use Rattle.atomicity.specs.Accepted.{launchable, withdrawable, writable, erasable}
 use Rattle.atomicity.specs.StateWords.{live-words}
 use Rattle.atomicity.specs.LaunchStep.{launched-live}
 use Rattle.atomicity.specs.WithdrawStep.{withdrawn-live}
@@ -77,7 +78,7 @@ module _ (w P S : ℕ) (v : Volume) (m : Model) (k : Known w P S v m) where
   launch-accepted : (pages : List ℕ) → launchAnswer P S (v .state) pages ≡ 0 → Known w P S (perform w P S v (Call.Launch pages) .left) (accept m (Call.Launch pages))
   unfolding perform withState
   launch-accepted pages e =
-      let a = launchable P S (v .state) pages e in
+      let a = launch-tests P S (v .state) pages e in
       let ok = listed-launchable P (stateAt (v .state)) pages (k .live .sound) (a .listed) (a .none-flying) (a .none-used-up) in
       let l = launched-live w P S small (v .flash) (stateAt (v .state)) m (k .live) pages (listed-some P pages (a .listed)) ok in
       subst (λ (o : Outcome (List ℕ)). Known w P S (record { flash = v .flash; state = o .left }) (accept m (Call.Launch pages))) (sym (launch-done P S (v .state) pages e))
@@ -89,7 +90,7 @@ module _ (w P S : ℕ) (v : Volume) (m : Model) (k : Known w P S v m) where
   withdraw-accepted : (page : ℕ) → withdrawAnswer P S (v .state) page ≡ 0 → Known w P S (perform w P S v (Call.Withdraw page) .left) (accept m (Call.Withdraw page))
   unfolding perform withState
   withdraw-accepted page e =
-      let a = withdrawable P S (v .state) page e in
+      let a = withdraw-tests P S (v .state) page e in
       let y : Flies P (stateAt (v .state)) page = record { below = a .page-below; flies = a .flying } in
       subst (λ (o : Outcome (List ℕ)). Known w P S (record { flash = v .flash; state = o .left }) (accept m (Call.Withdraw page))) (sym (withdraw-done P S (v .state) page e))
       (record {
@@ -100,7 +101,7 @@ module _ (w P S : ℕ) (v : Volume) (m : Model) (k : Known w P S v m) where
   erase-accepted : (slots : List ℕ) → eraseAnswer w P S v slots ≡ 0 → Known w P S (perform w P S v (Call.Erase slots) .left) (accept m (Call.Erase slots))
   unfolding perform withFlash eraseSteps accept
   erase-accepted slots e =
-      let free = erasable-free S v slots (erasable w P S v slots e) in
+      let free = erasable-free w P S v slots (erase-tests w P S v slots e) in
       subst (λ (o : Outcome Flash). Known w P S (record { flash = o .left; state = v .state }) m) (sym (erase-done w P S v slots e))
       (record {
         fits = record { sizes = k .fits .sizes; flash-sized = erased-sized w P S v m (k .fits .flash-sized) slots free; state-sized = k .fits .state-sized };
@@ -110,7 +111,7 @@ module _ (w P S : ℕ) (v : Volume) (m : Model) (k : Known w P S v m) where
   write-accepted : (page slot : ℕ) (bytes : List ℕ) → writeAnswer w P S v page slot bytes ≡ 0 → Known w P S (writeChange w P v page slot bytes) (enter page bytes (m .kept) (m .rings))
   unfolding writeChange writeStep isBlank
   write-accepted page slot bytes e =
-      let a = writable w P S v page slot bytes e in
+      let a = write-tests w P S v page slot bytes e in
       let y : Flies P (stateAt (v .state)) page = record { below = a .page-below; flies = a .flying } in
       let free = blank-exactly (slotAt (v .flash .words) slot) (a .free) in
       record {

@@ -15,12 +15,12 @@ use Rattle.collect.specs.Erase.{eraseSteps}
 use Rattle.transact.specs.Write.{writeDone, writeChange}
 use Rattle.transact.specs.CallLaws.{write-done}
 use Rattle.protocol.specs.Shared.{commOf}
+use Rattle.collect.specs.EraseLaws.{erase-tests}
 use Rattle.atomicity.specs.Call.{Call, perform, plannedSteps, flashSteps}
 use Rattle.atomicity.specs.Run.{doneOf}
 use Rattle.atomicity.specs.Model.{Told, Model, accept, closeAll, enter, learns}
 use Rattle.atomicity.specs.Promise.{toldOfCrash}
 use Rattle.atomicity.specs.Invariant.{Lost}
-use Rattle.atomicity.specs.Accepted.{erasable}
 use Rattle.atomicity.specs.Blanking.{chosen, done-blanks, chosen-listed}
 use Rattle.atomicity.specs.EraseStep.{Free, erasable-free, erased-sized, erased-core, erased-apart}
 use Rattle.atomicity.specs.CallStep.{answer-is, performs, Known, accepted}
@@ -67,7 +67,7 @@ module _ (w P S : ℕ) where
   unfolding closeAll plannedSteps eraseSteps answer-is
   crash-erase v m slots done k =
       on-eq (answer-is w P S v (Call.Erase slots)) 0
-      (λ e. let all = erasable-free S v slots (erasable w P S v slots e) in
+      (λ e. let all = erasable-free w P S v slots (erase-tests w P S v slots e) in
       let part : List ℕ = chosen done 0 slots in
       let free : Free S v part = record {
         inside = λ i l. all .inside i (chosen-listed done 0 slots i l);

@@ -1,8 +1,8 @@
 -- Erasing keeps the invariant, whole or cut short: slots that may be erased are blanked.
 use Prim.Native.Nat.{ℕ, _<_}
-use mathlib.Core.Path.{_≡_, refl, sym, _∙_, subst}
-use mathlib.Core.List.{List, [], _∷_, map, List·Memᴰ}
-use mathlib.Core.Bool.{true, false}
+use mathlib.Core.Path.{_≡_, subst}
+use mathlib.Core.List.{List, map, List·Memᴰ}
+use mathlib.Core.Bool.{true}
 use Rattle.record.specs.Slot.{slotAt}
 use Rattle.record.specs.Flash.{Flash, Step, applyAll}
 use Rattle.record.specs.FlashLaws.{Sized, blanks-sized}
@@ -15,18 +15,18 @@ use Rattle.protocol.specs.View.{NoTwins}
 use Rattle.protocol.specs.Shared.{commOf}
 use Rattle.protocol.specs.BackPointer.{Core}
 use Rattle.protocol.specs.Fewer.{core-fewer, live-erased}
+use Rattle.collect.specs.EraseLaws.{EraseTests}
 use Rattle.atomicity.specs.Model.{Model}
 use Rattle.atomicity.specs.Invariant.{Held, Live}
 use Rattle.atomicity.specs.Blanking.{member-at, blanking-apart, blanking-erases}
-use Rattle.atomicity.specs.Accepted.{Erasable}
 
 -- slots in range that may be erased
 pub record Free (S : ℕ) (v : Volume) (slots : List ℕ) : Type 0 where
   pub inside : (k : ℕ) → List·Memᴰ k slots → k < S
   pub allowed : (k : ℕ) → List·Memᴰ k slots → mayErase S (slotAt (v .flash .words)) (stateAt (v .state)) k ≡ true
 
-pub erasable-free : (S : ℕ) (v : Volume) (slots : List ℕ) → Erasable S v slots → Free S v slots
-erasable-free S v slots e =
+pub erasable-free : (w P S : ℕ) (v : Volume) (slots : List ℕ) → EraseTests w P S v slots → Free S v slots
+erasable-free w P S v slots e =
     record {
       inside = λ k m. let i = member-at slots k m in subst (λ (x : ℕ). x < S) (i .2) (list-facts S slots (e .listed) .in-range (i .0) (i .1));
       allowed = λ k m. let i = member-at slots k m in

@@ -9,7 +9,6 @@ use lib.Dec.{ltb}
 use lib.ListN.{replicate, length-replicate}
 use borrow.Author.Tests.{lt-ltb, le-ltb}
 use Rattle.bounded.specs.Choice.{on-lt, never}
-use Rattle.bounded.specs.Parts.{part}
 use Rattle.bounded.specs.PartsLaws.{part-joinParts, length-joinParts}
 use Rattle.record.specs.declared.Record.{Record}
 use Rattle.record.specs.declared.Slot.the-variants.{Blank, Holds}
@@ -26,7 +25,7 @@ use Rattle.volume.specs.Format.{formattedWords, formattedContents, formatted}
 use Rattle.protocol.specs.View.{NoTwins, recordView}
 use Rattle.protocol.specs.Shared.{SharedLive, commOf}
 use Rattle.protocol.specs.BackPointer.{Core}
-use Rattle.atomicity.specs.Model.{Model, freshModel}
+use Rattle.atomicity.specs.Model.{freshModel}
 use Rattle.atomicity.specs.Rings.{IsEntered}
 use Rattle.atomicity.specs.RingClose.{no-rings-match}
 use Rattle.atomicity.specs.Invariant.{Held, Live}

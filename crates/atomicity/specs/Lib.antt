@@ -11,7 +11,6 @@ pub mod Invariant
 pub mod Blanking
 pub mod RingLaws
 pub mod RingCycle
-pub mod Accepted
 pub mod EraseStep
 pub mod RecoverStep
 pub mod Storing

@@ -1,7 +1,7 @@
 -- Recovery, under the invariant: recover answers 0 and read gives the kept contents; and the state that it fills is known again.
 use Prim.Native.Nat.{ℕ, _*_, _<_}
 use native.Mathlib.Omega.{arith}
-use mathlib.Core.Path.{_≡_, refl, sym, ap, _∙_, subst}
+use mathlib.Core.Path.{_≡_, refl, sym, ap, subst}
 use mathlib.Core.List.{List, []}
 use mathlib.Core.Bool.{false}
 use lib.ListN.{length}

@@ -1,6 +1,5 @@
 -- Runs with crashes: document 01, "Runs, cuts and the ledger".
 use Prim.Native.Nat.{ℕ, suc, _*_}
-use mathlib.Core.Path.{_≡_}
 use mathlib.Core.List.{List, [], _∷_}
 use mathlib.Core.Bool.{Bool, true, false, cond, not, _&&_}
 use lib.Dec.{eqb}

@@ -1,6 +1,6 @@
 -- Document 01's cases 1 to 12 (★) as one table, with one theorem.
 use Prim.Native.Nat.{ℕ, _*_}
-use mathlib.Core.Path.{_≡_, refl, sym, ap, _∙_}
+use mathlib.Core.Path.{_≡_, refl, ap}
 use mathlib.Core.List.{List, [], _∷_, _++_}
 use lib.ListN.{replicate}
 use Rattle.bounded.specs.Limits.{width, noNumber}

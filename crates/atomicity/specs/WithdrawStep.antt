@@ -1,8 +1,7 @@
 -- Withdrawing keeps the invariant: the records stay, and one ring's pages are at rest.
 use Prim.Native.Nat.{ℕ}
 use native.Mathlib.Omega.{arith}
-use mathlib.Core.Path.{_≡_, refl, sym, ap, _∙_, subst}
-use mathlib.Core.List.{List}
+use mathlib.Core.Path.{_≡_, refl, sym, ap, subst}
 use mathlib.Core.Logic.{inr}
 use mathlib.Core.Bool.{true, false}
 use Rattle.bounded.specs.Choice.{never, on-test}

@@ -1,6 +1,6 @@
 -- Writing keeps the invariant: one planned record more, and its ring stays open or is completed.
 use Prim.Native.Nat.{ℕ, _≤_, _<_}
-use mathlib.Core.Path.{_≡_, refl, sym, ap, _∙_, subst}
+use mathlib.Core.Path.{_≡_, refl, sym, ap, subst}
 use mathlib.Core.List.{List}
 use mathlib.Core.Bool.{true, false}
 use lib.ListN.{length}
@@ -21,7 +21,6 @@ use Rattle.state.specs.CompletionLaws.{after-write-done, after-write-not}
 use Rattle.transact.specs.Write.{planOf, writeStep}
 use Rattle.protocol.specs.View.{recordView, NoTwins}
 use Rattle.protocol.specs.Shared.{plan}
-use Rattle.protocol.specs.BackPointer.{Core}
 use Rattle.protocol.specs.Stored.{Writes, not-there}
 use Rattle.protocol.specs.OneMore.{core-more, live-more}
 use Rattle.protocol.specs.Completed.{live-completed}
@@ -29,7 +28,6 @@ use Rattle.protocol.specs.CompletedCore.{core-completed}
 use Rattle.protocol.specs.SameSet.{core-same}
 use Rattle.protocol.specs.WriteSteps.{planned-sound, missing-page, marks-of, completes-with}
 use Rattle.atomicity.specs.Model.{Model, enter}
-use Rattle.atomicity.specs.Rings.{IsEntered}
 use Rattle.atomicity.specs.RingWrite.{write-open-kept, write-open-match, write-open-entered, write-done-own, write-done-cycle, write-done-other, write-done-match, write-done-entered}
 use Rattle.atomicity.specs.Invariant.{Held, Live}
 use Rattle.atomicity.specs.Storing.{store-adds, store-apart}

@@ -4,11 +4,11 @@ use native.Mathlib.Omega.{arith}
 use native.Mathlib.Numerals.{add-one}
 use mathlib.Core.Path.{_≡_, refl}
 use mathlib.Core.List.{List, [], _∷_}
-use mathlib.Core.Bool.{Bool, true, false, not}
+use mathlib.Core.Bool.{true}
 use lib.ListN.{length, getD, take}
 use lib.Seq.{take-length}
 use Rattle.bounded.specs.PartsLaws.{part-inside}
-use Rattle.outcome.specs.Outcome.{_⇒_otherwise_}
+use Rattle.outcome.specs.Outcome.{held}
 use Rattle.record.specs.Slot.{slotAt}
 use Rattle.record.specs.Flash.{Flash, Step, apply, applyAll}
 use Rattle.state.specs.State.{stateAt, stateSound}
@@ -16,6 +16,7 @@ use Rattle.table.specs.Table.{tableSound}
 use Rattle.volume.specs.Volume.{Volume, volumeFits, listOk}
 use Rattle.volume.specs.SizesLaws.{Fits, fits-facts}
 use Rattle.volume.specs.ListLaws.{Listed, list-facts}
+use Rattle.collect.specs.Permission.{mayEraseAll}
 use Rattle.collect.specs.Erase.{eraseAnswer, eraseSteps}
 use Rattle.collect.specs.Within.{Within, sound-within}
 
@@ -53,10 +54,21 @@ module _ (w : ℕ) where
 
 -- ---- an accepted erase
 
--- a refusal that does not hold where the answer is 0
-passed : (b : Bool) (n rest : ℕ) → ¬ (n ≡ 0) → (not b ⇒ n otherwise rest) ≡ 0 → (b ≡ true) × (rest ≡ 0)
-passed true n rest d e = (refl, e)
-passed false n rest d e = absurd (d e)
+-- the tests that it passes
+pub record EraseTests (w P S : ℕ) (v : Volume) (list : List ℕ) : Type 0 where
+  pub fits : Fits w P S v
+  pub listed : listOk S list ≡ true
+  pub permitted : mayEraseAll S (slotAt (v .flash .words)) (stateAt (v .state)) list ≡ true
+
+pub erase-tests : (w P S : ℕ) (v : Volume) (list : List ℕ) → eraseAnswer w P S v list ≡ 0 → EraseTests w P S v list
+unfolding eraseAnswer
+erase-tests w P S v list e =
+    let a = held (volumeFits w P S v) _ _ e in
+    let b = held (tableSound P S (slotAt (v .flash .words))) _ _ (a .1) in
+    let c = held (stateSound P (stateAt (v .state))) _ _ (b .1) in
+    let d = held (listOk S list) _ _ (c .1) in
+    let f = held (mayEraseAll S (slotAt (v .flash .words)) (stateAt (v .state)) list) _ _ (d .1) in
+    record { fits = fits-facts w P S v (a .0); listed = d .0; permitted = f .0 }
 
 -- each listed slot is inside a volume that fits
 listed-in : (w P S : ℕ) (v : Volume) (list : List ℕ) → Fits w P S v → Listed S list → ListedIn w (v .flash .words) (v .flash .contents) list
@@ -72,10 +84,5 @@ fits-within w P S v e sound =
     sound-within P S (v .flash .words) (v .state) (f .flash-sized .words-sized) (f .state-sized) sound
 
 pub accepted-listed : (w P S : ℕ) (v : Volume) (list : List ℕ) → eraseAnswer w P S v list ≡ 0 → ListedIn w (v .flash .words) (v .flash .contents) list
-unfolding eraseAnswer
 accepted-listed w P S v list e =
-    let a = passed (volumeFits w P S v) 1 _ (λ z. omega arith) e in
-    let b = passed (tableSound P S (slotAt (v .flash .words))) 2 _ (λ z. omega arith) (a .1) in
-    let c = passed (stateSound P (stateAt (v .state))) 5 _ (λ z. omega arith) (b .1) in
-    let d = passed (listOk S list) 6 _ (λ z. omega arith) (c .1) in
-    listed-in w P S v list (fits-facts w P S v (a .0)) (list-facts S list (d .0))
+    let t = erase-tests w P S v list e in listed-in w P S v list (t .fits) (list-facts S list (t .listed))

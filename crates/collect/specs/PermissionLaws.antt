@@ -3,14 +3,14 @@ use Prim.Native.Nat.{ℕ, _<_}
 use mathlib.Core.Path.{_≡_}
 use mathlib.Core.List.{List}
 use mathlib.Core.Logic.{_⊎_, _↔_}
-use mathlib.Core.Bool.{Bool, true, not, _&&_, _||_}
+use mathlib.Core.Bool.{Bool, true, not, _&&_}
 use lib.Dec.{ltb, eqb}
 use lib.ListN.{length, getD}
 use Rattle.bounded.specs.Choice.{negated, conjoined, disjoined, below-test, equal-test}
 use Rattle.bounded.specs.BelowLaws.{all-each}
 use Rattle.record.specs.declared.Record.{Record}
 use Rattle.record.specs.declared.Slot.{Slot}
-use Rattle.record.specs.declared.Slot.the-variants.{Blank, Holds}
+use Rattle.record.specs.declared.Slot.the-variants.{Holds}
 use Rattle.record.specs.Slot.{someRecord, straddles}
 use Rattle.record.specs.SlotLaws.{Straddles, straddles-exactly, holds-exactly, some-record-at, some-record-of}
 use Rattle.state.specs.declared.PageState.{PageState}

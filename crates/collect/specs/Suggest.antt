@@ -2,7 +2,7 @@
 use Prim.Native.Nat.{ℕ, _<_}
 use mathlib.Core.Path.{_≡_}
 use mathlib.Core.List.{List}
-use mathlib.Core.Bool.{Bool, true, not, _&&_}
+use mathlib.Core.Bool.{true, not, _&&_}
 use Rattle.bounded.specs.Limits.{noNumber}
 use Rattle.bounded.specs.Below.{someBelow}
 use Rattle.outcome.specs.Outcome.{_⇒_otherwise_, Outcome}

@@ -2,7 +2,7 @@
 use native.Mathlib.Omega.{arith}
 use Prim.Native.Nat.{ℕ, zero, suc, _^_, _/_, _%_}
 use mathlib.Core.Path.{_≡_, refl}
-use mathlib.Core.Bool.{Bool, true, false}
+use mathlib.Core.Bool.{Bool, true, false, not}
 
 -- "Conditions are tried from the top …, and the first that is met is returned":
 -- the number n where the condition is met, else what the conditions below it give.
@@ -15,6 +15,11 @@ false ⇒ n otherwise rest = rest
 pub passed : (b : Bool) (n rest : ℕ) → (b ⇒ suc n otherwise rest) ≡ 0 → (b ≡ false) × (rest ≡ 0)
 passed true n rest e = absurd (omega arith)
 passed false n rest e = (refl, e)
+
+-- and a test whose failure returns n has passed
+pub held : (b : Bool) (n rest : ℕ) → (not b ⇒ suc n otherwise rest) ≡ 0 → (b ≡ true) × (rest ≡ 0)
+held true n rest e = (refl, e)
+held false n rest e = absurd (omega arith)
 
 -- Everything a call gives back: the answer ("the number back"), the second number, and the buffers that it may alter, as it leaves them.
 pub record Outcome (B : Type 0) : Type 0 where

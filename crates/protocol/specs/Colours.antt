@@ -5,7 +5,7 @@ use native.Mathlib.Omega.{arith}
 use mathlib.Core.Path.{_≡_, refl, sym, ap, _∙_, subst}
 use mathlib.Core.Logic.{_⊎_, inl, inr}
 use borrow.Author.Tests.{eq-eqb, ne-eqb}
-use Rattle.bounded.specs.Choice.{on-lt, on-eq}
+use Rattle.bounded.specs.Choice.{on-eq}
 use Rattle.bounded.specs.Pigeonhole.{pigeonhole, comes-back}
 use Rattle.recovery.specs.declared.Verdict.{Verdict}
 use Rattle.recovery.specs.declared.Verdict.the-variants as says

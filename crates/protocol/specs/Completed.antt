@@ -1,11 +1,11 @@
 -- One planned record more, the last of its cycle: the cycle's pages are committed at their used versions, and the invariant holds with these.
 use Prim.Native.Nat.{ℕ, zero, suc, _≤_, _<_}
 use native.Mathlib.Omega.{arith}
-use mathlib.Core.Path.{_≡_, refl, sym, ap, _∙_, subst}
+use mathlib.Core.Path.{_≡_, sym, ap, _∙_, subst}
 use mathlib.Core.List.{List}
 use mathlib.Core.Logic.{_⊎_, inl, inr}
 use mathlib.Core.Bool.{Bool, true, false}
-use Rattle.bounded.specs.Choice.{on-lt, on-eq, on-test, never}
+use Rattle.bounded.specs.Choice.{on-eq, on-test, never}
 use Rattle.state.specs.declared.PageState.{PageState}
 use Rattle.state.specs.State.{inFlight, isWritten}
 use Rattle.state.specs.CycleLaws.{Flies, next-flies}

@@ -6,7 +6,7 @@ use mathlib.Core.Path.{_≡_, refl, sym, ap, _∙_, subst}
 use mathlib.Core.List.{List}
 use mathlib.Core.Logic.{_⊎_, inl, inr}
 use mathlib.Core.Bool.{true}
-use Rattle.bounded.specs.Choice.{on-lt, on-eq}
+use Rattle.bounded.specs.Choice.{on-lt}
 use Rattle.bounded.specs.Limits.{highestVersion}
 use Rattle.record.specs.declared.Record.{Record}
 use Rattle.record.specs.SlotLaws.{Straddles, sound-facts}

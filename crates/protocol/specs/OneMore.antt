@@ -1,12 +1,12 @@
 -- One planned record more, with a page of its cycle still to be written, keeps the invariant.
 use Prim.Native.Nat.{ℕ, zero, suc, _≤_, _<_}
 use native.Mathlib.Omega.{arith}
-use mathlib.Core.Path.{_≡_, refl, sym, ap, _∙_, subst}
+use mathlib.Core.Path.{_≡_, sym, ap, _∙_, subst}
 use mathlib.Core.List.{List}
 use mathlib.Core.Logic.{_⊎_, inl, inr}
 use mathlib.Core.Bool.{true, false, not}
 use lib.Dec.{eqb}
-use Rattle.bounded.specs.Choice.{on-lt, on-eq, on-test, never}
+use Rattle.bounded.specs.Choice.{on-eq, on-test, never}
 use Rattle.bounded.specs.Limits.{noNumber}
 use Rattle.record.specs.declared.Record.{Record}
 use Rattle.record.specs.SlotLaws.{Straddles}
@@ -14,7 +14,7 @@ use Rattle.state.specs.declared.PageState.{PageState}
 use Rattle.state.specs.State.{inFlight, isWritten}
 use Rattle.state.specs.Cycle.{along}
 use Rattle.state.specs.CycleLaws.{Flies, next-flies, along-zero, along-front}
-use Rattle.protocol.specs.View.{View, recordView, LinksTo, decide-links, IsAt, IsCommitted, Exposed}
+use Rattle.protocol.specs.View.{View, recordView, LinksTo, decide-links, IsAt, Exposed}
 use Rattle.protocol.specs.Shared.{SharedCore, SharedLive, OpenAtOnce, OpenWithin, Open, plan, commOf}
 use Rattle.protocol.specs.BackPointer.{AheadOrStraddled, BackPointerCore, Core}
 use Rattle.protocol.specs.Stored.{Adds, Writes, plan-page, plan-version, plan-next, plan-next-version, plan-links, old-and-new, none-more, committed-old, all-sound-more, one-record-more, within-used-more, plan-back, plan-clear, plan-ahead}

@@ -9,7 +9,6 @@ use borrow.Author.Tests.{lt-ltb, eq-eqb, ltb-true}
 use Rattle.bounded.specs.Choice.{never}
 use Rattle.bounded.specs.Limits.{highestVersion}
 use Rattle.outcome.specs.Outcome.{settled-done}
-use Rattle.record.specs.declared.Record.{Record}
 use Rattle.record.specs.declared.Slot.{Slot}
 use Rattle.record.specs.Slot.{slotAt, bytesAt}
 use Rattle.state.specs.declared.PageState.{PageState}
@@ -20,7 +19,7 @@ use Rattle.table.specs.Table.{hasVersion}
 use Rattle.volume.specs.Volume.{Volume, volumeFits}
 use Rattle.volume.specs.Read.{readSlot, readAnswer, readOutcome}
 use Rattle.recovery.specs.Recover.{usedOf, recovered}
-use Rattle.protocol.specs.View.{InSlots, recordView}
+use Rattle.protocol.specs.View.{InSlots}
 use Rattle.protocol.specs.Shared.{SharedCore}
 use Rattle.protocol.specs.BackPointer.{Core}
 use Rattle.protocol.specs.RecoverAnswers.{table-sound, committed-there, recovered-is, found-within-used}

@@ -1,18 +1,16 @@
 -- Under the invariant recover answers 0, and fills the state with the committed versions and the highest versions mentioned.
-use Prim.Native.Nat.{ℕ, _≤_, _<_}
+use Prim.Native.Nat.{ℕ, _<_}
 use native.Mathlib.Omega.{arith}
-use mathlib.Core.Path.{_≡_, refl, sym, ap, _∙_, subst}
+use mathlib.Core.Path.{_≡_, refl}
 use mathlib.Core.List.{List}
 use mathlib.Core.Logic.{_⊎_, inl, inr}
 use mathlib.Core.Bool.{true, false}
 use Rattle.bounded.specs.Below.{allBelow, someBelow}
-use Rattle.bounded.specs.Choice.{on-test, never}
+use Rattle.bounded.specs.Choice.{on-test}
 use Rattle.bounded.specs.BelowLaws.{all-of, some-none}
-use Rattle.record.specs.declared.Record.{Record}
 use Rattle.record.specs.declared.Slot.{Slot}
 use Rattle.record.specs.declared.Slot.the-variants.{Blank, Holds}
 use Rattle.record.specs.Slot.{slotAt, slotSound}
-use Rattle.state.specs.declared.PageState.{PageState}
 use Rattle.state.specs.Change.{atRest}
 use Rattle.table.specs.Table.{tableSound, someClash, hasRecord, hasVersion}
 use Rattle.volume.specs.Volume.{sizesOk, wordsFit, stateFits}

@@ -2,13 +2,13 @@
 -- so recovery finds the committed versions.
 use Prim.Native.Nat.{ℕ, zero, suc, _≤_, _<_}
 use native.Mathlib.Omega.{arith}
-use mathlib.Core.Path.{_≡_, refl, sym, ap, _∙_, subst}
+use mathlib.Core.Path.{_≡_, sym, ap, _∙_, subst}
 use mathlib.Core.List.{List}
 use mathlib.Core.Logic.{_⊎_, inl, inr}
-use Rattle.bounded.specs.Choice.{on-lt, on-eq}
+use Rattle.bounded.specs.Choice.{on-lt}
 use Rattle.record.specs.declared.Record.{Record}
 use Rattle.record.specs.declared.Slot.{Slot}
-use Rattle.record.specs.SlotLaws.{Straddles, SoundRecord, sound-facts}
+use Rattle.record.specs.SlotLaws.{SoundRecord, sound-facts}
 use Rattle.table.specs.Table.{highestVersionOf, versionIn}
 use Rattle.recovery.specs.declared.Verdict.{Verdict}
 use Rattle.recovery.specs.declared.Verdict.the-variants as says

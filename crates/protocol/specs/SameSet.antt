@@ -2,11 +2,11 @@
 -- and the changes of the state in a launch, a withdrawal and a recovery.
 use Prim.Native.Nat.{ℕ, zero, suc, _≤_, _<_}
 use native.Mathlib.Omega.{arith}
-use mathlib.Core.Path.{_≡_, refl, sym, ap, _∙_, subst}
+use mathlib.Core.Path.{_≡_, sym, ap, _∙_, subst}
 use mathlib.Core.List.{List}
 use mathlib.Core.Logic.{_⊎_, inl, inr}
 use mathlib.Core.Bool.{true, false}
-use Rattle.bounded.specs.Choice.{on-test, never}
+use Rattle.bounded.specs.Choice.{never}
 use Rattle.record.specs.declared.Record.{Record}
 use Rattle.state.specs.declared.PageState.{PageState}
 use Rattle.state.specs.State.{inFlight, isWritten}

@@ -1,7 +1,7 @@
 -- One record more, the one planned for a page in flight and not written: what holds whether or not its cycle is then complete.
 use Prim.Native.Nat.{ℕ, suc, _≤_, _<_}
 use native.Mathlib.Omega.{arith}
-use mathlib.Core.Path.{_≡_, refl, sym, ap, _∙_, subst}
+use mathlib.Core.Path.{_≡_, sym, ap, _∙_, subst}
 use mathlib.Core.List.{List}
 use mathlib.Core.Logic.{_⊎_, inl, inr}
 use mathlib.Core.Bool.{true, false}
@@ -11,7 +11,7 @@ use Rattle.state.specs.declared.PageState.{PageState}
 use Rattle.state.specs.State.{isWritten}
 use Rattle.state.specs.StateLaws.{StateFacts}
 use Rattle.state.specs.CycleLaws.{Flies, next-flies}
-use Rattle.protocol.specs.View.{View, recordView, planned-record-back, LinksTo, IsAt, IsCommitted, Exposed}
+use Rattle.protocol.specs.View.{View, recordView, planned-record-back, LinksTo, IsCommitted}
 use Rattle.protocol.specs.Shared.{SharedCore, SharedLive, WithinUsed, plan, commOf, usedOf}
 
 -- the set R with the pair of r and these bytes added

@@ -1,5 +1,5 @@
 -- A write's state against the steps on records: the planned record is sound, a cycle not completed has a page missing, and what a write makes of the state is what these steps ask for.
-use Prim.Native.Nat.{ℕ, suc, _≤_, _<_}
+use Prim.Native.Nat.{ℕ, _<_}
 use native.Mathlib.Omega.{arith}
 use mathlib.Core.Path.{_≡_, refl, sym, ap, _∙_, subst}
 use mathlib.Core.List.{List}
@@ -7,11 +7,10 @@ use mathlib.Core.Logic.{_⊎_, inl, inr, _↔_}
 use mathlib.Core.Bool.{Bool, true, false, not, _||_}
 use lib.Dec.{eqb}
 use borrow.Author.Tests.{eqb-true, eqb-false, not-true, not-false}
-use Rattle.bounded.specs.Choice.{on-eq, on-test, never, neither-left, neither-right, either}
+use Rattle.bounded.specs.Choice.{on-eq, never, neither-left, neither-right, either}
 use Rattle.bounded.specs.BelowLaws.{some-at, some-search}
 use Rattle.bounded.specs.Parts.{update}
 use Rattle.bounded.specs.PartsLaws.{update-same, update-other}
-use Rattle.record.specs.declared.Record.{Record}
 use Rattle.record.specs.Slot.{recordSound, plannedRecord}
 use Rattle.record.specs.SlotLaws.{sound-test}
 use Rattle.state.specs.declared.PageState.{PageState}

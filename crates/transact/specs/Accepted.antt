@@ -1,43 +1,104 @@
 -- Where launch, withdraw or write answers 0: what the functions that make its change require, and that they leave what the call says.
-use Prim.Native.Nat.{ℕ, suc, _+_, _*_, _≤_, _<_}
+use Prim.Native.Nat.{ℕ, _+_, _*_, _≤_, _<_}
 use native.Mathlib.Omega.{arith}
 use mathlib.Core.Path.{_≡_, sym, ap, subst}
 use mathlib.Core.List.{List}
-use mathlib.Core.Bool.{Bool, true, false, cond, not, _&&_}
+use mathlib.Core.Bool.{Bool, true, false, cond, _&&_}
 use lib.Dec.{ltb, eqb}
 use lib.ListN.{length, getD}
-use borrow.Author.Tests.{ltb-true, eqb-true, eq-eqb, not-false}
+use borrow.Author.Tests.{ltb-true, eqb-true, eq-eqb}
 use Rattle.bounded.specs.Limits.{highestVersion}
 use Rattle.bounded.specs.Choice.{on-eq, never, both-left, both-right}
 use Rattle.bounded.specs.BelowLaws.{some-not-at}
 use Rattle.bounded.specs.Parts.{putPart}
 use Rattle.bounded.specs.PartsLaws.{part-inside}
-use Rattle.outcome.specs.Outcome.{_⇒_otherwise_, passed}
+use Rattle.outcome.specs.Outcome.{passed, held}
 use Rattle.record.specs.declared.Record.{Record}
-use Rattle.record.specs.Slot.{slotAt, wordsOf, plannedRecord}
+use Rattle.record.specs.Slot.{slotAt, wordsOf, plannedRecord, isBlank}
 use Rattle.record.specs.Flash.{apply, putSlot}
 use Rattle.state.specs.declared.PageState.{PageState}
-use Rattle.state.specs.State.{stateAt, stateWords, stateSound, inFlight}
+use Rattle.state.specs.State.{stateAt, stateWords, stateSound, inFlight, isWritten}
 use Rattle.state.specs.StateLaws.{state-sound-facts}
 use Rattle.state.specs.Change.{launched, withdrawn, completes, afterWrite}
 use Rattle.state.specs.Walk.{pagesIn, Walkable, Launchable}
 use Rattle.state.specs.WalkLaws.{pages-in}
 use Rattle.table.specs.Table.{tableSound}
 use Rattle.volume.specs.Volume.{Volume, volume, volumeFits, sizesOk, stateFits, listOk}
-use Rattle.volume.specs.SizesLaws.{fits-facts, state-fits-exactly}
+use Rattle.volume.specs.SizesLaws.{Fits, fits-facts, state-fits-exactly}
 use Rattle.volume.specs.ListLaws.{Listed, list-facts}
 use Rattle.transact.specs.Launch.{somePage, usedUp, launchAnswer}
 use Rattle.transact.specs.Write.{planOf, writeAnswer, writeStep, writeDone, writeChange}
 use Rattle.transact.specs.Withdraw.{withdrawAnswer}
 
--- where 0 is returned, a test whose failure refuses has passed
-held : (b : Bool) (n rest : ℕ) → (not b ⇒ suc n otherwise rest) ≡ 0 → (b ≡ true) × (rest ≡ 0)
-held b n rest e = let a = passed (not b) n rest e in (not-false b (a .0), a .1)
+-- ---- the tests that each call passes
+
+pub record LaunchTests (P : ℕ) (state pages : List ℕ) : Type 0 where
+  pub state-sized : length state ≡ 4 * P
+  pub sound : stateSound P (stateAt state) ≡ true
+  pub listed : listOk P pages ≡ true
+  pub none-flying : somePage pages (stateAt state) inFlight ≡ false
+  pub none-used-up : somePage pages (stateAt state) usedUp ≡ false
+
+pub record WithdrawTests (P : ℕ) (state : List ℕ) (page : ℕ) : Type 0 where
+  pub state-sized : length state ≡ 4 * P
+  pub sound : stateSound P (stateAt state) ≡ true
+  pub page-below : page < P
+  pub flying : inFlight (stateAt state page) ≡ true
+
+pub record WriteTests (w P S : ℕ) (v : Volume) (page slot : ℕ) (bytes : List ℕ) : Type 0 where
+  pub fits : Fits w P S v
+  pub whole : length bytes ≡ w
+  pub sound : stateSound P (stateAt (v .state)) ≡ true
+  pub page-below : page < P
+  pub slot-below : slot < S
+  pub flying : inFlight (stateAt (v .state) page) ≡ true
+  pub unwritten : isWritten (stateAt (v .state) page) ≡ false
+  pub free : isBlank (slotAt (v .flash .words) slot) ≡ true
 
 module _ (P S : ℕ) (state : List ℕ) where
   -- the state's words are four for each of P pages
   sized : (sizesOk P S && stateFits P state) ≡ true → length state ≡ 4 * P
   sized e = state-fits-exactly P state .0 (both-right (sizesOk P S) (stateFits P state) e)
+
+  pub launch-tests : (pages : List ℕ) → launchAnswer P S state pages ≡ 0 → LaunchTests P state pages
+  unfolding launchAnswer
+  launch-tests pages z =
+      let a = held (sizesOk P S && stateFits P state) _ _ z in
+      let b = held (stateSound P (stateAt state)) _ _ (a .1) in
+      let c = held (listOk P pages) _ _ (b .1) in
+      let d = passed (somePage pages (stateAt state) inFlight) _ _ (c .1) in
+      let f = passed (somePage pages (stateAt state) usedUp) _ _ (d .1) in
+      record { state-sized = sized (a .0); sound = b .0; listed = c .0; none-flying = d .0; none-used-up = f .0 }
+
+  pub withdraw-tests : (page : ℕ) → withdrawAnswer P S state page ≡ 0 → WithdrawTests P state page
+  unfolding withdrawAnswer
+  withdraw-tests page z =
+      let a = held (sizesOk P S && stateFits P state) _ _ z in
+      let b = held (stateSound P (stateAt state)) _ _ (a .1) in
+      let c = held (ltb page P) _ _ (b .1) in
+      let d = held (inFlight (stateAt state page)) _ _ (c .1) in
+      record { state-sized = sized (a .0); sound = b .0; page-below = ltb-true page P (c .0); flying = d .0 }
+
+pub write-tests : (w P S : ℕ) (v : Volume) (page slot : ℕ) (bytes : List ℕ) → writeAnswer w P S v page slot bytes ≡ 0 → WriteTests w P S v page slot bytes
+unfolding writeAnswer
+write-tests w P S v page slot bytes z =
+    let a = held (volumeFits w P S v && eqb (length bytes) w) _ _ z in
+    let b = held (tableSound P S (slotAt (v .flash .words))) _ _ (a .1) in
+    let c = held (stateSound P (stateAt (v .state))) _ _ (b .1) in
+    let d = held (ltb page P && ltb slot S) _ _ (c .1) in
+    let f = held (inFlight (stateAt (v .state) page)) _ _ (d .1) in
+    let g = passed (isWritten (stateAt (v .state) page)) _ _ (f .1) in
+    let h = held (isBlank (slotAt (v .flash .words) slot)) _ _ (g .1) in
+    record {
+      fits = fits-facts w P S v (both-left (volumeFits w P S v) (eqb (length bytes) w) (a .0));
+      whole = eqb-true (length bytes) w (both-right (volumeFits w P S v) (eqb (length bytes) w) (a .0));
+      sound = c .0;
+      page-below = ltb-true page P (both-left (ltb page P) (ltb slot S) (d .0));
+      slot-below = ltb-true slot S (both-right (ltb page P) (ltb slot S) (d .0));
+      flying = f .0;
+      unwritten = g .0;
+      free = h .0;
+    }
 
 -- the tests of a list of pages and of the state's words, for the pages that these words are of
 pub listed-pages : (P : ℕ) (state pages : List ℕ) → stateFits P state ≡ true → listOk P pages ≡ true → Listed (pagesIn state) pages
@@ -73,19 +134,14 @@ module _ (P S : ℕ) (state pages : List ℕ) where
       }
 
   pub launch-accepted : launchAnswer P S state pages ≡ 0 → Launches P state pages
-  unfolding launchAnswer
   launch-accepted z =
-      let a = held (sizesOk P S && stateFits P state) _ _ z in
-      let b = held (stateSound P (stateAt state)) _ _ (a .1) in
-      let c = held (listOk P pages) _ _ (b .1) in
-      let d = passed (somePage pages (stateAt state) inFlight) _ _ (c .1) in
-      let f = passed (somePage pages (stateAt state) usedUp) _ _ (d .1) in
-      let e = sized P S state (a .0) in
-      let q = pages-in P state e in
+      let t = launch-tests P S state pages z in
+      let q = pages-in P state (t .state-sized) in
       record {
         all-pages = q;
-        sized = subst (λ (n : ℕ). length state ≡ 4 * n) (sym q) e;
-        launchable = subst (λ (n : ℕ). Launchable n (stateAt state) pages) (sym q) (launchable-of (b .0) (list-facts P pages (c .0)) (d .0) (f .0));
+        sized = subst (λ (n : ℕ). length state ≡ 4 * n) (sym q) (t .state-sized);
+        launchable =
+            subst (λ (n : ℕ). Launchable n (stateAt state) pages) (sym q) (launchable-of (t .sound) (list-facts P pages (t .listed)) (t .none-flying) (t .none-used-up));
       }
 
   pub launch-leaves : launchAnswer P S state pages ≡ 0 → stateWords (pagesIn state) (launched pages (stateAt state)) ≡ stateWords P (launched pages (stateAt state))
@@ -94,20 +150,13 @@ module _ (P S : ℕ) (state pages : List ℕ) where
 -- ---- withdraw
 
 module _ (P S : ℕ) (state : List ℕ) (page : ℕ) where
-  withdraw-tests : withdrawAnswer P S state page ≡ 0 → (length state ≡ 4 * P) × (stateSound P (stateAt state) ≡ true) × (page < P) × (inFlight (stateAt state page) ≡ true)
-  unfolding withdrawAnswer
-  withdraw-tests z =
-      let a = held (sizesOk P S && stateFits P state) _ _ z in
-      let b = held (stateSound P (stateAt state)) _ _ (a .1) in
-      let c = held (ltb page P) _ _ (b .1) in
-      let d = held (inFlight (stateAt state page)) _ _ (c .1) in
-      (sized P S state (a .0), b .0, ltb-true page P (c .0), d .0)
-
   pub withdraw-accepted : withdrawAnswer P S state page ≡ 0 → Walkable (pagesIn state) state page
-  withdraw-accepted z = let t = withdraw-tests z in walkable-pages P state page (t .0) (t .1) (t .2) (t .3)
+  withdraw-accepted z =
+      let t = withdraw-tests P S state page z in
+      walkable-pages P state page (t .state-sized) (t .sound) (t .page-below) (t .flying)
 
   pub withdraw-leaves : withdrawAnswer P S state page ≡ 0 → stateWords (pagesIn state) (withdrawn (pagesIn state) (stateAt state) page) ≡ stateWords P (withdrawn P (stateAt state) page)
-  withdraw-leaves z = ap (λ (n : ℕ). stateWords n (withdrawn n (stateAt state) page)) (pages-in P state (withdraw-tests z .0))
+  withdraw-leaves z = ap (λ (n : ℕ). stateWords n (withdrawn n (stateAt state) page)) (pages-in P state (withdraw-tests P S state page z .state-sized))
 
 -- ---- write
 
@@ -126,26 +175,17 @@ pub record Writes (w P S : ℕ) (v : Volume) (page slot : ℕ) (bytes : List ℕ
 
 module _ (w P S : ℕ) (v : Volume) (page slot : ℕ) (bytes : List ℕ) where
   pub write-accepted : writeAnswer w P S v page slot bytes ≡ 0 → Writes w P S v page slot bytes
-  unfolding writeAnswer
   write-accepted z =
-      let a = held (volumeFits w P S v && eqb (length bytes) w) _ _ z in
-      let b = held (tableSound P S (slotAt (v .flash .words))) _ _ (a .1) in
-      let c = held (stateSound P (stateAt (v .state))) _ _ (b .1) in
-      let d = held (ltb page P && ltb slot S) _ _ (c .1) in
-      let f = held (inFlight (stateAt (v .state) page)) _ _ (d .1) in
-      let fits = fits-facts w P S v (both-left (volumeFits w P S v) (eqb (length bytes) w) (a .0)) in
-      let e : length bytes ≡ w = eqb-true (length bytes) w (both-right (volumeFits w P S v) (eqb (length bytes) w) (a .0)) in
-      let page-below = ltb-true page P (both-left (ltb page P) (ltb slot S) (d .0)) in
-      let slot-below = ltb-true slot S (both-right (ltb page P) (ltb slot S) (d .0)) in
-      let words-sized = fits .flash-sized .words-sized in
-      let contents-sized = fits .flash-sized .contents-sized in
-      let inside = part-inside w S slot slot-below in
+      let t = write-tests w P S v page slot bytes z in
+      let words-sized = t .fits .flash-sized .words-sized in
+      let contents-sized = t .fits .flash-sized .contents-sized in
+      let inside = part-inside w S slot (t .slot-below) in
       record {
-        all-pages = pages-in P (v .state) (fits .state-sized);
-        walkable = walkable-pages P (v .state) page (fits .state-sized) (c .0) page-below (f .0);
-        bytes-sized = e;
-        words-in = omega arith;
-        contents-in = rw e (omega arith);
+        all-pages = pages-in P (v .state) (t .fits .state-sized);
+        walkable = walkable-pages P (v .state) page (t .fits .state-sized) (t .sound) (t .page-below) (t .flying);
+        bytes-sized = t .whole;
+        words-in = let k = t .slot-below in omega arith;
+        contents-in = rw (t .whole) (omega arith);
       }
 
   module _ (z : writeAnswer w P S v page slot bytes ≡ 0) where
