@@ -4,13 +4,13 @@ use native.Mathlib.Omega.{arith}
 use native.Mathlib.Numerals.{add-one}
 use mathlib.Core.Path.{_≡_, refl, sym, ap, _∙_}
 use mathlib.Core.List.{List, _++_, append-nil, append-assoc}
-use mathlib.Core.Bool.{not, _&&_}
+use mathlib.Core.Bool.{_&&_}
 use lib.Dec.{ltb, eqb}
 use lib.ListN.{length, replicate}
-use borrow.Author.Tests.{eq-eqb, ne-eqb, ltb-true, not-false}
+use borrow.Author.Tests.{eq-eqb, ne-eqb, ltb-true}
 use Rattle.bounded.specs.Choice.{on-eq, on-lt, both-left}
 use Rattle.bounded.specs.Parts.{joinFrom, joinParts}
-use Rattle.outcome.specs.Outcome.{passed, settled-answer}
+use Rattle.outcome.specs.Outcome.{held, settled-answer}
 use Rattle.record.specs.Slot.{slotAt, bytesAt}
 use Rattle.state.specs.State.{stateAt, stateSound}
 use Rattle.table.specs.Table.{tableSound}
@@ -78,12 +78,12 @@ module _ (w P S : ℕ) (v : Volume) where
   unfolding pageRead readOutcome readAnswer
   readable page e =
       let out : List ℕ = replicate w 0 in
-      let a = passed (not (volumeFits w P S v && eqb (length out) w)) _ _ (sym (settled-answer (readAnswer w P S v page out) 0 0 out (bytesAt w (v .flash .contents) (readSlot S v page))) ∙ e) in
-      let b = passed (not (tableSound P S (slotAt (v .flash .words)))) _ _ (a .1) in
-      let c = passed (not (stateSound P (stateAt (v .state)))) _ _ (b .1) in
-      let d = passed (not (ltb page P)) _ _ (c .1) in
-      let f = fits-facts w P S v (both-left (volumeFits w P S v) (eqb (length out) w) (not-false (volumeFits w P S v && eqb (length out) w) (a .0))) in
-      let below = ltb-true page P (not-false (ltb page P) (d .0)) in
+      let a = held (volumeFits w P S v && eqb (length out) w) _ _ (sym (settled-answer (readAnswer w P S v page out) 0 0 out (bytesAt w (v .flash .contents) (readSlot S v page))) ∙ e) in
+      let b = held (tableSound P S (slotAt (v .flash .words))) _ _ (a .1) in
+      let c = held (stateSound P (stateAt (v .state))) _ _ (b .1) in
+      let d = held (ltb page P) _ _ (c .1) in
+      let f = fits-facts w P S v (both-left (volumeFits w P S v) (eqb (length out) w) (a .0)) in
+      let below = ltb-true page P (d .0) in
       record { table-there = omega arith; state-there = omega arith }
 
   -- A refused list is its answer; an accepted one its pages and the answer 0.

@@ -3,14 +3,14 @@ use Prim.Native.Nat.{ℕ, zero, suc, _+_, _*_, _/_, _%_, _≤_}
 use native.Mathlib.Omega.{arith}
 use mathlib.Core.Path.{_≡_, sym, _∙_}
 use mathlib.Core.List.{List, [], _∷_, _++_}
-use mathlib.Core.Bool.{Bool, true, false, cond, not}
+use mathlib.Core.Bool.{Bool, true, false, cond}
 use lib.Dec.{ltb, eqb}
 use lib.ListN.{length, take, length-append, length-take}
 use lib.Seq.{take-all}
-use borrow.Author.Tests.{not-false, eq-eqb, ne-eqb}
+use borrow.Author.Tests.{eq-eqb, ne-eqb}
 use Rattle.bounded.specs.Choice.{on-eq}
 use Rattle.bounded.specs.Parts.{joinFrom, joinParts}
-use Rattle.outcome.specs.Outcome.{Outcome, passed, settled-answer}
+use Rattle.outcome.specs.Outcome.{Outcome, held, settled-answer}
 use Rattle.volume.specs.Volume.{Volume, volumeFits}
 use Rattle.volume.specs.Format.{formatted as formattedVolume, formatAnswer, formatOutcome}
 use Rattle.volume.specs.SizesLaws.{fits-facts}
@@ -141,8 +141,8 @@ all-shown w s says out at h room =
 format-pages : (w P S : ℕ) (v : Volume) → formatOutcome w P S v .answer ≡ 0 → P ≤ 256
 unfolding formatOutcome formatAnswer
 format-pages w P S v e =
-    let a = passed (not (volumeFits w P S v)) _ _ (sym (settled-answer (formatAnswer w P S v) 0 0 v (formattedVolume w P S)) ∙ e) in
-    fits-facts w P S v (not-false (volumeFits w P S v) (a .0)) .sizes .pages-most
+    let a = held (volumeFits w P S v) _ _ (sym (settled-answer (formatAnswer w P S v) 0 0 v (formattedVolume w P S)) ∙ e) in
+    fits-facts w P S v (a .0) .sizes .pages-most
 
 line-pages : (w : ℕ) (s : Standing) (says : Said) → s .pages ≤ 256 → lineTurn w s says .leaves .pages ≤ 256
 unfolding lineTurn formatTurn formatted leaving answered doneWith cutTurn refusedTurn turnTo
