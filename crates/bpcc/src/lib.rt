@@ -3,7 +3,7 @@ ghost use mathlib.Core.Path.{_≡_};
 ghost use Rattle.bounded.specs.Limits.{width};
 ghost use Rattle.outcome.specs.Outcome.{returned};
 ghost use Rattle.outcome.specs.Row.{RowsHold};
-ghost use Rattle.collect.specs.EraseLaws.{flash};
+ghost use Rattle.record.specs.Flash.{flash};
 ghost use Rattle.bits.specs.Bits.{countOutcome};
 ghost use Rattle.volume.specs.Volume.{volume};
 ghost use Rattle.volume.specs.Format.{formatOutcome};

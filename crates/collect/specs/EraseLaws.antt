@@ -20,10 +20,6 @@ use Rattle.collect.specs.Permission.{mayEraseAll}
 use Rattle.collect.specs.Erase.{eraseAnswer, eraseSteps}
 use Rattle.collect.specs.Within.{Within, sound-within}
 
--- the flash of these two buffers
-abbrev pub flash : (words contents : List ℕ) → Flash
-flash words contents = record { words = words; contents = contents }
-
 -- every listed slot is in the words and in the contents
 pub record ListedIn (w : ℕ) (words contents list : List ℕ) : Type 0 where
   pub words-in : (i : ℕ) → i < length list → 5 * getD list i 0 + 5 ≤ length words

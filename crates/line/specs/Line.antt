@@ -77,7 +77,8 @@ unfoldable pub listed : ℕ → List ℕ → Option (List ℕ)
 listed zero list = none
 listed (suc n) list = some (take (suc n) list)
 
--- "fields stand as shown, one space between": what is behind the first field's name in each line
+-- "fields stand as shown, one space between": what each line says by what is behind its first field's name
+
 -- "op=format pages=2 slots=4"
 unfoldable pub formatMeans : List ℕ → Said
 formatMeans s =
@@ -110,12 +111,14 @@ launchMeans k s = onNumbers (numbers k s) Launch
 unfoldable pub eraseMeans : ℕ → List ℕ → Said
 eraseMeans k s = onNumbers (numbers k s) Erase
 
+-- a line without numbers
 unfoldable pub plainMeans : List ℕ → Said
 plainMeans s =
     onText (behind (bytes "op=recover") s) (λ s. atEnd s Recover) (
     onText (behind (bytes "op=cut") s) (λ s. atEnd s Cut) (
     onText (behind (bytes "op=list") s) (λ s. atEnd s Listing) Malformed))
 
+-- a line by the text that it begins with
 unfoldable pub callMeans : ℕ → List ℕ → Said
 callMeans k s =
     onText (behind (bytes "op=format pages=") s) formatMeans (

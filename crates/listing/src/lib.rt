@@ -46,7 +46,7 @@ fn read_answer(
 ) -> u32
     ensures { λ r. ⌜ r ≡ pageRead width pages slots (volume (now (words .entry)) (now (contents .entry)) (now (state .entry))) page .answer ⌝ }
 {
-    let mut bytes = [0u8; 32];
+    let mut bytes = [0u8; volume::WIDTH];
     let r = reader::read(pages, slots, words, contents, state, page, &mut bytes);
     outcome::answer_of(r)
 }
@@ -55,7 +55,7 @@ fn read_answer(
 fn drawn_of(pages: u32, slots: u32, words: &[u32], contents: &[u8], state: &[u32], page: u32) -> u32
     ensures { λ r. ⌜ r ≡ drawnOf width pages slots (volume (now (words .entry)) (now (contents .entry)) (now (state .entry))) page ⌝ }
 {
-    let mut bytes = [0u8; 32];
+    let mut bytes = [0u8; volume::WIDTH];
     reader::read(pages, slots, words, contents, state, page, &mut bytes);
     let r = bits::count(&bytes);
     outcome::second_of(r)

@@ -9,8 +9,7 @@ use lib.Seq.{take-all}
 use borrow.Rule.Slice.PartMut.{putMid, post-is}
 use Rattle.bounded.specs.Choice.{on-lt}
 use Rattle.outcome.specs.Outcome.{Outcome, returned}
-use Rattle.record.specs.Flash.{Flash}
-use Rattle.collect.specs.EraseLaws.{flash}
+use Rattle.record.specs.Flash.{Flash, flash}
 use Rattle.volume.specs.Volume.{Volume, volume}
 use Rattle.memory.specs.Memory.{inUse, stateBack, flashBack, volumeBack, leaving, lost}
 

@@ -5,7 +5,7 @@ ghost use mathlib.Core.Path.{_≡_};
 ghost use lib.ListN.{take, replicate};
 ghost use Rattle.bounded.specs.Limits.{width};
 ghost use Rattle.outcome.specs.Outcome.{returned};
-ghost use Rattle.collect.specs.EraseLaws.{flash};
+ghost use Rattle.record.specs.Flash.{flash};
 ghost use Rattle.volume.specs.Volume.{volume};
 ghost use Rattle.volume.specs.Format.{formatOutcome};
 ghost use Rattle.transact.specs.Launch.{launchOutcome};
@@ -37,7 +37,7 @@ pub fn format(
         (formatOutcome width pages slots (inUse width pages slots (volume (now (words .entry)) (now (contents .entry)) (now (state .entry))))) ⌝ }
 {
     let w = least(5 * (slots as usize), words.len());
-    let b = least(32 * (slots as usize), contents.len());
+    let b = least(volume::WIDTH * (slots as usize), contents.len());
     let s = least(4 * (pages as usize), state.len());
     volume::format(
         pages,
@@ -73,9 +73,9 @@ pub fn write(
         (writeOutcome width pages slots (inUse width pages slots (volume (now (words .entry)) (now (contents .entry)) (now (state .entry)))) page slot (replicate width fill)) ⌝ }
 {
     let w = least(5 * (slots as usize), words.len());
-    let b = least(32 * (slots as usize), contents.len());
+    let b = least(volume::WIDTH * (slots as usize), contents.len());
     let s = least(4 * (pages as usize), state.len());
-    let bytes = [fill; 32];
+    let bytes = [fill; volume::WIDTH];
     transact::write(
         pages,
         slots,
@@ -110,7 +110,7 @@ pub fn erase(
         (eraseOutcome width pages slots (inUse width pages slots (volume (now (words .entry)) (now (contents .entry)) (now (state .entry)))) (take count (now (list .entry)))) ⌝ }
 {
     let w = least(5 * (slots as usize), words.len());
-    let b = least(32 * (slots as usize), contents.len());
+    let b = least(volume::WIDTH * (slots as usize), contents.len());
     let s = least(4 * (pages as usize), state.len());
     let n = least(count, list.len());
     collect::erase(

@@ -11,6 +11,10 @@ pub record Flash : Type 0 where
   pub words : List ℕ
   pub contents : List ℕ
 
+-- the flash of these two buffers
+abbrev pub flash : (words contents : List ℕ) → Flash
+flash words contents = record { words = words; contents = contents }
+
 -- One step: slot k is stored whole, words and bytes, or blanked.
 pub data Step : Type 0 where
   Store : ℕ → Record → List ℕ → Step

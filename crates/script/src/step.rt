@@ -149,7 +149,7 @@ fn list_step(run: Run, words: &[u32], contents: &[u8], state: &[u32], out: &mut 
     ensures holds { λ s. ⌜ s .held ≡ run .held ⌝ }
 {
     let w = memory::least(5 * (run.slots as usize), words.len());
-    let b = memory::least(32 * (run.slots as usize), contents.len());
+    let b = memory::least(volume::WIDTH * (run.slots as usize), contents.len());
     let s = memory::least(4 * (run.pages as usize), state.len());
     run.printed(listing::list(
         run.pages,
@@ -162,6 +162,7 @@ fn list_step(run: Run, words: &[u32], contents: &[u8], state: &[u32], out: &mut 
     ))
 }
 
+// The line is a format.
 fn is_format(line: Line) -> bool
     ensures { λ r. ⌜ ((list : List ℕ) → r ≡ isFormat (said line list)) ⌝ }
 {

@@ -35,16 +35,17 @@ scanned value rest = record { value = value; rest = rest }
 unfoldable pub maxNumber : ℕ
 maxNumber = 4294967295
 
+-- the bytes of '0' to '9'
 unfoldable pub isDigit : ℕ → Bool
 isDigit b = leb 48 b && leb b 57
 
--- The number that has this value by its first n digits and whose further digits are at the front of s.
--- There is none without a digit, and none above the highest.
+-- The number that has this value by its n digits, with s behind it: none without a digit, and none above the highest.
 unfoldable pub endNumber : (n value : ℕ) (s : List ℕ) → Option Scanned
 unfolding maxNumber
 endNumber zero value s = none
 endNumber (suc n) value s = cond (leb value maxNumber) (some (scanned value s)) none
 
+-- the number that has this value by its first n digits, and whose further digits are at the front of s
 unfoldable pub numberFrom : (n value : ℕ) (s : List ℕ) → Option Scanned
 numberFrom n value [] = endNumber n value []
 numberFrom n value (b ∷ s) = cond (isDigit b) (numberFrom (suc n) (10 * value + (b - 48)) s) (endNumber n value (b ∷ s))

@@ -12,9 +12,6 @@ ghost use Rattle.transact.specs.Launch.{somePage, usedUp, launchAnswer, 
 ghost use Rattle.transact.specs.Write.{planOf, writeAnswer, writeOutcome};
 ghost use Rattle.transact.specs.Withdraw.{withdrawAnswer, withdrawOutcome};
 
-// Bytes of contents a slot has.
-const WIDTH: usize = 32;
-
 // "used is at most 4,294,967,294"
 const HIGHEST_VERSION: u32 = 4294967294;
 
@@ -105,10 +102,10 @@ fn write_answer(
 ) -> u32
     ensures { λ r. ⌜ r ≡ writeAnswer width pages slots (volume (now (words .entry)) (now (contents .entry)) (now (state .entry))) page slot (now (bytes .entry)) ⌝ }
 {
-    if !volume::volume_fits(WIDTH as u32, pages, slots, words, contents, state) {
+    if !volume::volume_fits(volume::WIDTH as u32, pages, slots, words, contents, state) {
         return 1;
     }
-    if bytes.len() != WIDTH {
+    if bytes.len() != volume::WIDTH {
         return 1;
     }
     if !table::table_sound(words, pages, slots) {

@@ -157,7 +157,9 @@ fn scripts_group(group: &mut Group) {
         compare_script(&None, &input);
         let start = Instant::now();
         compare_script(&program, &input);
-        format!("at least {:.0} lines a second", 200_000.0 / start.elapsed().as_secs_f32())
+        let rate = 200_000.0 / start.elapsed().as_secs_f32();
+        assert!(rate > 100_000.0, "only {rate:.0} lines a second");
+        format!("at least {rate:.0} lines a second")
     });
     if let Some(program) = &program {
         for piece in [1, 7, 100] {

@@ -5,8 +5,8 @@ use borrow.Author.Needs.{needs}
 use mathlib.Core.Path.{_≡_, refl, ap, _∙_}
 use lib.ListN.{length, getD}
 use Rattle.bounded.specs.Limits.{width}
-use Rattle.record.specs.Flash.{Flash, Step, apply}
-use Rattle.collect.specs.EraseLaws.{flash, blanked, blanked-none, blanked-more, blanked-all}
+use Rattle.record.specs.Flash.{Flash, Step, apply, flash}
+use Rattle.collect.specs.EraseLaws.{blanked, blanked-none, blanked-more, blanked-all}
 use Rattle.collect.proofs.blank_listed.Statement.{statement}
 use Rattle.collect.proofs.blank_listed.Tie as tie
 

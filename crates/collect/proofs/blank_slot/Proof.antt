@@ -1,8 +1,7 @@
 -- The words and the bytes that `put_slot` leaves are those of the step.
 use mathlib.Core.Path.{ap₂}
 use Rattle.record.specs.Slot.{blankRecord}
-use Rattle.record.specs.Flash.{putSlot, apply}
-use Rattle.collect.specs.EraseLaws.{flash}
+use Rattle.record.specs.Flash.{putSlot, apply, flash}
 use borrow.Author.Needs.{needs}
 use Rattle.collect.proofs.blank_slot.Statement.{statement}
 use Rattle.collect.proofs.blank_slot.Tie as tie

@@ -2,8 +2,7 @@ use Prim.Native.Nat.{_*_, _-_}
 use lib.ListN.{take, drop}
 use borrow.Author.Needs.{needs}
 use Rattle.bounded.specs.Limits.{width}
-use Rattle.record.specs.Flash.{Flash}
-use Rattle.collect.specs.EraseLaws.{flash}
+use Rattle.record.specs.Flash.{Flash, flash}
 use Rattle.collect.specs.Erase.{eraseOutcome}
 use Rattle.memory.specs.Memory.{inUse}
 use Rattle.memory.specs.MemoryLaws.{front-lent, flash-called}
