@@ -19,7 +19,7 @@ use Rattle.recovery.specs.RecoverLaws.{recover-fills}
 use Rattle.atomicity.specs.Call.{Call, withState, perform, plannedSteps}
 use Rattle.atomicity.specs.Run.{Event, World, isRecover, stillLost, happens, started, after, keepsTo, keepsPremises}
 use Rattle.atomicity.specs.Model.{Told, Model, freshModel, accept, closeAll, learns}
-use Rattle.atomicity.specs.Promise.{toldOfCrash, told, modelAfter, Recovers, Premises, Promise3}
+use Rattle.atomicity.specs.Promise.{toldOfCrash, told, modelAfter, Recovers, Premises, Promise3, OwnState}
 use Rattle.atomicity.specs.Invariant.{Lost, Holding, known, unknown}
 use Rattle.atomicity.specs.RecoverStep.{accepts, recovers, found-fits, found-again}
 use Rattle.atomicity.specs.CallStep.{answer-is, performs, refused-leaves, Known, accepted}
@@ -155,7 +155,18 @@ module _ (w P S : ℕ) where
 pub reached : (w P S : ℕ) (v : Volume) (events : List Event) → Premises w P S v events → Holding w P S (after w P S (started w P S v) events) (modelAfter w P S (started w P S v) (freshModel w) events)
 reached w P S v events p = list-keeps w P S (started w P S v) (freshModel w) events (starts w P S v (p .formatted)) (p .keeps)
 
+-- the state has its 4×P words after every list
+holding-sized : (w P S : ℕ) (x : World) (m : Model) → Holding w P S x m → length (x .volume .state) ≡ 4 * P
+holding-sized w P S x m (known found fits live) = fits .state-sized
+holding-sized w P S x m (unknown lost fits l) = fits .state-sized
+
 -- Promise 3, whole.
 pub promise-3 : Promise3
 promise-3 w P S v events p state long =
     holding-recovers w P S (after w P S (started w P S v) events) (modelAfter w P S (started w P S v) (freshModel w) events) (reached w P S v events p) state long
+
+-- … and on the volume's own state.
+pub own-state : OwnState
+own-state w P S v events p =
+    promise-3 w P S v events p (after w P S (started w P S v) events .volume .state)
+    (holding-sized w P S (after w P S (started w P S v) events) (modelAfter w P S (started w P S v) (freshModel w) events) (reached w P S v events p))

@@ -2,7 +2,7 @@
 use Prim.Native.Nat.{ℕ, _≤_, _<_}
 use native.Mathlib.Omega.{arith}
 use mathlib.Core.Path.{_≡_, refl, sym, ap, _∙_, subst}
-use mathlib.Core.List.{List, _∷_}
+use mathlib.Core.List.{List, [], _∷_, _++_}
 use mathlib.Core.Logic.{inl, inr}
 use mathlib.Core.Bool.{true}
 use lib.ListN.{length, getD}
@@ -36,7 +36,7 @@ module _ (w P S : ℕ) (fits : P ≤ noNumber) (f : Flash) (st : ℕ → PageSta
       (λ i b e r. sym (ap (λ (s : PageState). s .committed) (listed-is p i b e)))
       (λ e. sym (ap (λ (s : PageState). s .committed) e))
 
-  changes : StateChanges P st (launched pages st) (IsEntered (m .rings)) (IsEntered (newRing pages ∷ m .rings))
+  changes : StateChanges P st (launched pages st) (IsEntered (m .rings)) (IsEntered (m .rings ++ newRing pages ∷ []))
   unfolding launchedPage isWritten
   changes =
       record {

@@ -3,7 +3,6 @@ pub mod Call
 pub mod Run
 pub mod Model
 pub mod Promise
-pub mod NotEmpty
 pub mod Computing
 pub mod Runs
 pub mod Rings
@@ -26,4 +25,5 @@ pub mod WriteStep
 pub mod CallStep
 pub mod CrashStep
 pub mod Atomicity
+pub mod NotEmpty
 pub mod StateAgrees

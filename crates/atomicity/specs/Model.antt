@@ -1,6 +1,6 @@
 -- The reference model ("ledger"): what the history of calls says is kept. It sees neither flash nor state nor the definitions of the calls.
 use Prim.Native.Nat.{ℕ, zero, suc}
-use mathlib.Core.List.{List, [], _∷_}
+use mathlib.Core.List.{List, [], _∷_, _++_}
 use mathlib.Core.Bool.{Bool, true, false, cond, _&&_, _||_}
 use lib.Dec.{eqb}
 use lib.ListN.{replicate}
@@ -86,8 +86,8 @@ closeAll m = record { kept = m .kept; rings = [] }
 
 -- an accepted call, one clause for each bullet
 unfoldable pub accept : Model → Call → Model
--- "Launch, 0: its list is a new open ring with no bytes entered."
-accept m (Call.Launch pages) = record { kept = m .kept; rings = newRing pages ∷ m .rings }
+-- "Launch, 0: its list is a new open ring with no bytes entered." It comes behind the others.
+accept m (Call.Launch pages) = record { kept = m .kept; rings = m .rings ++ newRing pages ∷ [] }
 accept m (Call.Write page slot bytes) = enter page bytes (m .kept) (m .rings)
 accept m (Call.Withdraw page) = record { kept = m .kept; rings = closeRing page (m .rings) }
 -- "any other: nothing"

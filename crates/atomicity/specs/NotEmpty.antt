@@ -1,48 +1,112 @@
--- The premises are met: by every list without crashes, by every list that meets them with a crash or a recover behind it, and by the runs below.
+-- Promise 3 is not empty: every volume that can be formatted has runs, and what may follow a run.
 use Prim.Native.Nat.{ℕ, _*_}
-use mathlib.Core.Path.{_≡_, refl}
+use mathlib.Core.Path.{_≡_, refl, sym, _∙_}
 use mathlib.Core.List.{List, [], _∷_, _++_, map}
-use mathlib.Core.Bool.{Bool, true, false, cond}
+use mathlib.Core.Bool.{Bool, true, false, cond, not, _&&_}
+use lib.Dec.{eqb}
 use lib.ListN.{length}
 use borrow.Author.Tests.{eq-eqb}
-use Rattle.bounded.specs.Choice.{both, both-left, both-right}
-use Rattle.atomicity.specs.Call.{Call}
-use Rattle.atomicity.specs.Run.{Event, World, isRecover, stillLost, happens, after, keepsTo, keepsPremises}
+use Rattle.bounded.specs.Choice.{both, both-left, both-right, not-yes}
+use Rattle.outcome.specs.Outcome.{settled-answer}
+use Rattle.volume.specs.Volume.{Volume, volumeFits}
+use Rattle.volume.specs.SizesLaws.{Fits, fits-test}
+use Rattle.volume.specs.Format.{formatted, formatAnswer, formatOutcome}
+use Rattle.atomicity.specs.Call.{Call, withState, perform}
+use Rattle.atomicity.specs.Run.{Event, World, isRecover, stillLost, happens, started, after, keepsTo, keepsPremises}
+use Rattle.atomicity.specs.Promise.{Premises}
+use Rattle.atomicity.specs.Atomicity.{own-state}
+
+-- a list of events under the premises, with one more event behind it
+abbrev pub MayFollow : (w P S : ℕ) → Volume → List Event → Event → Type 0
+MayFollow w P S v events e = Premises w P S v (events ++ e ∷ [])
+
+-- the state is known after the list
+abbrev pub StateKnown : (w P S : ℕ) → Volume → List Event → Type 0
+StateKnown w P S v events = after w P S (started w P S v) events .lost ≡ false
+
+-- The premises are met: by every volume whose P, S and lengths are right, before any event; by every list of calls that return; and a list that meets them
+-- still does with a crash behind it, with a recover, returned or crashed, and, where the state is known, with any call, returned or crashed.
+pub record PremisesMet : Type 0 where
+  pub at-first : (w P S : ℕ) (v : Volume) → Fits w P S v → Premises w P S v []
+  pub calls : (w P S : ℕ) (v : Volume) → Fits w P S v → (list : List Call) → Premises w P S v (map Event.Returns list)
+  pub crash : (w P S : ℕ) (v : Volume) (events : List Event) → Premises w P S v events → (state : List ℕ) → length state ≡ 4 * P → MayFollow w P S v events (Event.Crash state)
+  pub recover : (w P S : ℕ) (v : Volume) (events : List Event) → Premises w P S v events → MayFollow w P S v events (Event.Returns Call.Recover)
+  pub crashed-recover :
+      (w P S : ℕ) (v : Volume) (events : List Event) → Premises w P S v events
+      → (done : ℕ → Bool) (state : List ℕ) → length state ≡ 4 * P → MayFollow w P S v events (Event.CrashIn Call.Recover done state)
+  pub call : (w P S : ℕ) (v : Volume) (events : List Event) → Premises w P S v events → StateKnown w P S v events → (c : Call) → MayFollow w P S v events (Event.Returns c)
+  pub crashed-call :
+      (w P S : ℕ) (v : Volume) (events : List Event) → Premises w P S v events → StateKnown w P S v events
+      → (c : Call) (done : ℕ → Bool) (state : List ℕ) → length state ≡ 4 * P → MayFollow w P S v events (Event.CrashIn c done state)
+  -- and behind a recover the state is known
+  pub recover-finds : (w P S : ℕ) (v : Volume) (events : List Event) → Premises w P S v events → StateKnown w P S v (events ++ Event.Returns Call.Recover ∷ [])
 
 module _ (w P S : ℕ) where
-  -- calls alone never lose the state
-  call-finds : (x : World) (call : Call) → x .lost ≡ false → happens w P S x (Event.Returns call) .lost ≡ false
+  -- ---- event by event
+
+  call-kept : (lost : Bool) (c : Call) → lost ≡ false → cond lost (isRecover c) true ≡ true
+  call-kept lost c e = rw e
+
+  recover-kept : (lost : Bool) → cond lost (isRecover Call.Recover) true ≡ true
+  unfolding isRecover
+  recover-kept true = refl
+  recover-kept false = refl
+
+  still-known : (x : World) (c : Call) → x .lost ≡ false → happens w P S x (Event.Returns c) .lost ≡ false
   unfolding happens stillLost
-  call-finds x call e = rw e
+  still-known x c e = rw e
 
-  call-kept : (x : World) (call : Call) → x .lost ≡ false → keepsTo P x (Event.Returns call) ≡ true
-  unfolding keepsTo
-  call-kept x call e = rw e
-
-  -- a list without crashes meets the premises, whatever it holds
-  pub calls-keep : (x : World) (calls : List Call) → x .lost ≡ false → keepsPremises w P S x (map Event.Returns calls) ≡ true
-  unfolding keepsPremises
-  calls-keep x [] e = refl
-  calls-keep x (c ∷ calls) e = both (call-kept x c e) (calls-keep (happens w P S x (Event.Returns c)) calls (call-finds x c e))
-
-  -- a list that meets them, and what it leaves meets them for another
-  pub keeps-join : (x : World) (l m : List Event) → keepsPremises w P S x l ≡ true → keepsPremises w P S (after w P S x l) m ≡ true → keepsPremises w P S x (l ++ m) ≡ true
-  unfolding keepsPremises after
-  keeps-join x [] m h k = k
-  keeps-join x (e ∷ l) m h k =
-      both (both-left (keepsTo P x e) (keepsPremises w P S (happens w P S x e) l) h)
-      (keeps-join (happens w P S x e) l m (both-right (keepsTo P x e) (keepsPremises w P S (happens w P S x e) l) h) k)
-
-  -- a crash between calls may follow any list
-  pub crash-keeps : (x : World) (l : List Event) (state : List ℕ) → length state ≡ 4 * P → keepsPremises w P S x l ≡ true → keepsPremises w P S x (l ++ Event.Crash state ∷ []) ≡ true
+  -- calls alone never lose the state, so a list of them keeps to the premises
+  calls-keep : (x : World) (list : List Call) → x .lost ≡ false → keepsPremises w P S x (map Event.Returns list) ≡ true
   unfolding keepsPremises keepsTo
-  crash-keeps x l state e h = keeps-join x l (Event.Crash state ∷ []) h (both (eq-eqb (length state) (4 * P) e) refl)
+  calls-keep x [] e = refl
+  calls-keep x (c ∷ list) e = both (call-kept (x .lost) c e) (calls-keep (happens w P S x (Event.Returns c)) list (still-known x c e))
 
-  -- and so may a recover
-  pub recover-keeps : (x : World) (l : List Event) → keepsPremises w P S x l ≡ true → keepsPremises w P S x (l ++ Event.Returns Call.Recover ∷ []) ≡ true
-  unfolding keepsPremises keepsTo isRecover
-  recover-keeps x l h = keeps-join x l (Event.Returns Call.Recover ∷ []) h (both (by (after w P S x l .lost)) refl)
-    where
-      by : (lost : Bool) → cond lost true true ≡ true
-      by true = refl
-      by false = refl
+  -- an event behind a list that keeps to them
+  keeps-more : (x : World) (l : List Event) (e : Event) → keepsPremises w P S x l ≡ true → keepsTo P (after w P S x l) e ≡ true → keepsPremises w P S x (l ++ e ∷ []) ≡ true
+  unfolding keepsPremises after
+  keeps-more x [] e h k = both k refl
+  keeps-more x (f ∷ l) e h k =
+      both (both-left (keepsTo P x f) (keepsPremises w P S (happens w P S x f) l) h)
+      (keeps-more (happens w P S x f) l e (both-right (keepsTo P x f) (keepsPremises w P S (happens w P S x f) l) h) k)
+
+  after-more : (x : World) (l : List Event) (e : Event) → after w P S x (l ++ e ∷ []) ≡ happens w P S (after w P S x l) e
+  unfolding after
+  after-more x [] e = refl
+  after-more x (f ∷ l) e = after-more (happens w P S x f) l e
+
+  module _ (v : Volume) where
+    follows : (events : List Event) (e : Event) → Premises w P S v events → keepsTo P (after w P S (started w P S v) events) e ≡ true → MayFollow w P S v events e
+    follows events e p k = record { formatted = p .formatted; keeps = keeps-more (started w P S v) events e (p .keeps) k }
+
+    -- a volume whose P, S and lengths are right formats
+    formats : Fits w P S v → formatOutcome w P S v .answer ≡ 0
+    unfolding formatOutcome formatAnswer
+    formats f = settled-answer (formatAnswer w P S v) 0 0 v (formatted w P S) ∙ rw (not-yes (fits-test w P S v f))
+
+  known-again : (lost : Bool) (answer : ℕ) → answer ≡ 0 → stillLost lost Call.Recover answer ≡ false
+  unfolding stillLost isRecover
+  known-again true answer e = rw e
+  known-again false answer e = refl
+
+  finds : (v : Volume) (events : List Event) → Premises w P S v events → StateKnown w P S v (events ++ Event.Returns Call.Recover ∷ [])
+  unfolding happens perform withState
+  finds v events p =
+      rw (after-more (started w P S v) events (Event.Returns Call.Recover))
+      (known-again (after w P S (started w P S v) events .lost) _ (own-state w P S v events p .recover-answers))
+
+pub premises-met : PremisesMet
+unfolding keepsTo keepsPremises started
+premises-met =
+    record {
+      at-first = λ w P S v f. record { formatted = formats w P S v f; keeps = refl };
+      calls = λ w P S v f list. record { formatted = formats w P S v f; keeps = calls-keep w P S (started w P S v) list refl };
+      crash = λ w P S v events p state e. follows w P S v events (Event.Crash state) p (eq-eqb (length state) (4 * P) e);
+      recover = λ w P S v events p. follows w P S v events (Event.Returns Call.Recover) p (recover-kept w P S (after w P S (started w P S v) events .lost));
+      crashed-recover = λ w P S v events p done state e. follows w P S v events (Event.CrashIn Call.Recover done state) p
+          (both (recover-kept w P S (after w P S (started w P S v) events .lost)) (eq-eqb (length state) (4 * P) e));
+      call = λ w P S v events p k c. follows w P S v events (Event.Returns c) p (call-kept w P S (after w P S (started w P S v) events .lost) c k);
+      crashed-call = λ w P S v events p k c done state e. follows w P S v events (Event.CrashIn c done state) p
+          (both (call-kept w P S (after w P S (started w P S v) events .lost) c k) (eq-eqb (length state) (4 * P) e));
+      recover-finds = λ w P S v events p. finds w P S v events p;
+    }

@@ -60,3 +60,10 @@ Promise3 =
     → (state : List ℕ)
     → length state ≡ 4 * P
     → Recovers w P S (after w P S (started w P S v) events .volume .flash) (modelAfter w P S (started w P S v) (freshModel w) events .kept) state
+
+-- The same of the volume's own state, as the list left it: it has its 4×P words, so recover answers 0 on it too.
+abbrev pub OwnState : Type 0
+OwnState =
+    (w P S : ℕ) (v : Volume) (events : List Event)
+    → Premises w P S v events
+    → Recovers w P S (after w P S (started w P S v) events .volume .flash) (modelAfter w P S (started w P S v) (freshModel w) events .kept) (after w P S (started w P S v) events .volume .state)

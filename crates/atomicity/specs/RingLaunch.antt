@@ -3,13 +3,13 @@ use Prim.Native.Nat.{ℕ, suc, _≤_, _<_}
 use native.Mathlib.Omega.{arith}
 use mathlib.Core.Path.{_≡_, refl, sym, ap, _∙_, subst}
 use mathlib.Core.Logic.{inl, inr, _↔_}
-use mathlib.Core.List.{List, [], _∷_, List·Memᴰ, List·Memᴰ·tail, List·Memᴰ·not-nil, List·Memᴰ·cases-cons}
+use mathlib.Core.List.{List, [], _∷_, _++_, List·Memᴰ, List·Memᴰ·not-nil, List·Memᴰ·cases-cons}
 use mathlib.Core.Bool.{true, false, not, _&&_}
 use lib.Dec.{ltb, leb, eqb}
 use lib.ListN.{length, getD}
 use borrow.Author.Tests.{ltb-true, leb-true, eqb-false, lt-ltb, le-ltb, not-true}
 use Rattle.bounded.specs.Limits.{noNumber, highestVersion}
-use Rattle.bounded.specs.Choice.{on-lt, on-test, never, both-left, both-right, either-left, either-right}
+use Rattle.bounded.specs.Choice.{on-lt, on-test, never, both-left, both-right}
 use Rattle.bounded.specs.Below.{allBelow}
 use Rattle.bounded.specs.BelowLaws.{all-at, some-not-at}
 use Rattle.state.specs.declared.PageState.{PageState}
@@ -22,7 +22,7 @@ use Rattle.volume.specs.Volume.{noRepeats, inRange, listOk}
 use Rattle.transact.specs.Launch.{somePage, usedUp}
 use Rattle.atomicity.specs.Model.{Entry, pageOf, hasBytes, inRing, newRing}
 use Rattle.atomicity.specs.Rings.{pagesOf, inRings, IsEntered, RunsRound, RingMatches, Apart, RingsMatch}
-use Rattle.atomicity.specs.RingLaws.{in-ring-place, place-in-ring}
+use Rattle.atomicity.specs.RingLaws.{in-ring-place, place-in-ring, ring-before, before-or-last, in-rings-before, in-rings-last, apart-last}
 use Rattle.atomicity.specs.RingCycle.{following-place, ring-same, ring-flies, rings-fly}
 
 -- ---- a launch that is accepted
@@ -143,20 +143,19 @@ module _ (P : ℕ) (st : ℕ → PageState) (pages : List ℕ) (ok : Launchable 
           (λ i. absurd (never (rings-fly P st rings match p i .flies) (ap (λ (x : ℕ). inFlight (st x)) (sym h) ∙ ok .resting (w .0) l)))
           (λ i. i)
 
-      pub launch-match : RingsMatch P (launched pages st) (newRing pages ∷ rings)
-      unfolding inRings
+      pub launch-match : RingsMatch P (launched pages st) (rings ++ newRing pages ∷ [])
       launch-match = record {
-        each = λ ring m. elim (List·Memᴰ·cases-cons m) [
-          | inl e ↦ subst (λ (r : List Entry). RingMatches P (launched pages st) r) (sym e) new-ring-matches
-          | inr t ↦ ring-same P st (launched pages st) ring
+        each = λ ring m. elim (before-or-last (newRing pages) ring rings m) [
+          | inl t ↦ ring-same P st (launched pages st) ring
               (λ p e. launched-flying p (ring-flies P st ring (match .each ring t .runs) p e .flies))
               (match .each ring t)
+          | inr e ↦ subst (λ (r : List Entry). RingMatches P (launched pages st) r) (sym e) new-ring-matches
         ];
-        apart = Apart.more new-apart (match .apart);
+        apart = apart-last (newRing pages) rings new-apart (match .apart);
         covered = λ p f. launched-cases p
-            (λ i l h r. either-left (inRings p rings)
+            (λ i l h r. in-rings-last (newRing pages) p rings
             (place-in-ring p (newRing pages) i (subst (λ (x : List ℕ). i < length x) (sym (pages-new pages)) l) (subst (λ (x : List ℕ). getD x i 0 ≡ p) (sym (pages-new pages)) h)))
-            (λ h. either-right (inRing p (newRing pages)) (match .covered p (record { below = f .below; flies = ap inFlight (sym h) ∙ f .flies })));
+            (λ h. in-rings-before (newRing pages) p rings (match .covered p (record { below = f .below; flies = ap inFlight (sym h) ∙ f .flies })));
       }
 
 -- … by the tests of an accepted launch
@@ -168,16 +167,16 @@ pub launch-accepted-match :
     → somePage pages st inFlight ≡ false
     → somePage pages st usedUp ≡ false
     → RingsMatch P st rings
-    → RingsMatch P (launched pages st) (newRing pages ∷ rings)
+    → RingsMatch P (launched pages st) (rings ++ newRing pages ∷ [])
 launch-accepted-match P st pages rings fits sound ok rest left match =
     launch-match P st pages (listed-launchable P st pages sound ok rest left) (listed-some P pages ok) fits rings match
 
 -- what is entered stays
-pub launch-entered : (pages : List ℕ) (rings : List (List Entry)) (p : ℕ) (b : List ℕ) → IsEntered (newRing pages ∷ rings) p b ↔ IsEntered rings p b
-launch-entered pages rings p b = (back, λ w. (w .0, List·Memᴰ·tail (w .1), w .2))
+pub launch-entered : (pages : List ℕ) (rings : List (List Entry)) (p : ℕ) (b : List ℕ) → IsEntered (rings ++ newRing pages ∷ []) p b ↔ IsEntered rings p b
+launch-entered pages rings p b = (back, λ w. (w .0, ring-before (newRing pages) (w .0) rings (w .1), w .2))
   where
-    back : IsEntered (newRing pages ∷ rings) p b → IsEntered rings p b
-    back w = elim (List·Memᴰ·cases-cons (w .1)) [
-      | inl e ↦ absurd (new-not-entered pages p b (subst (λ (r : List Entry). List·Memᴰ (Entry.Entered p b) r) e (w .2)))
-      | inr m ↦ (w .0, m, w .2)
+    back : IsEntered (rings ++ newRing pages ∷ []) p b → IsEntered rings p b
+    back w = elim (before-or-last (newRing pages) (w .0) rings (w .1)) [
+      | inl m ↦ (w .0, m, w .2)
+      | inr e ↦ absurd (new-not-entered pages p b (subst (λ (r : List Entry). List·Memᴰ (Entry.Entered p b) r) e (w .2)))
     ]

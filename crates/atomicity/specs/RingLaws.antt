@@ -2,13 +2,13 @@
 use Prim.Native.Nat.{ℕ, zero, suc, _<_}
 use native.Mathlib.Omega.{arith}
 use mathlib.Core.Path.{_≡_, refl, sym, ap, _∙_, subst}
-use mathlib.Core.Logic.{inl, inr}
-use mathlib.Core.List.{List, [], _∷_, List·Memᴰ, List·Memᴰ·head, List·Memᴰ·tail, List·Memᴰ·cases-cons}
+use mathlib.Core.Logic.{_⊎_, inl, inr}
+use mathlib.Core.List.{List, [], _∷_, _++_, List·Memᴰ, List·Memᴰ·head, List·Memᴰ·tail, List·Memᴰ·not-nil, List·Memᴰ·cases-cons}
 use mathlib.Core.Bool.{true, false}
 use lib.Dec.{eqb}
 use lib.ListN.{length, getD}
 use borrow.Author.Tests.{eqb-true, eq-eqb}
-use Rattle.bounded.specs.Choice.{on-test, never, both, both-left, both-right, either, either-left, either-right}
+use Rattle.bounded.specs.Choice.{on-test, never, both, both-left, both-right, either, either-left, either-right, neither-left, neither-right}
 use Rattle.atomicity.specs.Model.{Entry, pageOf, hasBytes, inRing, allEntered, closeRing}
 use Rattle.atomicity.specs.Rings.{pagesOf, inRings, ringOf, IsEntered, NoRepeats, Apart}
 
@@ -93,6 +93,48 @@ pub all-entered-of : (ring : List Entry) → ((e : Entry) → List·Memᴰ e rin
 unfolding allEntered
 all-entered-of [] h = refl
 all-entered-of (x ∷ ring) h = both (h x (List·Memᴰ·head refl)) (all-entered-of ring (λ e m. h e (List·Memᴰ·tail m)))
+
+-- ---- a ring behind others
+
+module _ (last : List Entry) where
+  pub ring-before : (ring : List Entry) (rings : List (List Entry)) → List·Memᴰ ring rings → List·Memᴰ ring (rings ++ last ∷ [])
+  ring-before ring rings (List·Memᴰ·head {x = r} {xs = rs} h) = List·Memᴰ·head h
+  ring-before ring rings (List·Memᴰ·tail {x = r} {xs = rs} m) = List·Memᴰ·tail (ring-before ring rs m)
+
+  pub before-or-last : (ring : List Entry) (rings : List (List Entry)) → List·Memᴰ ring (rings ++ last ∷ []) → List·Memᴰ ring rings ⊎ (ring ≡ last)
+  before-or-last ring [] m = elim (List·Memᴰ·cases-cons m) [ inl e ↦ inr e | inr t ↦ absurd (List·Memᴰ·not-nil t) ]
+  before-or-last ring (r ∷ rings) m = elim (List·Memᴰ·cases-cons m) [
+    | inl e ↦ inl (List·Memᴰ·head e)
+    | inr t ↦ elim (before-or-last ring rings t) [ inl u ↦ inl (List·Memᴰ·tail u) | inr e ↦ inr e ]
+  ]
+
+  pub in-rings-before : (p : ℕ) (rings : List (List Entry)) → inRings p rings ≡ true → inRings p (rings ++ last ∷ []) ≡ true
+  unfolding inRings
+  in-rings-before p [] e = absurd (never e refl)
+  in-rings-before p (r ∷ rings) e =
+      on-test (inRing p r)
+      (λ h. either-left (inRings p (rings ++ last ∷ [])) h)
+      (λ h. either-right (inRing p r) (in-rings-before p rings (rw h at e)))
+
+  pub in-rings-last : (p : ℕ) (rings : List (List Entry)) → inRing p last ≡ true → inRings p (rings ++ last ∷ []) ≡ true
+  unfolding inRings
+  in-rings-last p [] e = either-left false e
+  in-rings-last p (r ∷ rings) e = either-right (inRing p r) (in-rings-last p rings e)
+
+  not-in-rings : (p : ℕ) (rings : List (List Entry)) → inRings p rings ≡ false → inRing p last ≡ false → inRings p (rings ++ last ∷ []) ≡ false
+  unfolding inRings
+  not-in-rings p [] e h = rw h
+  not-in-rings p (r ∷ rings) e h =
+      rw (neither-left (inRing p r) (inRings p rings) e, not-in-rings p rings (neither-right (inRing p r) (inRings p rings) e) h)
+
+  -- a ring none of whose pages stands in the others is apart from them
+  pub apart-last : (rings : List (List Entry)) → ((p : ℕ) → inRing p last ≡ true → inRings p rings ≡ false) → Apart rings → Apart (rings ++ last ∷ [])
+  unfolding inRings
+  apart-last rings new Apart.none = Apart.more (λ p e. refl) Apart.none
+  apart-last rings new (Apart.more {ring = r} {rings = rs} a rest) =
+      Apart.more
+      (λ p e. not-in-rings p rs (a p e) (on-test (inRing p last) (λ h. absurd (never e (neither-left (inRing p r) (inRings p rs) (new p h)))) (λ h. h)))
+      (apart-last rs (λ p h. neither-right (inRing p r) (inRings p rs) (new p h)) rest)
 
 -- ---- the ring of a page
 

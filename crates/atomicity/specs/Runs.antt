@@ -1,4 +1,4 @@
--- Runs that meet the premises and end in contents that are not the formatted zeros, computed.
+-- Two runs that meet the premises and end in contents that are not the formatted zeros, computed.
 use Prim.Native.Nat.{ℕ}
 use mathlib.Core.Path.{_≡_, refl}
 use mathlib.Core.List.{List, [], _∷_}
@@ -68,23 +68,21 @@ keptAfter events = let m = modelAfter 1 2 5 (started 1 2 5 blankBuffers) (freshM
 unfoldable pub wordsAfter : List Event → List ℕ
 wordsAfter events = after 1 2 5 (started 1 2 5 blankBuffers) events .volume .flash .words
 
-pub completed-meets : Premises 1 2 5 blankBuffers runCompleted
-unfolding blankBuffers runCompleted lostState every none computing
-completed-meets = record { formatted = refl; keeps = refl }
+-- What is computed of them. The crashed erasure blanked slot 2 and not slot 0, and neither crashed write stored its slot.
+pub record RunsComputed : Type 0 where
+  pub completed-meets : Premises 1 2 5 blankBuffers runCompleted
+  pub completed-keeps : keptAfter runCompleted ≡ (5 ∷ []) ∷ (6 ∷ []) ∷ []
+  pub erased-meets : Premises 1 2 5 blankBuffers runErased
+  pub erased-keeps : keptAfter runErased ≡ (6 ∷ []) ∷ (0 ∷ []) ∷ []
+  pub erased-leaves : wordsAfter runErased ≡ tableOf 5 (given 0 0 0 0 0 ∷ given 1 0 0 1 0 ∷ blankRecord ∷ given 0 2 1 0 2 ∷ [])
 
-pub completed-keeps : keptAfter runCompleted ≡ (5 ∷ []) ∷ (6 ∷ []) ∷ []
-unfolding keptAfter blankBuffers runCompleted lostState every none computing
-completed-keeps = refl
-
-pub erased-meets : Premises 1 2 5 blankBuffers runErased
-unfolding blankBuffers runErased lostState every none computing
-erased-meets = record { formatted = refl; keeps = refl }
-
-pub erased-keeps : keptAfter runErased ≡ (6 ∷ []) ∷ (0 ∷ []) ∷ []
-unfolding keptAfter blankBuffers runErased lostState every none computing
-erased-keeps = refl
-
--- the crashed erasure blanked slot 2 and not slot 0, and neither crashed write stored its slot
-pub erased-leaves : wordsAfter runErased ≡ tableOf 5 (given 0 0 0 0 0 ∷ given 1 0 0 1 0 ∷ blankRecord ∷ given 0 2 1 0 2 ∷ [])
-unfolding wordsAfter blankBuffers runErased lostState every none computing
-erased-leaves = refl
+pub runs-computed : RunsComputed
+unfolding keptAfter wordsAfter blankBuffers runCompleted runErased lostState every none computing
+runs-computed =
+    record {
+      completed-meets = record { formatted = refl; keeps = refl };
+      completed-keeps = refl;
+      erased-meets = record { formatted = refl; keeps = refl };
+      erased-keeps = refl;
+      erased-leaves = refl;
+    }

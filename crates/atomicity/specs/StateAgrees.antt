@@ -1,5 +1,5 @@
--- The paper's InvComm and InvUsed: after every list whose state is known, recovery's committed versions are the state's, and no version is mentioned
--- above the state's used one.
+-- The paper's InvComm and InvUsed: after every list whose state is known, recovery's committed versions are the state's, and no version that a written
+-- or planned record mentions is above the state's used one.
 use Prim.Native.Nat.{ℕ, _≤_, _<_}
 use native.Mathlib.Omega.{arith}
 use mathlib.Core.Path.{_≡_, refl, subst}
@@ -9,12 +9,14 @@ use lib.Dec.{eqb}
 use borrow.Author.Tests.{eqb-true}
 use Rattle.bounded.specs.Choice.{never}
 use Rattle.bounded.specs.BelowLaws.{max-bound}
+use Rattle.record.specs.declared.Record.{Record}
 use Rattle.record.specs.declared.Slot.{Slot}
 use Rattle.record.specs.declared.Slot.the-variants.{Blank, Holds}
 use Rattle.record.specs.Slot.{slotAt, bytesAt}
 use Rattle.state.specs.declared.PageState.{PageState}
-use Rattle.state.specs.State.{stateAt}
+use Rattle.state.specs.State.{stateAt, inFlight}
 use Rattle.volume.specs.Volume.{Volume}
+use Rattle.transact.specs.Write.{planOf}
 use Rattle.recovery.specs.Recover.{committedOf, mentioned, usedOf}
 use Rattle.protocol.specs.Recovers.{committed-found}
 use Rattle.atomicity.specs.Run.{Event, started, after}
@@ -27,13 +29,25 @@ use Rattle.atomicity.specs.Atomicity.{reached}
 pub record Agrees (P S : ℕ) (v : Volume) : Type 0 where
   pub same-committed : (p : ℕ) → p < P → committedOf P S (slotAt (v .flash .words)) p ≡ stateAt (v .state) p .committed
   pub used-covers : (p : ℕ) → p < P → usedOf S (slotAt (v .flash .words)) p ≤ stateAt (v .state) p .used
+  -- … nor does the record planned for a page q in flight mention one above them
+  pub planned-covers :
+      (q : ℕ) → q < P → inFlight (stateAt (v .state) q) ≡ true → (p : ℕ) → p < P → mentioned p (Holds (planOf (stateAt (v .state)) q)) ≤ stateAt (v .state) p .used
+
+-- after every list under the premises that leaves the state known
+abbrev pub StatesAgree : Type 0
+StatesAgree =
+    (w P S : ℕ) (v : Volume) (events : List Event)
+    → Premises w P S v events
+    → after w P S (started w P S v) events .lost ≡ false
+    → Agrees P S (after w P S (started w P S v) events .volume)
 
 live-agrees : (w P S : ℕ) (v : Volume) (m : Model) → Live w P S (v .flash) (stateAt (v .state)) m → Agrees P S v
-unfolding usedOf mentioned
+unfolding usedOf mentioned planOf
 live-agrees w P S v m l =
     record {
       same-committed = λ p h. committed-found (l .core) p h;
       used-covers = λ p h. max-bound (λ k. mentioned p (slotAt (v .flash .words) k)) S (stateAt (v .state) p .used) (λ k i. at p k i (slotAt (v .flash .words) k) refl);
+      planned-covers = λ q h f p i. covered p (planOf st q) (at-plan q) (next-plan q);
     }
   where
     st : ℕ → PageState
@@ -43,22 +57,26 @@ live-agrees w P S v m l =
     here true n u f = f refl
     here false n u f = omega arith
 
-    at : (p k : ℕ) → k < S → (s : Slot) → slotAt (v .flash .words) k ≡ s → mentioned p s ≤ st p .used
-    at p k i Blank e = omega arith
-    at p k i (Holds r) e =
-        let u = l .live .within-used in
-        let w1 = u .version-used r (bytesAt w (v .flash .contents) k) (k, i, e, refl) in
-        let w2 = u .link-used r (bytesAt w (v .flash .contents) k) (k, i, e, refl) in
+    -- a record whose version and link are not above their pages' used ones mentions none above
+    covered : (p : ℕ) (r : Record) → r .v ≤ st (r .p) .used → r .nv ≤ st (r .np) .used → mentioned p (Holds r) ≤ st p .used
+    covered p r w1 w2 =
         let a = here (eqb (r .p) p) (r .v) (st p .used) (λ t. subst (λ (x : ℕ). r .v ≤ st x .used) (eqb-true (r .p) p t) w1) in
         let b = here (eqb (r .np) p) (r .nv) (st p .used) (λ t. subst (λ (x : ℕ). r .nv ≤ st x .used) (eqb-true (r .np) p t) w2) in
         omega arith
 
--- after every list under the premises that leaves the state known
-pub state-agrees :
-    (w P S : ℕ) (v : Volume) (events : List Event)
-    → Premises w P S v events
-    → after w P S (started w P S v) events .lost ≡ false
-    → Agrees P S (after w P S (started w P S v) events .volume)
+    at-plan : (q : ℕ) → planOf st q .v ≤ st (planOf st q .p) .used
+    at-plan q = omega arith
+
+    next-plan : (q : ℕ) → planOf st q .nv ≤ st (planOf st q .np) .used
+    next-plan q = omega arith
+
+    at : (p k : ℕ) → k < S → (s : Slot) → slotAt (v .flash .words) k ≡ s → mentioned p s ≤ st p .used
+    at p k i Blank e = omega arith
+    at p k i (Holds r) e =
+        let u = l .live .within-used in
+        covered p r (u .version-used r (bytesAt w (v .flash .contents) k) (k, i, e, refl)) (u .link-used r (bytesAt w (v .flash .contents) k) (k, i, e, refl))
+
+pub state-agrees : StatesAgree
 state-agrees w P S v events p found = by (reached w P S v events p)
   where
     by : Holding w P S (after w P S (started w P S v) events) (modelAfter w P S (started w P S v) (freshModel w) events) → Agrees P S (after w P S (started w P S v) events .volume)

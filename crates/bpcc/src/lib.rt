@@ -16,7 +16,10 @@ ghost use Rattle.collect.specs.Erase.{eraseOutcome};
 ghost use Rattle.collect.specs.Suggest.{SuggestOutcome};
 ghost use Rattle.recovery.specs.Recover.{recoverOutcome};
 ghost use Rattle.atomicity.specs.StarCases.{starTable};
-ghost use Rattle.atomicity.specs.Promise.{Promise3};
+ghost use Rattle.atomicity.specs.Promise.{Promise3, OwnState};
+ghost use Rattle.atomicity.specs.NotEmpty.{PremisesMet};
+ghost use Rattle.atomicity.specs.StateAgrees.{StatesAgree};
+ghost use Rattle.atomicity.specs.Runs.{RunsComputed};
 
 // Format a volume.
 #[no_mangle]
@@ -130,7 +133,12 @@ pub fn star_cases()
     ensures bounds { λ _. ⌜ RowsHold boundRows ⌝ }
 {}
 
-// Promise 3, whole: one theorem over all lists of calls and crashes.
+// Promise 3, whole: one theorem over all lists of calls and crashes; that it holds of the volume's own state; the paper's two invariants; that its
+// premises are met by every volume that formats, and what may follow a list; and two runs, computed.
 pub fn promise_3()
-    ensures { λ _. ⌜ Promise3 ⌝ }
+    ensures whole { λ _. ⌜ Promise3 ⌝ }
+    ensures own { λ _. ⌜ OwnState ⌝ }
+    ensures invariants { λ _. ⌜ StatesAgree ⌝ }
+    ensures premises { λ _. ⌜ PremisesMet ⌝ }
+    ensures runs { λ _. ⌜ RunsComputed ⌝ }
 {}

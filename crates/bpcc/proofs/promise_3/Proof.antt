@@ -1,10 +1,13 @@
--- `bpcc::promise_3` meets its contract: the theorem is cited. Assumes nothing.
-use Rattle.atomicity.specs.Atomicity.{promise-3}
+-- `bpcc::promise_3` meets its contract: the theorems are cited. Assumes nothing.
+use Rattle.atomicity.specs.Runs.{runs-computed}
+use Rattle.atomicity.specs.Atomicity.{promise-3, own-state}
+use Rattle.atomicity.specs.NotEmpty.{premises-met}
+use Rattle.atomicity.specs.StateAgrees.{state-agrees}
 use Rattle.bpcc.proofs.promise_3.Statement.{statement}
 use Rattle.bpcc.proofs.promise_3.Tie as tie
 
 returns : tie.Need-returns
-returns c = promise-3
+returns c = (promise-3, (own-state, (state-agrees, (premises-met, runs-computed))))
 
 pub promise-3-spec : {M : Type 1} → statement M
 promise-3-spec = tie.close (tie.spec returns)
