@@ -1,4 +1,4 @@
--- Two runs that meet the premises and end in contents that are not the formatted zeros, computed.
+-- Runs that meet the premises, computed: two end in contents that are not the formatted zeros; in the third a ring that a recover closed stays closed.
 use Prim.Native.Nat.{ℕ}
 use mathlib.Core.Path.{_≡_, refl}
 use mathlib.Core.List.{List, [], _∷_}
@@ -60,6 +60,15 @@ runErased =
     ∷ Event.Returns Call.Recover
     ∷ []
 
+-- a ring is launched and closed by a recover; then its page is written in another ring, which stays open
+unfoldable pub runClosed : List Event
+runClosed =
+    Event.Returns (Call.Launch (0 ∷ []))
+    ∷ Event.Returns Call.Recover
+    ∷ Event.Returns (Call.Launch (1 ∷ 0 ∷ []))
+    ∷ Event.Returns (Call.Write 0 2 (5 ∷ []))
+    ∷ []
+
 -- what the reference model keeps of pages 0 and 1 after a run
 unfoldable pub keptAfter : List Event → List (List ℕ)
 keptAfter events = let m = modelAfter 1 2 5 (started 1 2 5 blankBuffers) (freshModel 1) events in m .kept 0 ∷ m .kept 1 ∷ []
@@ -75,9 +84,11 @@ pub record RunsComputed : Type 0 where
   pub erased-meets : Premises 1 2 5 blankBuffers runErased
   pub erased-keeps : keptAfter runErased ≡ (6 ∷ []) ∷ (0 ∷ []) ∷ []
   pub erased-leaves : wordsAfter runErased ≡ tableOf 5 (given 0 0 0 0 0 ∷ given 1 0 0 1 0 ∷ blankRecord ∷ given 0 2 1 0 2 ∷ [])
+  pub closed-meets : Premises 1 2 5 blankBuffers runClosed
+  pub closed-keeps : keptAfter runClosed ≡ (0 ∷ []) ∷ (0 ∷ []) ∷ []
 
 pub runs-computed : RunsComputed
-unfolding keptAfter wordsAfter blankBuffers runCompleted runErased lostState every none computing
+unfolding keptAfter wordsAfter blankBuffers runCompleted runErased runClosed lostState every none computing
 runs-computed =
     record {
       completed-meets = record { formatted = refl; keeps = refl };
@@ -85,4 +96,6 @@ runs-computed =
       erased-meets = record { formatted = refl; keeps = refl };
       erased-keeps = refl;
       erased-leaves = refl;
+      closed-meets = record { formatted = refl; keeps = refl };
+      closed-keeps = refl;
     }

@@ -189,7 +189,7 @@ fn blank_slot(words: &mut [u32], contents: &mut [u8], slot: u32)
     ensures { λ _. ⌜ flash (now (words .exit)) (now (contents .exit)) ≡ apply width (flash (now (words .entry)) (now (contents .entry))) (Step.Blank slot) ⌝ }
 {
     let ones = [255u8; volume::WIDTH];
-    record::put_slot(words, contents, slot, Record::BLANK, &ones);
+    record::flash::put_slot(words, contents, slot, Record::BLANK, &ones);
 }
 
 // "Erase a list of slots: all become blank with bytes 255; nothing else changes."

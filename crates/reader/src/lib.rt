@@ -72,7 +72,7 @@ fn copy_page(
     if slot >= slots {
         return outcome::reply(14, 0);
     }
-    record::read_slot(contents, slot, out);
+    record::flash::read_slot(contents, slot, out);
     outcome::reply(0, 0)
 }
 

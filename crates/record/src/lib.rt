@@ -1,12 +1,12 @@
-// Records and slots: the five words of a slot, what stands in one, and the one function that alters a slot.
-// The definitions are in specs/.
+// Records and slots: the five words of a slot, and what stands in one. The definitions are in specs/.
+
+pub mod flash; // flash.rt: the one function that alters a slot
+
 ghost use mathlib.Core.Path.{_≡_};
 ghost use Prim.Native.Nat.{_+_, _*_, _≤_};
-ghost use lib.ListN.{length, replicate};
-ghost use Rattle.bounded.specs.Limits.{width};
-ghost use Rattle.bounded.specs.Parts.{putPart};
+ghost use lib.ListN.{length};
 ghost use Rattle.record.specs.SlotLaws.{cBeforeV};
-ghost use Rattle.record.specs.Slot.{wordsOf, allBlank, slotOf, slotAt, bytesAt, blankRecord, formattedRecord, plannedRecord, recordSound, slotSound, isBlank, straddles};
+ghost use Rattle.record.specs.Slot.{wordsOf, allBlank, slotOf, slotAt, formattedRecord, plannedRecord, recordSound, slotSound, isBlank, straddles};
 
 // "The five words are the page p, its version v, its back pointer c (the page's last committed version at launch), the
 // next page np and its version nv."
@@ -180,63 +180,4 @@ pub fn slot_at(words: &[u32], slot: u32) -> Slot
 {
     let a = 5 * (slot as usize);
     Slot::decode(&words[a..a + 5])
-}
-
-// The record writer: the record's words into a slot's five.
-fn store_record(part: &mut [u32], record: Record)
-    requires { ⌜ length (now part) ≡ 5 ⌝ }
-    ensures { λ _. ⌜ now (part .exit) ≡ wordsOf «record» ⌝ }
-{
-    part[0] = record.p;
-    part[1] = record.v;
-    part[2] = record.c;
-    part[3] = record.np;
-    part[4] = record.nv;
-}
-
-// The contents copier: one slot's bytes, from one slice into another of the same length.
-fn copy_contents(to: &mut [u8], from: &[u8])
-    requires { ⌜ length (now to) ≡ length (now from) ⌝ }
-    ensures { λ _. ⌜ now (to .exit) ≡ now (from .entry) ⌝ }
-{
-    let mut i = 0;
-    while i < from.len() {
-        to[i] = from[i];
-        i += 1;
-    }
-}
-
-// One flash step: the slot's five words become the record's, and its bytes those given. Nothing else alters flash after format.
-pub fn put_slot(words: &mut [u32], contents: &mut [u8], slot: u32, record: Record, bytes: &[u8])
-    requires { ⌜ 5 * slot + 5 ≤ length (now words) ⌝ }
-    requires { ⌜ length (now bytes) * slot + length (now bytes) ≤ length (now contents) ⌝ }
-    ensures { λ _. ⌜ now (words .exit) ≡ putPart 5 slot (wordsOf «record») (now (words .entry)) ⌝ }
-    ensures { λ _. ⌜ now (contents .exit) ≡ putPart (length (now (bytes .entry))) slot (now (bytes .entry)) (now (contents .entry)) ⌝ }
-{
-    let a = 5 * (slot as usize);
-    let w = bytes.len();
-    let b = w * (slot as usize);
-    store_record(&mut words[a..a + 5], record);
-    copy_contents(&mut contents[b..b + w], bytes);
-}
-
-// A slot blanked: all five words 4,294,967,295, "with bytes 255".
-pub fn blank_slot(words: &mut [u32], contents: &mut [u8], slot: u32)
-    requires { ⌜ 5 * slot + 5 ≤ length (now words) ⌝ }
-    requires { ⌜ width * slot + width ≤ length (now contents) ⌝ }
-    ensures { λ _. ⌜ now (words .exit) ≡ putPart 5 slot (wordsOf blankRecord) (now (words .entry)) ⌝ }
-    ensures { λ _. ⌜ now (contents .exit) ≡ putPart width slot (replicate width 255) (now (contents .entry)) ⌝ }
-{
-    let bytes = [255u8; 32];
-    put_slot(words, contents, slot, Record::BLANK, &bytes);
-}
-
-// A slot's bytes, copied out: bytes wk to wk+w-1, where w is the length of `out`.
-pub fn read_slot(contents: &[u8], slot: u32, out: &mut [u8])
-    requires { ⌜ length (now out) * slot + length (now out) ≤ length (now contents) ⌝ }
-    ensures { λ _. ⌜ now (out .exit) ≡ bytesAt (length (now (out .entry))) (now (contents .entry)) slot ⌝ }
-{
-    let w = out.len();
-    let b = w * (slot as usize);
-    copy_contents(&mut *out, &contents[b..b + w]);
 }

@@ -161,7 +161,7 @@ pub fn write(
     if answer != 0 {
         return outcome::reply(answer, 0);
     }
-    record::put_slot(words, contents, slot, plan_of(state, page), bytes);
+    record::flash::put_slot(words, contents, slot, plan_of(state, page), bytes);
     if state::cycle::write_page(state, page) {
         return outcome::reply(0, 1);
     }

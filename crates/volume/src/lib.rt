@@ -122,7 +122,7 @@ fn format_slot(words: &mut [u32], contents: &mut [u8], pages: u32, slot: u32)
 {
     if slot < pages {
         let zeros = [0u8; WIDTH];
-        record::put_slot(
+        record::flash::put_slot(
             words,
             contents,
             slot,
@@ -132,7 +132,7 @@ fn format_slot(words: &mut [u32], contents: &mut [u8], pages: u32, slot: u32)
         return;
     }
     let ones = [255u8; WIDTH];
-    record::put_slot(words, contents, slot, record::Record::BLANK, &ones);
+    record::flash::put_slot(words, contents, slot, record::Record::BLANK, &ones);
 }
 
 // Every slot as format leaves it.

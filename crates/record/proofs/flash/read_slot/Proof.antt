@@ -2,8 +2,8 @@ use borrow.Author.Needs.{needs}
 use native.Mathlib.Nat.{add-sub-cancel-left}
 use Rattle.bounded.specs.Parts.{part}
 use Rattle.record.specs.Slot.{bytesAt}
-use Rattle.record.proofs.read_slot.Statement.{statement}
-use Rattle.record.proofs.read_slot.Tie as tie
+use Rattle.record.proofs.flash.read_slot.Statement.{statement}
+use Rattle.record.proofs.flash.read_slot.Tie as tie
 
 mul-b : tie.Need-mul-b
 mul-b c = search needs

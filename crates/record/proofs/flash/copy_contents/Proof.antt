@@ -5,8 +5,8 @@ use mathlib.Core.Path.{_≡_, refl, ap, _∙_}
 use mathlib.Core.List.{List}
 use lib.ListN.{length, set, getD, length-set}
 use Rattle.record.specs.CopyLaws.{copied, copied-none, copied-more, copied-all}
-use Rattle.record.proofs.copy_contents.Statement.{statement}
-use Rattle.record.proofs.copy_contents.Tie as tie
+use Rattle.record.proofs.flash.copy_contents.Statement.{statement}
+use Rattle.record.proofs.flash.copy_contents.Tie as tie
 
 abbrev Inv-loop : tie.InvT-loop
 Inv-loop to₀ from i₀ to i = (i ≤ length from) × (to ≡ copied to₀ from i) × (length to ≡ length to₀)

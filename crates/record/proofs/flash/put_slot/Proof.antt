@@ -4,8 +4,8 @@ use mathlib.Core.Path.{refl}
 use Rattle.record.specs.Slot.{wordsOf}
 use Rattle.record.specs.SlotLaws.{words-length}
 use Rattle.record.specs.CopyLaws.{lent-part}
-use Rattle.record.proofs.put_slot.Statement.{statement}
-use Rattle.record.proofs.put_slot.Tie as tie
+use Rattle.record.proofs.flash.put_slot.Statement.{statement}
+use Rattle.record.proofs.flash.put_slot.Tie as tie
 
 mul-a : tie.Need-mul-a
 mul-a c = search needs

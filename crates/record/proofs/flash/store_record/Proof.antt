@@ -3,8 +3,8 @@ use borrow.Author.Needs.{needs}
 use lib.ListN.{length-set}
 use Rattle.record.specs.Slot.{wordsOf}
 use Rattle.record.specs.CopyLaws.{five-stored}
-use Rattle.record.proofs.store_record.Statement.{statement}
-use Rattle.record.proofs.store_record.Tie as tie
+use Rattle.record.proofs.flash.store_record.Statement.{statement}
+use Rattle.record.proofs.flash.store_record.Tie as tie
 
 slice-write-part : tie.Need-slice-write-part
 slice-write-part c = search needs

@@ -1,0 +1,56 @@
+// The flash: one step that alters it, and a slot's bytes read out. No other file takes a part of the flash to store in it.
+ghost use mathlib.Core.Path.{_≡_};
+ghost use Prim.Native.Nat.{_+_, _*_, _≤_};
+ghost use lib.ListN.{length};
+ghost use Rattle.bounded.specs.Parts.{putPart};
+ghost use Rattle.record.specs.Slot.{wordsOf, bytesAt};
+use super::Record;
+
+// The record writer: the record's words into a slot's five.
+fn store_record(part: &mut [u32], record: Record)
+    requires { ⌜ length (now part) ≡ 5 ⌝ }
+    ensures { λ _. ⌜ now (part .exit) ≡ wordsOf «record» ⌝ }
+{
+    part[0] = record.p;
+    part[1] = record.v;
+    part[2] = record.c;
+    part[3] = record.np;
+    part[4] = record.nv;
+}
+
+// The contents copier: one slot's bytes, from one slice into another of the same length.
+fn copy_contents(to: &mut [u8], from: &[u8])
+    requires { ⌜ length (now to) ≡ length (now from) ⌝ }
+    ensures { λ _. ⌜ now (to .exit) ≡ now (from .entry) ⌝ }
+{
+    let mut i = 0;
+    while i < from.len() {
+        to[i] = from[i];
+        i += 1;
+    }
+}
+
+// One flash step: the slot's five words become the record's, and its bytes those given. It is the one function that stores to flash: a format calls it for
+// every slot, and after that a write calls it once and an erase once for each listed slot.
+pub fn put_slot(words: &mut [u32], contents: &mut [u8], slot: u32, record: Record, bytes: &[u8])
+    requires { ⌜ 5 * slot + 5 ≤ length (now words) ⌝ }
+    requires { ⌜ length (now bytes) * slot + length (now bytes) ≤ length (now contents) ⌝ }
+    ensures { λ _. ⌜ now (words .exit) ≡ putPart 5 slot (wordsOf «record») (now (words .entry)) ⌝ }
+    ensures { λ _. ⌜ now (contents .exit) ≡ putPart (length (now (bytes .entry))) slot (now (bytes .entry)) (now (contents .entry)) ⌝ }
+{
+    let a = 5 * (slot as usize);
+    let w = bytes.len();
+    let b = w * (slot as usize);
+    store_record(&mut words[a..a + 5], record);
+    copy_contents(&mut contents[b..b + w], bytes);
+}
+
+// A slot's bytes, copied out: bytes wk to wk+w-1, where w is the length of `out`.
+pub fn read_slot(contents: &[u8], slot: u32, out: &mut [u8])
+    requires { ⌜ length (now out) * slot + length (now out) ≤ length (now contents) ⌝ }
+    ensures { λ _. ⌜ now (out .exit) ≡ bytesAt (length (now (out .entry))) (now (contents .entry)) slot ⌝ }
+{
+    let w = out.len();
+    let b = w * (slot as usize);
+    copy_contents(&mut *out, &contents[b..b + w]);
+}
