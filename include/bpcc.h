@@ -18,9 +18,9 @@
  * the page is not in flight; and a page in flight has committed below used and a next page below P that is also in flight; no
  * two pages in flight share a next page.
  *
- * A buffer is a pointer and then its length, in elements. The one thing a caller must see to: each buffer is really there, as
- * long as stated and aligned for its type, its pointer not null even where the length is 0, and no two buffers of one call
- * overlap. What the buffers hold, and all numbers and lengths, may be anything: every call either is done or refuses.
+ * A buffer, and a list is one, is a pointer and then its length, in elements. The premises, which a caller must see to: each
+ * buffer is really there, as long as stated, aligned for its type (a buffer of length 0 may be NULL), and no two buffers of one
+ * call overlap. What the buffers hold, and all numbers and lengths, may be anything: every call either is done or refuses.
  *
  * Every call returns the answer in the lower 32 bits (bpcc_answer) and a second number in the upper (bpcc_second). The answer
  * is 0 or the first refusal, from the lowest number up, whose condition holds, each tried for all pages or slots before the

@@ -1,5 +1,6 @@
 /*
- * Document 01's sample sequence over include/bpcc.h, every answer and every buffer checked. C99 and C++.
+ * Document 01's sample sequence over include/bpcc.h, every answer and every buffer checked, and every call with NULL, 0 for every
+ * choice of its buffers. C99 and C++.
  * The last line of its output is 'N passed, M failed'.
  */
 #include "bpcc.h"
@@ -9,9 +10,19 @@
 
 enum { PAGES = 2, SLOTS = 4 };
 
-static uint32_t words[BPCC_SLOT_WORDS * SLOTS];
-static uint8_t contents[BPCC_WIDTH * SLOTS];
-static uint32_t state[BPCC_PAGE_WORDS * PAGES];
+/* The buffers that calls are lent, each a bit. */
+enum { WORDS = 1, CONTENTS = 2, STATE = 4, LIST = 8, BYTES = 16, OUT = 32 };
+
+/* The memory of every buffer, and a copy. */
+static struct {
+    uint32_t words[BPCC_SLOT_WORDS * SLOTS], state[BPCC_PAGE_WORDS * PAGES], list[1];
+    uint8_t contents[BPCC_WIDTH * SLOTS], bytes[BPCC_WIDTH], out[BPCC_WIDTH + 1];
+} memory, before;
+
+/* The buffers as they are lent. */
+static uint32_t *words, *state, *list;
+static uint8_t *contents, *bytes, *out;
+static size_t words_length, state_length, list_length, contents_length, bytes_length, out_length;
 
 static unsigned passed, failed;
 
@@ -31,44 +42,68 @@ static void expect(uint64_t reply, uint32_t answer, uint32_t second, const char 
     check(bpcc_second(reply) == second, name);
 }
 
-static uint64_t format(void) {
-    return bpcc_format(PAGES, SLOTS, words, BPCC_TABLE_WORDS(SLOTS), contents, BPCC_CONTENTS_BYTES(SLOTS), state, BPCC_STATE_WORDS(PAGES));
+/* Lends every buffer, the absent ones as NULL, 0. */
+static void lend(unsigned absent) {
+    words = absent & WORDS ? NULL : memory.words;
+    words_length = absent & WORDS ? 0 : BPCC_TABLE_WORDS(SLOTS);
+    contents = absent & CONTENTS ? NULL : memory.contents;
+    contents_length = absent & CONTENTS ? 0 : BPCC_CONTENTS_BYTES(SLOTS);
+    state = absent & STATE ? NULL : memory.state;
+    state_length = absent & STATE ? 0 : BPCC_STATE_WORDS(PAGES);
+    list = absent & LIST ? NULL : memory.list;
+    list_length = absent & LIST ? 0 : 1;
+    bytes = absent & BYTES ? NULL : memory.bytes;
+    bytes_length = absent & BYTES ? 0 : BPCC_WIDTH;
+    out = absent & OUT ? NULL : memory.out;
+    out_length = absent & OUT ? 0 : BPCC_WIDTH;
 }
 
-static uint64_t launch(const uint32_t *list, size_t length) {
-    return bpcc_launch(PAGES, SLOTS, state, BPCC_STATE_WORDS(PAGES), list, length);
+/* Copies the memory. */
+static void keep(void) {
+    memcpy(&before, &memory, sizeof memory);
+}
+
+/* The memory is as it was copied. */
+static void expect_kept(const char *name) {
+    check(memcmp(&memory, &before, sizeof memory) == 0, name);
+}
+
+static uint64_t format(uint32_t slots) {
+    return bpcc_format(PAGES, slots, words, words_length, contents, contents_length, state, state_length);
+}
+
+static uint64_t launch(const uint32_t *pages, size_t length) {
+    return bpcc_launch(PAGES, SLOTS, state, state_length, pages, length);
 }
 
 static uint64_t write(uint32_t page, uint32_t slot, uint8_t fill) {
-    uint8_t bytes[BPCC_WIDTH];
-    memset(bytes, fill, sizeof bytes);
-    return bpcc_write(PAGES, SLOTS, words, BPCC_TABLE_WORDS(SLOTS), contents, BPCC_CONTENTS_BYTES(SLOTS), state, BPCC_STATE_WORDS(PAGES),
-                      page, slot, bytes, sizeof bytes);
+    memset(memory.bytes, fill, sizeof memory.bytes);
+    return bpcc_write(PAGES, SLOTS, words, words_length, contents, contents_length, state, state_length, page, slot, bytes, bytes_length);
 }
 
 static uint64_t withdraw(uint32_t page) {
-    return bpcc_withdraw(PAGES, SLOTS, state, BPCC_STATE_WORDS(PAGES), page);
+    return bpcc_withdraw(PAGES, SLOTS, state, state_length, page);
 }
 
-static uint64_t erase(const uint32_t *list, size_t length) {
-    return bpcc_erase(PAGES, SLOTS, words, BPCC_TABLE_WORDS(SLOTS), contents, BPCC_CONTENTS_BYTES(SLOTS), state, BPCC_STATE_WORDS(PAGES), list, length);
+static uint64_t erase(const uint32_t *slots, size_t length) {
+    return bpcc_erase(PAGES, SLOTS, words, words_length, contents, contents_length, state, state_length, slots, length);
 }
 
 static uint64_t suggest(void) {
-    return bpcc_suggest(PAGES, SLOTS, words, BPCC_TABLE_WORDS(SLOTS), state, BPCC_STATE_WORDS(PAGES));
+    return bpcc_suggest(PAGES, SLOTS, words, words_length, state, state_length);
 }
 
 static uint64_t recover(void) {
-    return bpcc_recover(PAGES, SLOTS, words, BPCC_TABLE_WORDS(SLOTS), state, BPCC_STATE_WORDS(PAGES));
+    return bpcc_recover(PAGES, SLOTS, words, words_length, state, state_length);
 }
 
-static uint64_t read(uint32_t page, uint8_t *out, size_t length) {
-    return bpcc_read(PAGES, SLOTS, words, BPCC_TABLE_WORDS(SLOTS), contents, BPCC_CONTENTS_BYTES(SLOTS), state, BPCC_STATE_WORDS(PAGES), page, out, length);
+static uint64_t read(uint32_t page, size_t length) {
+    return bpcc_read(PAGES, SLOTS, words, words_length, contents, contents_length, state, state_length, page, out, length);
 }
 
 /* A cut: the state is lost. */
 static void crash(void) {
-    memset(state, 0xFF, sizeof state);
+    memset(memory.state, 0xFF, sizeof memory.state);
 }
 
 /* A slot's five words. */
@@ -85,18 +120,19 @@ static void expect_state(uint32_t page, uint32_t committed, uint32_t used, uint3
 
 /* A page reads as 32 bytes of one value, with so many set bits. */
 static void expect_page(uint32_t page, uint8_t fill, uint32_t drawn, const char *name) {
-    uint8_t out[BPCC_WIDTH], same[BPCC_WIDTH];
-    memset(out, 0xA5, sizeof out);
+    uint8_t same[BPCC_WIDTH];
+    memset(memory.out, 0xA5, sizeof memory.out);
     memset(same, fill, sizeof same);
-    expect(read(page, out, sizeof out), BPCC_DONE, 0, name);
-    check(memcmp(out, same, sizeof out) == 0, name);
-    expect(bpcc_count(out, sizeof out), BPCC_DONE, drawn, name);
+    expect(read(page, out_length), BPCC_DONE, 0, name);
+    check(memcmp(out, same, sizeof same) == 0 && out[BPCC_WIDTH] == 0xA5, name);
+    expect(bpcc_count(out, out_length), BPCC_DONE, drawn, name);
 }
 
 /* Document 01's sample, call by call. */
 static void sample(void) {
     const uint32_t both[] = {0, 1}, one[] = {1};
-    expect(format(), BPCC_DONE, 0, "format");
+    lend(0);
+    expect(format(SLOTS), BPCC_DONE, 0, "format");
     expect_slot(0, 0, 0, 0, 0, 0, "slot 0 is formatted");
     expect_slot(1, 1, 0, 0, 1, 0, "slot 1 is formatted");
     expect_slot(2, BPCC_NONE, BPCC_NONE, BPCC_NONE, BPCC_NONE, BPCC_NONE, "slot 2 is blank");
@@ -123,28 +159,18 @@ static void sample(void) {
 /* Refusals after the sample, each leaving every buffer. */
 static void refusals(void) {
     const uint32_t any[] = {0, 1, 1, 9};
-    uint8_t out[BPCC_WIDTH + 1];
-    uint32_t words_before[BPCC_SLOT_WORDS * SLOTS], state_before[BPCC_PAGE_WORDS * PAGES];
-    uint8_t contents_before[BPCC_WIDTH * SLOTS];
-    memcpy(words_before, words, sizeof words);
-    memcpy(contents_before, contents, sizeof contents);
-    memcpy(state_before, state, sizeof state);
-    memset(out, 0xA5, sizeof out);
-    expect(bpcc_format(PAGES, PAGES - 1, words, BPCC_TABLE_WORDS(SLOTS), contents, BPCC_CONTENTS_BYTES(SLOTS), state, BPCC_STATE_WORDS(PAGES)),
-           BPCC_WRONG_SIZE, 0, "format with too few slots");
+    keep();
+    expect(format(PAGES - 1), BPCC_WRONG_SIZE, 0, "format with too few slots");
     expect(launch(any, 0), BPCC_WRONG_LIST, 0, "launch an empty list");
     expect(launch(any, 3), BPCC_WRONG_LIST, 0, "launch a repeated page");
     expect(launch(any + 3, 1), BPCC_WRONG_LIST, 0, "launch no such page");
-    expect(write(0, 3, 1), BPCC_PAGE_NOT_IN_FLIGHT, 0, "write a page not in flight");
+    expect(write(0, 3, 3), BPCC_PAGE_NOT_IN_FLIGHT, 0, "write a page not in flight");
     expect(withdraw(0), BPCC_PAGE_NOT_IN_FLIGHT, 0, "withdraw a page not in flight");
     expect(erase(any, 1), BPCC_MAY_NOT_ERASE, 0, "erase a committed record");
-    expect(read(0, out, sizeof out), BPCC_WRONG_SIZE, 0, "read to 33 bytes");
-    expect(read(2, out, BPCC_WIDTH), BPCC_WRONG_LIST, 0, "read no such page");
-    expect(bpcc_count(out, sizeof out), BPCC_WRONG_SIZE, 0, "count 33 bytes");
-    check(out[0] == 0xA5 && out[BPCC_WIDTH] == 0xA5, "a refused read leaves its bytes");
-    check(memcmp(words, words_before, sizeof words) == 0, "refusals leave the words");
-    check(memcmp(contents, contents_before, sizeof contents) == 0, "refusals leave the contents");
-    check(memcmp(state, state_before, sizeof state) == 0, "refusals leave the state");
+    expect(read(0, BPCC_WIDTH + 1), BPCC_WRONG_SIZE, 0, "read to 33 bytes");
+    expect(read(2, BPCC_WIDTH), BPCC_WRONG_LIST, 0, "read no such page");
+    expect(bpcc_count(out, BPCC_WIDTH + 1), BPCC_WRONG_SIZE, 0, "count 33 bytes");
+    expect_kept("refusals leave every buffer");
 }
 
 /* What may be erased goes, one suggestion after another; then nothing is left to erase and the pages read the same. */
@@ -165,10 +191,70 @@ static void erasing(void) {
     expect_page(1, 3, 64, "page 1 stays");
 }
 
+/* The nine calls. */
+enum call { FORMAT, LAUNCH, WRITE, WITHDRAW, ERASE, SUGGEST, RECOVER, COUNT, READ };
+
+/* Makes a call that is done on the ready volume, where every buffer is there. */
+static uint64_t make(enum call call) {
+    switch (call) {
+    case FORMAT: return format(SLOTS);
+    case LAUNCH: return launch(list, list_length);
+    case WRITE: return write(1, 3, 3);
+    case WITHDRAW: return withdraw(1);
+    case ERASE: return erase(list, list_length);
+    case SUGGEST: return suggest();
+    case RECOVER: return recover();
+    case COUNT: return bpcc_count(bytes, bytes_length);
+    case READ: return read(0, out_length);
+    }
+    return BPCC_WRONG_SIZE;
+}
+
+/* The ready volume: page 1 is in flight, slot 3 blank, page 0 (the list) may be launched and slot 0 erased; it is copied. */
+static void ready(void) {
+    const uint32_t one[] = {1};
+    lend(0);
+    memset(out, 0xA5, sizeof memory.out);
+    format(SLOTS);
+    launch(list, list_length);
+    write(0, 2, 3);
+    launch(one, 1);
+    keep();
+}
+
+/* A call refuses NULL, 0 for every choice of the buffers that it takes, leaving every buffer, and is done where all are there. */
+static void expect_nulls(enum call call, unsigned takes, const char *name) {
+    unsigned absent;
+    ready();
+    for (absent = 1; absent <= takes; absent++) {
+        if ((absent & takes) == absent) {
+            lend(absent);
+            expect(make(call), absent == LIST ? BPCC_WRONG_LIST : BPCC_WRONG_SIZE, call == SUGGEST ? BPCC_NONE : 0, name);
+            expect_kept(name);
+        }
+    }
+    lend(0);
+    check(bpcc_answer(make(call)) == BPCC_DONE, name);
+}
+
+/* Every call with NULL, 0. */
+static void nulls(void) {
+    expect_nulls(FORMAT, WORDS | CONTENTS | STATE, "format with NULL, 0");
+    expect_nulls(LAUNCH, STATE | LIST, "launch with NULL, 0");
+    expect_nulls(WRITE, WORDS | CONTENTS | STATE | BYTES, "write with NULL, 0");
+    expect_nulls(WITHDRAW, STATE, "withdraw with NULL, 0");
+    expect_nulls(ERASE, WORDS | CONTENTS | STATE | LIST, "erase with NULL, 0");
+    expect_nulls(SUGGEST, WORDS | STATE, "suggest with NULL, 0");
+    expect_nulls(RECOVER, WORDS | STATE, "recover with NULL, 0");
+    expect_nulls(COUNT, BYTES, "count with NULL, 0");
+    expect_nulls(READ, WORDS | CONTENTS | STATE | OUT, "read with NULL, 0");
+}
+
 int main(void) {
     sample();
     refusals();
     erasing();
+    nulls();
     printf("%u passed, %u failed\n", passed, failed);
     return failed != 0;
 }

@@ -3,7 +3,25 @@
 
 use crate::calls::Calls;
 use crate::reference::Reference;
-use std::slice::{from_raw_parts as lent, from_raw_parts_mut as lent_mut};
+use std::slice::{from_raw_parts, from_raw_parts_mut};
+
+/// A buffer that C lends to be read; of length 0 it may be NULL.
+unsafe fn lent<'a, T>(buffer: *const T, length: usize) -> &'a [T] {
+    if length == 0 {
+        &[]
+    } else {
+        from_raw_parts(buffer, length)
+    }
+}
+
+/// A buffer that C lends to be altered; of length 0 it may be NULL.
+unsafe fn lent_mut<'a, T>(buffer: *mut T, length: usize) -> &'a mut [T] {
+    if length == 0 {
+        &mut []
+    } else {
+        from_raw_parts_mut(buffer, length)
+    }
+}
 
 #[no_mangle]
 pub unsafe extern "C" fn bpcc_format(

@@ -65,7 +65,7 @@ mod c {
 /// The static library.
 pub struct Library;
 
-// SAFETY of every call: a Rust slice is really there, as long as its length, and no two slices of one call overlap.
+// SAFETY of every call: a Rust slice is really there, as long as its length, aligned for its type, and no two slices of one call overlap.
 impl Calls for Library {
     fn format(&self, pages: u32, slots: u32, words: &mut [u32], contents: &mut [u8], state: &mut [u32]) -> Reply {
         Reply::from_u64(unsafe {
