@@ -5,13 +5,13 @@ use mathlib.Core.Bool.{cond}
 use lib.Dec.{eqb}
 use lib.ListN.{take}
 use Rattle.line.specs.Line.{lineMeans}
-use Rattle.script.specs.Script.{Standing, Turn, turnTo, turn}
+use Rattle.script.specs.Script.{Standing, Turn, idleTurn, turn}
 
 -- "lists 1 to 64 entries"
 abbrev pub maxEntries : ℕ
 maxEntries = 64
 
--- what a line of these bytes does
+-- what a line of these bytes does: by `turn`, nothing once the run is over
 unfoldable pub carried : (w : ℕ) → Standing → List ℕ → Turn
 carried w s line = turn w s (lineMeans maxEntries line)
 
@@ -22,9 +22,11 @@ pub record Fed : Type 0 where
 
 -- The next byte of a script, where these bytes are held of a line that has not ended and there is room for `room` of them: a line end
 -- (byte 10) has the line carried out; any other byte is held, as far as there is room. 513 bytes of room hold every line of 512, and enough of a longer one
--- for it to be refused.
+-- for it to be refused. After a line that "prints answer=line and ends the run" a byte does nothing, and what is held stays.
 unfoldable pub fed : (w room : ℕ) → Standing → (held : List ℕ) (byte : ℕ) → Fed
 fed w room s held byte =
-    cond (eqb byte 10)
+    cond (s .over)
+    (record { turned = idleTurn s; held = held })
+    (cond (eqb byte 10)
     (record { turned = carried w s held; held = [] })
-    (record { turned = turnTo s (s .memory) []; held = take room (held ++ (byte ∷ [])) })
+    (record { turned = idleTurn s; held = take room (held ++ (byte ∷ [])) }))

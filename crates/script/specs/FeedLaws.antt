@@ -2,7 +2,7 @@
 use Prim.Native.Nat.{ℕ, _-_, _≤_, _<_, min}
 use native.Mathlib.Omega.{arith}
 use mathlib.Core.Path.{_≡_, refl}
-use mathlib.Core.List.{List, [], _∷_}
+use mathlib.Core.List.{List, [], _∷_, _++_}
 use mathlib.Core.Bool.{true, false}
 use lib.Dec.{ltb, eqb}
 use lib.ListN.{length, take, drop, length-take}
@@ -15,7 +15,7 @@ use Rattle.text.specs.Print.{shown, added}
 use Rattle.text.specs.PrintLaws.{added-none}
 use Rattle.line.specs.Line.{Said, lineMeans}
 use Rattle.script.specs.declared.step.Run.{Run}
-use Rattle.script.specs.Script.{standing, turnTo, turn}
+use Rattle.script.specs.Script.{Standing, standing, turnTo, idleTurn, turn}
 use Rattle.script.specs.StepLaws.{Went}
 use Rattle.script.specs.Feed.{maxEntries, carried, fed}
 
@@ -34,6 +34,20 @@ enough-held k line =
 -- the run with so many bytes of a line held
 abbrev pub holdingTo : Run → ℕ → Run
 holdingTo run held = record { pages = run .pages; slots = run .slots; at = run .at; held = held; over = run .over }
+
+-- a byte after the end, a line's end, and any other
+module _ (w room : ℕ) (s : Standing) (held : List ℕ) (byte : ℕ) where
+  fed-over : s .over ≡ true → fed w room s held byte ≡ record { turned = idleTurn s; held = held }
+  unfolding fed
+  fed-over o = rw o
+
+  fed-line-end : s .over ≡ false → byte ≡ 10 → fed w room s held byte ≡ record { turned = carried w s held; held = [] }
+  unfolding fed
+  fed-line-end o e = let q : eqb byte 10 ≡ true = eq-eqb byte 10 e in rw (o, q)
+
+  fed-byte : s .over ≡ false → ¬ (byte ≡ 10) → fed w room s held byte ≡ record { turned = idleTurn s; held = take room (held ++ (byte ∷ [])) }
+  unfolding fed
+  fed-byte o d = let q : eqb byte 10 ≡ false = ne-eqb byte 10 d in rw (o, q)
 
 module _ (w : ℕ) (run s : Run) (m m₁ : Volume) (out out₁ : List ℕ) where
   -- a line said as it means
@@ -63,13 +77,21 @@ module _ (w : ℕ) (run s : Run) (m m₁ : Volume) (out out₁ : List ℕ) where
         × ((shown out₁ (s .at) ≡ added out (run .at) (fed w (length buffer) (standing run m) (shown buffer (run .held)) byte .turned .prints))
         × (shown buffer₁ (s .held) ≡ fed w (length buffer) (standing run m) (shown buffer (run .held)) byte .held))
 
-    pub took-line-end : byte ≡ 10 → Ended buffer → Took
-    unfolding fed shown standing
-    took-line-end e h = let q : eqb byte 10 ≡ true = eq-eqb byte 10 e in rw (q, h .1 .1) (h .0, (h .1 .0, refl))
+    pub took-over : run .over ≡ true → buffer₁ ≡ buffer → Went run s m₁ out out₁ (idleTurn (standing run m)) → Took
+    unfolding standing
+    took-over o eb h =
+        let f = fed-over w (length buffer) (standing run m) (shown buffer (run .held)) byte o in
+        rw (f, eb, h .1 .1) (h .0, (h .1 .0, refl))
+
+    pub took-line-end : run .over ≡ false → byte ≡ 10 → Ended buffer → Took
+    unfolding shown standing
+    took-line-end o e h =
+        let f = fed-line-end w (length buffer) (standing run m) (shown buffer (run .held)) byte o e in
+        rw (f, h .1 .1) (h .0, (h .1 .0, refl))
 
     pub took-byte :
-        ¬ (byte ≡ 10) → m₁ ≡ m → out₁ ≡ out → (held : ℕ) → s ≡ holdingTo run held → shown buffer₁ held ≡ added buffer (run .held) (byte ∷ []) → Took
-    unfolding fed standing turnTo added
-    took-byte d em eo held e h =
-        let q : eqb byte 10 ≡ false = ne-eqb byte 10 d in
-        rw (q, em, eo, e) (refl, (added-none out (run .at), h))
+        run .over ≡ false → ¬ (byte ≡ 10) → m₁ ≡ m → out₁ ≡ out → (held : ℕ) → s ≡ holdingTo run held → shown buffer₁ held ≡ added buffer (run .held) (byte ∷ []) → Took
+    unfolding standing idleTurn turnTo added
+    took-byte o d em eo held e h =
+        let f = fed-byte w (length buffer) (standing run m) (shown buffer (run .held)) byte o d in
+        rw (f, em, eo, e) (refl, (added-none out (run .at), h))

@@ -19,7 +19,7 @@ use Rattle.text.specs.Scan.{bytes}
 use Rattle.text.specs.Print.{shown, added, decimalIn, decimal}
 use Rattle.line.specs.Line.{Said}
 use Rattle.listing.specs.Listing.{answerText, stateText, fieldsText, pageText, listAnswer, listText}
-use Rattle.script.specs.Script.{Standing, Turn, turnTo, answered, doneText, doneWith, refusedTurn, formatted, formatTurn, cutTurn, lineTurn, isEarly, turn}
+use Rattle.script.specs.Script.{Standing, Turn, turnTo, idleTurn, answered, doneText, doneWith, refusedTurn, formatted, formatTurn, cutTurn, lineTurn, isEarly, turn}
 
 -- the most bytes that a turn prints
 abbrev pub mostPrinted : ℕ
@@ -99,6 +99,10 @@ refused-room : (s : Standing) → length (refusedTurn s .prints) ≤ mostPrinted
 unfolding refusedTurn bytes
 refused-room s = omega arith
 
+idle-room : (s : Standing) → length (idleTurn s .prints) ≤ mostPrinted
+unfolding idleTurn turnTo
+idle-room s = omega arith
+
 answered-room : (s : Standing) (o : Outcome Volume) → length (answered s o .prints) ≤ mostPrinted
 unfolding answered turnTo
 answered-room s o = let h = answer-room (o .answer) in omega arith
@@ -126,7 +130,10 @@ line-room w s Said.Malformed h = refused-room s
 -- A turn on a volume of at most 256 pages prints no more than that.
 pub turn-room : (w : ℕ) (s : Standing) (says : Said) → s .pages ≤ 256 → length (turn w s says .prints) ≤ mostPrinted
 unfolding turn
-turn-room w s says h = either-way (isEarly (s .pages) says) (λ (t : Turn). length (t .prints) ≤ mostPrinted) (refusedTurn s) (lineTurn w s says) (refused-room s) (line-room w s says h)
+turn-room w s says h =
+    let Q : Turn → Type 0 = λ t. length (t .prints) ≤ mostPrinted in
+    either-way (s .over) Q (idleTurn s) (cond (isEarly (s .pages) says) (refusedTurn s) (lineTurn w s says)) (idle-room s)
+    (either-way (isEarly (s .pages) says) Q (refusedTurn s) (lineTurn w s says) (refused-room s) (line-room w s says h))
 
 -- So nothing is left out where the buffer has so much room.
 pub all-shown : (w : ℕ) (s : Standing) (says : Said) (out : List ℕ) (at : ℕ) → s .pages ≤ 256 → at + mostPrinted ≤ length out → added out at (turn w s says .prints) ≡ shown out at ++ turn w s says .prints
@@ -161,5 +168,8 @@ line-pages w s Said.Listing h = h
 line-pages w s Said.Malformed h = h
 
 pub turn-pages : (w : ℕ) (s : Standing) (says : Said) → s .pages ≤ 256 → turn w s says .leaves .pages ≤ 256
-unfolding turn refusedTurn
-turn-pages w s says h = either-way (isEarly (s .pages) says) (λ (t : Turn). t .leaves .pages ≤ 256) (refusedTurn s) (lineTurn w s says) h (line-pages w s says h)
+unfolding turn idleTurn turnTo refusedTurn
+turn-pages w s says h =
+    let Q : Turn → Type 0 = λ t. t .leaves .pages ≤ 256 in
+    either-way (s .over) Q (idleTurn s) (cond (isEarly (s .pages) says) (refusedTurn s) (lineTurn w s says)) h
+    (either-way (isEarly (s .pages) says) Q (refusedTurn s) (lineTurn w s says) h (line-pages w s says h))

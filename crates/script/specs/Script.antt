@@ -1,6 +1,6 @@
 -- A script's run line by line: what each line prints and what it leaves, by the calls' outcome definitions.
 use Prim.Native.Nat.{ℕ, _*_}
-use mathlib.Core.List.{List, _++_}
+use mathlib.Core.List.{List, [], _++_}
 use mathlib.Core.Bool.{Bool, true, false, cond, not, _&&_}
 use lib.Dec.{eqb}
 use lib.ListN.{take, replicate}
@@ -26,6 +26,10 @@ pub record Standing : Type 0 where
 unfoldable pub standing : Run → Volume → Standing
 standing run memory = record { pages = run .pages; slots = run .slots; memory = memory; over = run .over }
 
+-- The run before its first byte: no volume "before a format has answered 0", nothing printed, nothing held, and not ended.
+abbrev pub startRun : Run
+startRun = record { pages = 0; slots = 0; at = 0; held = 0; over = false }
+
 -- One line carried out: the bytes that it prints and where it leaves the run.
 pub record Turn : Type 0 where
   pub prints : List ℕ
@@ -34,6 +38,10 @@ pub record Turn : Type 0 where
 -- a turn that changes memory alone
 unfoldable pub turnTo : Standing → Volume → List ℕ → Turn
 turnTo s memory text = record { prints = text; leaves = record { pages = s .pages; slots = s .slots; memory = memory; over = s .over } }
+
+-- a turn that prints nothing and changes nothing
+unfoldable pub idleTurn : Standing → Turn
+idleTurn s = turnTo s (s .memory) []
 
 -- a call on the volume in front of memory
 unfoldable pub called : (w : ℕ) → Standing → Call → Outcome Volume
@@ -109,6 +117,6 @@ isFormat Said.Malformed = false
 unfoldable pub isEarly : ℕ → Said → Bool
 isEarly pages said = eqb pages 0 && not (isFormat said)
 
--- What a line does: the bytes it prints and where it leaves the run.
+-- What a line does: the bytes it prints and where it leaves the run. After a line that "prints answer=line and ends the run" no line does anything.
 unfoldable pub turn : (w : ℕ) → Standing → Said → Turn
-turn w s said = cond (isEarly (s .pages) said) (refusedTurn s) (lineTurn w s said)
+turn w s said = cond (s .over) (idleTurn s) (cond (isEarly (s .pages) said) (refusedTurn s) (lineTurn w s said))

@@ -21,11 +21,12 @@ use Rattle.atomicity.specs.Call.{perform, withState, withFlash}
 use Rattle.memory.specs.Memory.{inUse, stateBack, flashBack, volumeBack, leaving, lost}
 use Rattle.text.specs.Scan.{bytes}
 use Rattle.text.specs.Print.{shown, added, decimal}
+use Rattle.text.specs.PrintLaws.{added-none}
 use Rattle.line.specs.Line.{Said}
 use Rattle.listing.specs.Listing.{answerText, listText}
 use Rattle.listing.specs.ListingLaws.{field-next}
 use Rattle.script.specs.declared.step.Run.{Run}
-use Rattle.script.specs.Script.{Standing, standing, Turn, turnTo, called, answered, doneText, doneWith, refusedTurn, formatted, formatTurn, cutTurn, lineTurn, isFormat, isEarly, turn}
+use Rattle.script.specs.Script.{Standing, standing, Turn, turnTo, idleTurn, called, answered, doneText, doneWith, refusedTurn, formatted, formatTurn, cutTurn, lineTurn, isFormat, isEarly, turn}
 
 -- the run with its output up to `at`, and the same run ended
 abbrev pub printedTo : Run → ℕ → Run
@@ -78,6 +79,11 @@ done-text out₀ out₁ out₂ out₃ at₀ at₁ at₂ at₃ answer done {a} {d
 -- A run that went on by a turn, with memory and output as the turn leaves them. It holds as many bytes of a line as before.
 abbrev pub Went : (run s : Run) (memory : Volume) (out out₁ : List ℕ) → Turn → Type 0
 Went run s memory out out₁ t = (standing s memory ≡ t .leaves) × ((shown out₁ (s .at) ≡ added out (run .at) (t .prints)) × (s .held ≡ run .held))
+
+-- A run that is as it was went on by an idle turn.
+pub went-idle : (run : Run) (memory : Volume) (out : List ℕ) → Went run run memory out out (idleTurn (standing run memory))
+unfolding standing idleTurn turnTo
+went-idle run memory out = (refl, (added-none out (run .at), refl))
 
 -- A run that said a text and is else as it was.
 abbrev pub Said-text : (run s : Run) (out out₁ text : List ℕ) → Type 0
@@ -139,15 +145,19 @@ module _ (w : ℕ) (run s : Run) (m : Volume) (out out₁ : List ℕ) where
         let same : s .over ≡ run .over = ap (λ (x : Standing). x .over) (h .0 m₁) in
         rw (← e, q, k, same) (refl, h .1)
 
--- a line that comes too early, and any other
+-- a line after the end, one that comes too early, and any other
 module _ (w : ℕ) (run : Run) (m : Volume) (says : Said) where
-  pub turn-early : isEarly (run .pages) says ≡ true → turn w (standing run m) says ≡ refusedTurn (standing run m)
+  pub turn-over : run .over ≡ true → turn w (standing run m) says ≡ idleTurn (standing run m)
   unfolding turn standing
-  turn-early e = rw e
+  turn-over e = rw e
 
-  pub turn-line : isEarly (run .pages) says ≡ false → turn w (standing run m) says ≡ lineTurn w (standing run m) says
+  pub turn-early : run .over ≡ false → isEarly (run .pages) says ≡ true → turn w (standing run m) says ≡ refusedTurn (standing run m)
   unfolding turn standing
-  turn-line e = rw e
+  turn-early o e = rw (o, e)
+
+  pub turn-line : run .over ≡ false → isEarly (run .pages) says ≡ false → turn w (standing run m) says ≡ lineTurn w (standing run m) says
+  unfolding turn standing
+  turn-line o e = rw (o, e)
 
 pub early-later : (pages : ℕ) (says : Said) → 0 < pages → false ≡ isEarly pages says
 unfolding isEarly

@@ -48,7 +48,7 @@ pub fn end_line(
     run_line(run.holding(0), &buffer[0..n], words, contents, state, out)
 }
 
-// The next byte of a script.
+// The next byte of a script, which does nothing once the run is over.
 pub fn feed(
     run: Run,
     byte: u8,
@@ -65,6 +65,9 @@ pub fn feed(
     ensures holds { λ s. ⌜ shown (now (buffer .exit)) (s .held)
         ≡ fed width (length (now (buffer .entry))) (standing run (volume (now (words .entry)) (now (contents .entry)) (now (state .entry)))) (shown (now (buffer .entry)) (run .held)) byte .held ⌝ }
 {
+    if run.over {
+        return run;
+    }
     if byte != 10 {
         return run.holding(text::print::put(buffer, run.held, byte));
     }

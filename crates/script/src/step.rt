@@ -9,7 +9,7 @@ ghost use Rattle.text.specs.Print.{shown, added};
 ghost use Rattle.line.specs.Line.{said};
 ghost use Rattle.listing.specs.Listing.{answerText, listText};
 ghost use Rattle.memory.specs.Memory.{inUse};
-ghost use Rattle.script.specs.Script.{standing, doneText, refusedTurn, formatTurn, lineTurn, isFormat, isEarly, turn};
+ghost use Rattle.script.specs.Script.{standing, startRun, doneText, refusedTurn, formatTurn, lineTurn, isFormat, isEarly, turn};
 use line::Line;
 use text::print;
 
@@ -24,8 +24,10 @@ pub struct Run {
 }
 
 impl Run {
-    // The run before its first line.
-    pub fn start() -> Run {
+    // The run before its first byte.
+    pub fn start() -> Run
+        ensures { λ r. ⌜ r ≡ startRun ⌝ }
+    {
         Run {
             pages: 0,
             slots: 0,
@@ -246,7 +248,7 @@ fn line_step(
     }
 }
 
-// One line carried out.
+// One line carried out, unless the run is over.
 pub fn step(
     run: Run,
     line: Line,
@@ -262,6 +264,9 @@ pub fn step(
         (turn width (standing run (volume (now (words .entry)) (now (contents .entry)) (now (state .entry)))) (said line (now (list .entry))) .prints) ⌝ }
     ensures holds { λ s. ⌜ s .held ≡ run .held ⌝ }
 {
+    if run.over {
+        return run;
+    }
     if is_early(run.pages, line) {
         return refuse(run, out);
     }

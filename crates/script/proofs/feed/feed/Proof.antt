@@ -2,9 +2,16 @@ use mathlib.Core.Path.{refl}
 use borrow.Author.Needs.{needs}
 use Rattle.bounded.specs.Limits.{width}
 use Rattle.volume.specs.Volume.{volume}
-use Rattle.script.specs.FeedLaws.{took-byte, took-line-end}
+use Rattle.script.specs.StepLaws.{went-idle}
+use Rattle.script.specs.FeedLaws.{took-over, took-byte, took-line-end}
 use Rattle.script.proofs.feed.feed.Statement.{statement}
 use Rattle.script.proofs.feed.feed.Tie as tie
+
+returns : tie.Need-returns
+returns c =
+    let a = c .before .before .before .before .before .before .args in
+    let m = volume (a .words .now) (a .contents .now) (a .state .now) in
+    took-over width (a .run) _ m _ (a .out .now) _ (a .buffer .now) _ (a .byte) (c .if1 .taken) refl (went-idle (a .run) m (a .out .now))
 
 put-requires : tie.Need-put-requires
 put-requires c κs = search needs
@@ -15,10 +22,10 @@ holding-requires c κs = search needs
 same-length : tie.Need-same-length
 same-length c = search needs
 
-returns : tie.Need-returns
-returns c =
-    let a = c .before .before .before .before .before .before .before .before .before .before .before .args in
-    took-byte width (a .run) _ (volume (a .words .now) (a .contents .now) (a .state .now)) _ (a .out .now) _ (a .buffer .now) _ (a .byte) (c .before .before .before .before .before .if1 .taken) refl refl _ (c .holding .ensures) (c .before .before .before .put .ensures)
+returns-2 : tie.Need-returns-2
+returns-2 c =
+    let a = c .before .before .before .before .before .before .before .before .before .before .before .before .args in
+    took-byte width (a .run) _ (volume (a .words .now) (a .contents .now) (a .state .now)) _ (a .out .now) _ (a .buffer .now) _ (a .byte) (c .before .before .before .before .before .before .if1 .left) (c .before .before .before .before .before .if2 .taken) refl refl _ (c .holding .ensures) (c .before .before .before .put .ensures)
 
 end-line-requires : tie.Need-end-line-requires
 end-line-requires c κs = search needs
@@ -38,23 +45,24 @@ same-length-5 c = search needs
 same-length-6 : tie.Need-same-length-6
 same-length-6 c = search needs
 
-returns-2 : tie.Need-returns-2
-returns-2 c =
-    let a = c .before .before .before .before .before .before .before .before .before .before .before .before .before .before .before .before .before .before .before .before .args in
-    took-line-end width (a .run) _ (volume (a .words .now) (a .contents .now) (a .state .now)) _ (a .out .now) _ (a .buffer .now) _ (a .byte) (c .before .before .before .before .before .before .before .before .before .before .before .before .before .before .if1 .left) (c .before .before .before .before .before .before .before .before .end-line .ensures)
+returns-3 : tie.Need-returns-3
+returns-3 c =
+    let a = c .before .before .before .before .before .before .before .before .before .before .before .before .before .before .before .before .before .before .before .before .before .args in
+    took-line-end width (a .run) _ (volume (a .words .now) (a .contents .now) (a .state .now)) _ (a .out .now) _ (a .buffer .now) _ (a .byte) (c .before .before .before .before .before .before .before .before .before .before .before .before .before .before .before .if1 .left) (c .before .before .before .before .before .before .before .before .before .before .before .before .before .before .if2 .left) (c .before .before .before .before .before .before .before .before .end-line .ensures)
 
 pub feed-spec : {M : Type 1} → statement M
 feed-spec =
     tie.close
     (tie.spec
+    returns
     put-requires
     holding-requires
     same-length
-    returns
+    returns-2
     end-line-requires
     same-length-2
     same-length-3
     same-length-4
     same-length-5
     same-length-6
-    returns-2)
+    returns-3)
