@@ -11,11 +11,11 @@ use Rattle.bounded.specs.Choice.{on-eq, never, both-left, both-right}
 use Rattle.outcome.specs.Outcome.{Outcome, passed, settled-answer}
 use Rattle.record.specs.Flash.{Flash}
 use Rattle.record.specs.FlashLaws.{Sized}
-use Rattle.volume.specs.Volume.{Volume, volumeFits}
-use Rattle.volume.specs.SizesLaws.{Sizes, Fits, fits-facts}
-use Rattle.volume.specs.Format.{formatted, formatAnswer, formatOutcome}
-use Rattle.volume.specs.CallLaws.{format-done}
-use Rattle.recovery.specs.RecoverLaws.{recover-fills}
+use Rattle.rules.specs.Volume.{Volume, volumeFits}
+use Rattle.rules.specs.laws.Sizes.{Sizes, Fits, fits-facts}
+use Rattle.rules.specs.Format.{formatted, formatAnswer, formatOutcome}
+use Rattle.rules.specs.laws.Outcomes.{format-done}
+use Rattle.rules.specs.laws.Recover.{recover-fills}
 use Rattle.atomicity.specs.Call.{Call, withState, perform, plannedSteps}
 use Rattle.atomicity.specs.Run.{Event, World, isRecover, stillLost, happens, started, after, keepsTo, keepsPremises}
 use Rattle.atomicity.specs.Model.{Told, Model, freshModel, accept, closeAll, learns}

@@ -14,7 +14,7 @@ use Rattle.record.specs.Flash.{Flash, Step, applyAll}
 use Rattle.record.specs.FlashLaws.{Sized, blanks-listed, blanks-unlisted}
 use Rattle.state.specs.declared.PageState.{PageState}
 use Rattle.table.specs.TableLaws.{blank-holds}
-use Rattle.collect.specs.Permission.{mayErase}
+use Rattle.rules.specs.Permission.{mayErase}
 use Rattle.protocol.specs.View.{NoTwins, finds-in-slots}
 use Rattle.protocol.specs.Permitted.{may-erase-permitted}
 use Rattle.protocol.specs.Fewer.{Erased}

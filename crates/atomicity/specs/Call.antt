@@ -6,12 +6,12 @@ use lib.Dec.{eqb}
 use Rattle.outcome.specs.Outcome.{Outcome}
 use Rattle.record.specs.Flash.{Flash, Step}
 use Rattle.state.specs.State.{stateAt}
-use Rattle.volume.specs.Volume.{Volume}
-use Rattle.transact.specs.Launch.{launchOutcome}
-use Rattle.transact.specs.Write.{writeStep, writeOutcome}
-use Rattle.transact.specs.Withdraw.{withdrawOutcome}
-use Rattle.collect.specs.Erase.{eraseSteps, eraseOutcome}
-use Rattle.recovery.specs.Recover.{recoverOutcome}
+use Rattle.rules.specs.Volume.{Volume}
+use Rattle.rules.specs.Launch.{launchOutcome}
+use Rattle.rules.specs.Write.{writeStep, writeOutcome}
+use Rattle.rules.specs.Withdraw.{withdrawOutcome}
+use Rattle.rules.specs.Erase.{eraseSteps, eraseOutcome}
+use Rattle.rules.specs.Recover.{recoverOutcome}
 
 -- "It holds launch, write, withdraw, erase and recover, with any pages, slots, lists and bytes"
 pub data Call : Type 0 where

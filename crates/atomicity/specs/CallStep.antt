@@ -17,18 +17,16 @@ use Rattle.state.specs.State.{stateAt}
 use Rattle.state.specs.StateLaws.{length-stateWords}
 use Rattle.state.specs.Change.{launched, withdrawn, afterWrite}
 use Rattle.state.specs.CycleLaws.{Flies}
-use Rattle.volume.specs.Volume.{Volume}
-use Rattle.volume.specs.SizesLaws.{Fits}
-use Rattle.transact.specs.Launch.{launchAnswer, launchOutcome}
-use Rattle.transact.specs.Write.{planOf, writeAnswer, writeStep, writeChange, writeOutcome}
-use Rattle.transact.specs.Withdraw.{withdrawAnswer, withdrawOutcome}
-use Rattle.transact.specs.CallLaws.{launch-refused, launch-done, write-refused, write-done, withdraw-refused, withdraw-done}
-use Rattle.collect.specs.Erase.{eraseAnswer, eraseOutcome, eraseSteps}
-use Rattle.collect.specs.CallLaws.{erase-refused, erase-done}
-use Rattle.recovery.specs.Recover.{recoverAnswer, recoverOutcome}
-use Rattle.recovery.specs.RecoverLaws.{recover-refused, recover-fills}
-use Rattle.transact.specs.Accepted.{launch-tests, withdraw-tests, write-tests}
-use Rattle.collect.specs.EraseLaws.{erase-tests}
+use Rattle.rules.specs.Volume.{Volume}
+use Rattle.rules.specs.laws.Sizes.{Fits}
+use Rattle.rules.specs.Launch.{launchAnswer, launchOutcome}
+use Rattle.rules.specs.Write.{planOf, writeAnswer, writeStep, writeChange, writeOutcome}
+use Rattle.rules.specs.Withdraw.{withdrawAnswer, withdrawOutcome}
+use Rattle.rules.specs.laws.Outcomes.{launch-refused, launch-done, write-refused, write-done, withdraw-refused, withdraw-done, erase-refused, erase-done}
+use Rattle.rules.specs.Erase.{eraseAnswer, eraseOutcome, eraseSteps}
+use Rattle.rules.specs.Recover.{recoverAnswer, recoverOutcome}
+use Rattle.rules.specs.laws.Recover.{recover-refused, recover-fills}
+use Rattle.rules.specs.laws.Accepted.{launch-tests, withdraw-tests, write-tests, erase-tests}
 use Rattle.atomicity.specs.Call.{Call, withState, withFlash, perform}
 use Rattle.atomicity.specs.Model.{Model, accept, closeAll, enter}
 use Rattle.atomicity.specs.RingLaunch.{listed-some, listed-launchable}

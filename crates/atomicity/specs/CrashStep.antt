@@ -10,12 +10,12 @@ use Rattle.outcome.specs.Outcome.{Outcome}
 use Rattle.record.specs.Flash.{Flash, Step, applyAll}
 use Rattle.record.specs.FlashLaws.{Sized}
 use Rattle.state.specs.State.{stateAt}
-use Rattle.volume.specs.Volume.{Volume}
-use Rattle.collect.specs.Erase.{eraseSteps}
-use Rattle.transact.specs.Write.{writeDone, writeChange}
-use Rattle.transact.specs.CallLaws.{write-done}
+use Rattle.rules.specs.Volume.{Volume}
+use Rattle.rules.specs.Erase.{eraseSteps}
+use Rattle.rules.specs.Write.{writeDone, writeChange}
+use Rattle.rules.specs.laws.Outcomes.{write-done}
 use Rattle.protocol.specs.Shared.{commOf}
-use Rattle.collect.specs.EraseLaws.{erase-tests}
+use Rattle.rules.specs.laws.Accepted.{erase-tests}
 use Rattle.atomicity.specs.Call.{Call, perform, plannedSteps, flashSteps}
 use Rattle.atomicity.specs.Run.{doneOf}
 use Rattle.atomicity.specs.Model.{Told, Model, accept, closeAll, enter, learns}

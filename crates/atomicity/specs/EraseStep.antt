@@ -7,15 +7,15 @@ use Rattle.record.specs.Slot.{slotAt}
 use Rattle.record.specs.Flash.{Flash, Step, applyAll}
 use Rattle.record.specs.FlashLaws.{Sized, blanks-sized}
 use Rattle.state.specs.State.{stateAt}
-use Rattle.volume.specs.Volume.{Volume}
-use Rattle.volume.specs.ListLaws.{list-facts}
-use Rattle.collect.specs.Permission.{mayErase}
-use Rattle.collect.specs.PermissionLaws.{may-erase-all}
+use Rattle.rules.specs.Volume.{Volume}
+use Rattle.rules.specs.laws.Lists.{list-facts}
+use Rattle.rules.specs.Permission.{mayErase}
+use Rattle.rules.specs.laws.Permission.{may-erase-all}
 use Rattle.protocol.specs.View.{NoTwins}
 use Rattle.protocol.specs.Shared.{commOf}
 use Rattle.protocol.specs.BackPointer.{Core}
 use Rattle.protocol.specs.Fewer.{core-fewer, live-erased}
-use Rattle.collect.specs.EraseLaws.{EraseTests}
+use Rattle.rules.specs.laws.Accepted.{EraseTests}
 use Rattle.atomicity.specs.Model.{Model}
 use Rattle.atomicity.specs.Invariant.{Held, Live}
 use Rattle.atomicity.specs.Blanking.{member-at, blanking-apart, blanking-erases}

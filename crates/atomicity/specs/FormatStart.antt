@@ -20,8 +20,8 @@ use Rattle.state.specs.State.{stateAt, inFlight}
 use Rattle.state.specs.StateLaws.{StateFacts, length-stateWords}
 use Rattle.state.specs.Change.{atRest, freshState}
 use Rattle.table.specs.TableLaws.{blank-holds}
-use Rattle.volume.specs.SizesLaws.{Sizes, Fits}
-use Rattle.volume.specs.Format.{formattedWords, formattedContents, formatted}
+use Rattle.rules.specs.laws.Sizes.{Sizes, Fits}
+use Rattle.rules.specs.Format.{formattedWords, formattedContents, formatted}
 use Rattle.protocol.specs.View.{NoTwins, recordView}
 use Rattle.protocol.specs.Shared.{SharedLive, commOf}
 use Rattle.protocol.specs.BackPointer.{Core}

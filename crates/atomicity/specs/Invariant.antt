@@ -9,7 +9,7 @@ use Rattle.record.specs.Flash.{Flash}
 use Rattle.state.specs.declared.PageState.{PageState}
 use Rattle.state.specs.State.{stateAt}
 use Rattle.state.specs.StateLaws.{StateFacts}
-use Rattle.volume.specs.SizesLaws.{Fits}
+use Rattle.rules.specs.laws.Sizes.{Fits}
 use Rattle.protocol.specs.View.{InSlots, NoTwins, recordView}
 use Rattle.protocol.specs.Shared.{SharedLive, commOf}
 use Rattle.protocol.specs.BackPointer.{Core}

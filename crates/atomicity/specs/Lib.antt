@@ -1,4 +1,3 @@
-pub mod StarCases
 pub mod Call
 pub mod Run
 pub mod Model

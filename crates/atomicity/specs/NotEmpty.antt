@@ -8,9 +8,9 @@ use lib.ListN.{length}
 use borrow.Author.Tests.{eq-eqb}
 use Rattle.bounded.specs.Choice.{both, both-left, both-right, not-yes}
 use Rattle.outcome.specs.Outcome.{settled-answer}
-use Rattle.volume.specs.Volume.{Volume, volumeFits}
-use Rattle.volume.specs.SizesLaws.{Fits, fits-test}
-use Rattle.volume.specs.Format.{formatted, formatAnswer, formatOutcome}
+use Rattle.rules.specs.Volume.{Volume, volumeFits}
+use Rattle.rules.specs.laws.Sizes.{Fits, fits-test}
+use Rattle.rules.specs.Format.{formatted, formatAnswer, formatOutcome}
 use Rattle.atomicity.specs.Call.{Call, withState, perform}
 use Rattle.atomicity.specs.Run.{Event, World, isRecover, stillLost, happens, started, after, keepsTo, keepsPremises}
 use Rattle.atomicity.specs.Promise.{Premises}

@@ -6,10 +6,10 @@ use mathlib.Core.Bool.{Bool, true, _&&_}
 use lib.Dec.{eqb}
 use lib.ListN.{length}
 use Rattle.record.specs.Flash.{Flash}
-use Rattle.volume.specs.Volume.{Volume}
-use Rattle.volume.specs.Format.{formatOutcome}
-use Rattle.volume.specs.Read.{readOutcome}
-use Rattle.recovery.specs.Recover.{recoverOutcome}
+use Rattle.rules.specs.Volume.{Volume}
+use Rattle.rules.specs.Format.{formatOutcome}
+use Rattle.rules.specs.Read.{readOutcome}
+use Rattle.rules.specs.Recover.{recoverOutcome}
 use Rattle.atomicity.specs.Call.{Call, perform}
 use Rattle.atomicity.specs.Run.{Event, World, happens, started, after, keepsPremises}
 use Rattle.atomicity.specs.Model.{Told, Model, freshModel, learns}

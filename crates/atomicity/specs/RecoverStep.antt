@@ -14,11 +14,11 @@ use Rattle.state.specs.declared.PageState.{PageState}
 use Rattle.state.specs.State.{stateAt, stateWords, inFlight}
 use Rattle.state.specs.StateLaws.{length-stateWords, state-sound-facts}
 use Rattle.state.specs.Change.{atRest}
-use Rattle.volume.specs.Volume.{Volume}
-use Rattle.volume.specs.SizesLaws.{Sizes, Fits, sizes-test, words-fit-exactly, state-fits-exactly, fits-test}
-use Rattle.volume.specs.Read.{readOutcome}
-use Rattle.recovery.specs.Recover.{usedOf, recovered, recoverAnswer, recoverOutcome}
-use Rattle.recovery.specs.RecoverLaws.{recover-fills}
+use Rattle.rules.specs.Volume.{Volume}
+use Rattle.rules.specs.laws.Sizes.{Sizes, Fits, sizes-test, words-fit-exactly, state-fits-exactly, fits-test}
+use Rattle.rules.specs.Read.{readOutcome}
+use Rattle.rules.specs.Recover.{usedOf, recovered, recoverAnswer, recoverOutcome}
+use Rattle.rules.specs.laws.Recover.{recover-fills}
 use Rattle.protocol.specs.View.{NoTwins, recordView}
 use Rattle.protocol.specs.Shared.{SharedLive, commOf}
 use Rattle.protocol.specs.BackPointer.{Core}

@@ -18,8 +18,8 @@ use Rattle.state.specs.StateLaws.{number-flies, StateFacts}
 use Rattle.state.specs.Change.{placeOf, following, launchedPage, launched}
 use Rattle.state.specs.Walk.{Launchable}
 use Rattle.state.specs.LaunchLaws.{place-listed, listed-place}
-use Rattle.volume.specs.Volume.{noRepeats, inRange, listOk}
-use Rattle.transact.specs.Launch.{somePage, usedUp}
+use Rattle.rules.specs.Volume.{noRepeats, inRange, listOk}
+use Rattle.rules.specs.Launch.{somePage, usedUp}
 use Rattle.atomicity.specs.Model.{Entry, pageOf, hasBytes, inRing, newRing}
 use Rattle.atomicity.specs.Rings.{pagesOf, inRings, IsEntered, RunsRound, RingMatches, Apart, RingsMatch}
 use Rattle.atomicity.specs.RingLaws.{in-ring-place, place-in-ring, ring-before, before-or-last, in-rings-before, in-rings-last, apart-last}

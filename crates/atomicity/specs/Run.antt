@@ -5,8 +5,8 @@ use mathlib.Core.Bool.{Bool, true, false, cond, not, _&&_}
 use lib.Dec.{eqb}
 use lib.ListN.{length}
 use Rattle.record.specs.Flash.{Step, applyAll}
-use Rattle.volume.specs.Volume.{Volume}
-use Rattle.volume.specs.Format.{formatOutcome}
+use Rattle.rules.specs.Volume.{Volume}
+use Rattle.rules.specs.Format.{formatOutcome}
 use Rattle.atomicity.specs.Call.{Call, perform, flashSteps}
 
 -- "A cut falls between two calls or in one." A crash in a call carries one choice: for each flash step of the call, whether it was done.

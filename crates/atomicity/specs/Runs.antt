@@ -7,7 +7,7 @@ use lib.Dec.{eqb}
 use lib.ListN.{replicate}
 use Rattle.record.specs.Slot.{blankRecord}
 use Rattle.table.specs.Given.{given, tableOf}
-use Rattle.volume.specs.Volume.{Volume}
+use Rattle.rules.specs.Volume.{Volume}
 use Rattle.atomicity.specs.Call.{Call}
 use Rattle.atomicity.specs.Run.{Event, started, after}
 use Rattle.atomicity.specs.Model.{freshModel}

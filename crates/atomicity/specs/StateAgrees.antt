@@ -15,9 +15,9 @@ use Rattle.record.specs.declared.Slot.the-variants.{Blank, Holds}
 use Rattle.record.specs.Slot.{slotAt, bytesAt}
 use Rattle.state.specs.declared.PageState.{PageState}
 use Rattle.state.specs.State.{stateAt, inFlight}
-use Rattle.volume.specs.Volume.{Volume}
-use Rattle.transact.specs.Write.{planOf}
-use Rattle.recovery.specs.Recover.{committedOf, mentioned, usedOf}
+use Rattle.rules.specs.Volume.{Volume}
+use Rattle.rules.specs.Write.{planOf}
+use Rattle.rules.specs.Recover.{committedOf, mentioned, usedOf}
 use Rattle.protocol.specs.Recovers.{committed-found}
 use Rattle.atomicity.specs.Run.{Event, started, after}
 use Rattle.atomicity.specs.Model.{Model, freshModel}

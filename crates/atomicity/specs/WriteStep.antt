@@ -18,7 +18,7 @@ use Rattle.state.specs.Change.{marked, completes, completed, afterWrite}
 use Rattle.state.specs.CycleLaws.{Flies}
 use Rattle.state.specs.ChangeLaws.{after-write-sound}
 use Rattle.state.specs.CompletionLaws.{after-write-done, after-write-not}
-use Rattle.transact.specs.Write.{planOf, writeStep}
+use Rattle.rules.specs.Write.{planOf, writeStep}
 use Rattle.protocol.specs.View.{recordView, NoTwins}
 use Rattle.protocol.specs.Shared.{plan}
 use Rattle.protocol.specs.Stored.{Writes, not-there}

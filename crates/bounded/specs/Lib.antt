@@ -6,3 +6,5 @@ pub mod Parts
 pub mod PartsLaws
 pub mod Pigeonhole
 pub mod Computing
+pub mod Tabulate
+pub mod Fill

@@ -8,17 +8,15 @@ use mathlib.Core.Bool.{true}
 use lib.ListN.{length, getD, take}
 use lib.Seq.{take-length}
 use Rattle.bounded.specs.PartsLaws.{part-inside}
-use Rattle.outcome.specs.Outcome.{held}
 use Rattle.record.specs.Slot.{slotAt}
 use Rattle.record.specs.Flash.{Flash, Step, apply, applyAll}
-use Rattle.state.specs.State.{stateAt, stateSound}
 use Rattle.table.specs.Table.{tableSound}
-use Rattle.volume.specs.Volume.{Volume, volumeFits, listOk}
-use Rattle.volume.specs.SizesLaws.{Fits, fits-facts}
-use Rattle.volume.specs.ListLaws.{Listed, list-facts}
-use Rattle.collect.specs.Permission.{mayEraseAll}
-use Rattle.collect.specs.Erase.{eraseAnswer, eraseSteps}
+use Rattle.rules.specs.Volume.{Volume, volumeFits}
+use Rattle.rules.specs.laws.Sizes.{Fits, fits-facts}
+use Rattle.rules.specs.laws.Lists.{Listed, list-facts}
+use Rattle.rules.specs.Erase.{eraseAnswer, eraseSteps}
 use Rattle.collect.specs.Within.{Within, sound-within}
+use Rattle.rules.specs.laws.Accepted.{erase-tests}
 
 -- every listed slot is in the words and in the contents
 pub record ListedIn (w : ℕ) (words contents list : List ℕ) : Type 0 where
@@ -49,22 +47,6 @@ module _ (w : ℕ) where
       step f (k ∷ list) (suc i) h = step (apply w f (Step.Blank k)) list i (omega arith)
 
 -- ---- an accepted erase
-
--- the tests that it passes
-pub record EraseTests (w P S : ℕ) (v : Volume) (list : List ℕ) : Type 0 where
-  pub fits : Fits w P S v
-  pub listed : listOk S list ≡ true
-  pub permitted : mayEraseAll S (slotAt (v .flash .words)) (stateAt (v .state)) list ≡ true
-
-pub erase-tests : (w P S : ℕ) (v : Volume) (list : List ℕ) → eraseAnswer w P S v list ≡ 0 → EraseTests w P S v list
-unfolding eraseAnswer
-erase-tests w P S v list e =
-    let a = held (volumeFits w P S v) _ _ e in
-    let b = held (tableSound P S (slotAt (v .flash .words))) _ _ (a .1) in
-    let c = held (stateSound P (stateAt (v .state))) _ _ (b .1) in
-    let d = held (listOk S list) _ _ (c .1) in
-    let f = held (mayEraseAll S (slotAt (v .flash .words)) (stateAt (v .state)) list) _ _ (d .1) in
-    record { fits = fits-facts w P S v (a .0); listed = d .0; permitted = f .0 }
 
 -- each listed slot is inside a volume that fits
 listed-in : (w P S : ℕ) (v : Volume) (list : List ℕ) → Fits w P S v → Listed S list → ListedIn w (v .flash .words) (v .flash .contents) list

@@ -1,11 +1,4 @@
-pub mod Permission
-pub mod PermissionLaws
 pub mod Within
 pub mod SearchLaws
-pub mod Erase
-pub mod Suggest
-pub mod CallLaws
 pub mod EraseLaws
 pub mod SuggestLaws
-pub mod Computing
-pub mod Cases

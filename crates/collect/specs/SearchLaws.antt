@@ -11,7 +11,7 @@ use Rattle.record.specs.declared.Slot.{Slot}
 use Rattle.record.specs.declared.Slot.the-variants.{Blank, Holds}
 use Rattle.record.specs.Slot.{holds, someRecord}
 use Rattle.state.specs.declared.PageState.{PageState}
-use Rattle.collect.specs.Permission.{isObsolete, isExposed, outreaches, isShielded, isNeeded, isCurrent, mayEraseRecord}
+use Rattle.rules.specs.Permission.{isObsolete, isExposed, outreaches, isShielded, isNeeded, isCurrent, mayEraseRecord}
 
 -- ---- a search upward: one number more that does not pass
 pub none-more : (f : ℕ → Bool) (n : ℕ) → ((k : ℕ) → k < n → f k ≡ false) → f n ≡ false → (k : ℕ) → k < n + 1 → f k ≡ false

@@ -14,10 +14,10 @@ use Rattle.outcome.specs.Reply.{Replies}
 use Rattle.record.specs.Slot.{slotAt}
 use Rattle.state.specs.State.{stateAt}
 use Rattle.table.specs.Table.{tableSound}
-use Rattle.volume.specs.Volume.{sizesOk, wordsFit, stateFits}
-use Rattle.volume.specs.SizesLaws.{words-fit-exactly, state-fits-exactly}
-use Rattle.collect.specs.Permission.{mayErase}
-use Rattle.collect.specs.Suggest.{suggestAnswer, SuggestOutcome}
+use Rattle.rules.specs.Volume.{sizesOk, wordsFit, stateFits}
+use Rattle.rules.specs.laws.Sizes.{words-fit-exactly, state-fits-exactly}
+use Rattle.rules.specs.Permission.{mayErase}
+use Rattle.rules.specs.Suggest.{suggestAnswer, SuggestOutcome}
 use Rattle.collect.specs.Within.{Within, sound-within}
 
 -- ---- the search upward

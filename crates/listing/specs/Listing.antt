@@ -8,8 +8,8 @@ use Rattle.bounded.specs.Parts.{joinParts}
 use Rattle.outcome.specs.Outcome.{Outcome}
 use Rattle.bits.specs.Bits.{countOutcome}
 use Rattle.state.specs.State.{stateAt}
-use Rattle.volume.specs.Volume.{Volume}
-use Rattle.volume.specs.Read.{readSlot, readOutcome}
+use Rattle.rules.specs.Volume.{Volume}
+use Rattle.rules.specs.Read.{readSlot, readOutcome}
 use Rattle.text.specs.Scan.{bytes}
 use Rattle.text.specs.Print.{decimal}
 

@@ -14,9 +14,9 @@ use Rattle.outcome.specs.Outcome.{held, settled-answer}
 use Rattle.record.specs.Slot.{slotAt, bytesAt}
 use Rattle.state.specs.State.{stateAt, stateSound}
 use Rattle.table.specs.Table.{tableSound}
-use Rattle.volume.specs.Volume.{Volume, volumeFits}
-use Rattle.volume.specs.SizesLaws.{fits-facts}
-use Rattle.volume.specs.Read.{readSlot, readAnswer, readOutcome}
+use Rattle.rules.specs.Volume.{Volume, volumeFits}
+use Rattle.rules.specs.laws.Sizes.{fits-facts}
+use Rattle.rules.specs.Read.{readSlot, readAnswer, readOutcome}
 use Rattle.text.specs.Print.{shown, added, decimal}
 use Rattle.text.specs.PrintLaws.{added-next}
 use Rattle.listing.specs.Listing.{answerText, pageRead, pageText, firstRefusal, listAnswer, listText}

@@ -2,7 +2,7 @@
 ghost use mathlib.Core.Path.{_≡_};
 ghost use Rattle.bounded.specs.Limits.{width};
 ghost use Rattle.bounded.specs.Parts.{joinParts};
-ghost use Rattle.volume.specs.Volume.{volume};
+ghost use Rattle.rules.specs.Volume.{volume};
 ghost use Rattle.text.specs.Print.{shown, added};
 ghost use Rattle.listing.specs.Listing.{answerText, pageRead, drawnOf, stateText, fieldsText, pageText, listAnswer, listText};
 use text::print;

@@ -4,7 +4,7 @@ use mathlib.Core.List.{List, _++_}
 use lib.ListN.{length, take, drop, replicate}
 use Rattle.outcome.specs.Outcome.{Outcome}
 use Rattle.record.specs.Flash.{Flash}
-use Rattle.volume.specs.Volume.{Volume, volume}
+use Rattle.rules.specs.Volume.{Volume, volume}
 
 -- the volume of P pages and S slots of w bytes at the front of memory
 unfoldable pub inUse : (w P S : ℕ) → Volume → Volume

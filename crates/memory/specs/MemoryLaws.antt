@@ -10,7 +10,7 @@ use borrow.Rule.Slice.PartMut.{putMid, post-is}
 use Rattle.bounded.specs.Choice.{on-lt}
 use Rattle.outcome.specs.Outcome.{Outcome, returned}
 use Rattle.record.specs.Flash.{Flash, flash}
-use Rattle.volume.specs.Volume.{Volume, volume}
+use Rattle.rules.specs.Volume.{Volume, volume}
 use Rattle.memory.specs.Memory.{inUse, stateBack, flashBack, volumeBack, leaving, lost}
 
 -- the least of n and the length reaches as far as n

@@ -6,13 +6,13 @@ ghost use lib.ListN.{take, replicate};
 ghost use Rattle.bounded.specs.Limits.{width};
 ghost use Rattle.outcome.specs.Outcome.{returned};
 ghost use Rattle.record.specs.Flash.{flash};
-ghost use Rattle.volume.specs.Volume.{volume};
-ghost use Rattle.volume.specs.Format.{formatOutcome};
-ghost use Rattle.transact.specs.Launch.{launchOutcome};
-ghost use Rattle.transact.specs.Write.{writeOutcome};
-ghost use Rattle.transact.specs.Withdraw.{withdrawOutcome};
-ghost use Rattle.collect.specs.Erase.{eraseOutcome};
-ghost use Rattle.recovery.specs.Recover.{recoverOutcome};
+ghost use Rattle.rules.specs.Volume.{volume};
+ghost use Rattle.rules.specs.Format.{formatOutcome};
+ghost use Rattle.rules.specs.Launch.{launchOutcome};
+ghost use Rattle.rules.specs.Write.{writeOutcome};
+ghost use Rattle.rules.specs.Withdraw.{withdrawOutcome};
+ghost use Rattle.rules.specs.Erase.{eraseOutcome};
+ghost use Rattle.rules.specs.Recover.{recoverOutcome};
 ghost use Rattle.memory.specs.Memory.{inUse, stateBack, flashBack, volumeBack, leaving, lost};
 
 // The lesser of two lengths.

@@ -1,8 +1,6 @@
-pub mod Needed
 pub mod View
 pub mod Shared
 pub mod BackPointer
-pub mod Colours
 pub mod Highest
 pub mod Recovers
 pub mod RecoverAnswers

@@ -10,8 +10,8 @@ use Rattle.record.specs.declared.Slot.the-variants.{Holds}
 use Rattle.record.specs.SlotLaws.{Straddles}
 use Rattle.state.specs.declared.PageState.{PageState}
 use Rattle.state.specs.State.{inFlight}
-use Rattle.collect.specs.Permission.{mayErase}
-use Rattle.collect.specs.PermissionLaws as slots
+use Rattle.rules.specs.Permission.{mayErase}
+use Rattle.rules.specs.laws.Permission as slots
 use Rattle.protocol.specs.View.{recordView, InSlots, Exposed, Obsolete}
 use Rattle.protocol.specs.Shared.{commOf}
 

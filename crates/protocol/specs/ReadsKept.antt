@@ -16,16 +16,16 @@ use Rattle.state.specs.State.{stateAt, stateWords, stateSound, inFlight}
 use Rattle.state.specs.StateLaws.{PageFacts, facts-state-sound, stateAt-words}
 use Rattle.state.specs.Change.{atRest}
 use Rattle.table.specs.Table.{hasVersion}
-use Rattle.volume.specs.Volume.{Volume, volumeFits}
-use Rattle.volume.specs.Read.{readSlot, readAnswer, readOutcome}
-use Rattle.recovery.specs.Recover.{usedOf, recovered}
+use Rattle.rules.specs.Volume.{Volume, volumeFits}
+use Rattle.rules.specs.Read.{readSlot, readAnswer, readOutcome}
+use Rattle.rules.specs.Recover.{usedOf, recovered}
 use Rattle.protocol.specs.View.{InSlots}
 use Rattle.protocol.specs.Shared.{SharedCore}
 use Rattle.protocol.specs.BackPointer.{Core}
 use Rattle.protocol.specs.RecoverAnswers.{table-sound, committed-there, recovered-is, found-within-used}
 use Rattle.table.specs.TableLaws.{lowest-holds}
 use Rattle.protocol.specs.WriteSteps.{at-rest}
-use Rattle.protocol.specs.Needed.{used-most}
+use Rattle.rules.specs.laws.Recover.{used-most}
 
 -- pages at rest are a sound state where each has its committed version at most its used one
 at-rest-facts : (P : ℕ) (st : ℕ → PageState) (c u : ℕ) → c ≤ u → u ≤ highestVersion → PageFacts P st (atRest c u)

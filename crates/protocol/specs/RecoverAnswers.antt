@@ -13,16 +13,17 @@ use Rattle.record.specs.declared.Slot.the-variants.{Blank, Holds}
 use Rattle.record.specs.Slot.{slotAt, slotSound}
 use Rattle.state.specs.Change.{atRest}
 use Rattle.table.specs.Table.{tableSound, someClash, hasRecord, hasVersion}
-use Rattle.volume.specs.Volume.{sizesOk, wordsFit, stateFits}
-use Rattle.recovery.specs.declared.End.{End}
-use Rattle.recovery.specs.declared.End.the-variants as ends
-use Rattle.recovery.specs.Recover.{walkOf, isAstray, committedOf, usedOf, recovered, recoverAnswer}
+use Rattle.rules.specs.Volume.{sizesOk, wordsFit, stateFits}
+use Rattle.follow.specs.declared.End.{End}
+use Rattle.follow.specs.declared.End.the-variants as ends
+use Rattle.rules.specs.Recover.{walkOf, committedOf, usedOf, recovered, recoverAnswer}
+use Rattle.follow.specs.Follow.{isAstray}
 use Rattle.protocol.specs.View.{InSlots, NoTwins, recordView}
 use Rattle.protocol.specs.Shared.{SharedCore, WithinUsed}
 use Rattle.protocol.specs.BackPointer.{Core}
 use Rattle.protocol.specs.Recovers.{Green, Red, coloured, walk-green, walk-red, committed-found}
 use Rattle.table.specs.TableLaws.{some-clash, has-record, has-version}
-use Rattle.recovery.specs.RecoverLaws.{used-above-version, used-above-next}
+use Rattle.rules.specs.laws.Recover.{used-above-version, used-above-next}
 
 -- every record found is at most the used version that recovery finds
 pub found-within-used : (S : ℕ) (t : ℕ → Slot) (bytes : ℕ → List ℕ) → WithinUsed recordView (InSlots S t bytes) (usedOf S t)

@@ -8,8 +8,8 @@ ghost use Rattle.bounded.specs.Limits.{width};
 ghost use Rattle.outcome.specs.Outcome.{returned};
 ghost use Rattle.record.specs.Slot.{slotAt};
 ghost use Rattle.table.specs.Table.{lowestSlot};
-ghost use Rattle.volume.specs.Volume.{volume};
-ghost use Rattle.volume.specs.Read.{readOutcome};
+ghost use Rattle.rules.specs.Volume.{volume};
+ghost use Rattle.rules.specs.Read.{readOutcome};
 use record::Slot;
 
 pub struct Reader<'a> {

@@ -1,10 +1,1 @@
-pub mod Verdict
-pub mod Follow
-pub mod FollowLaws
-pub mod Recover
-pub mod RecoverLaws
-pub mod Cases
-pub mod Computing
-pub mod Codes
-pub mod WalkLaws
 pub mod Tables

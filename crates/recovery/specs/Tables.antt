@@ -23,16 +23,16 @@ use Rattle.state.specs.Change.{atRest}
 use Rattle.table.specs.Table.{tableSound, someClash, hasRecord, hasVersion, highest, highestVersionOf, versionIn}
 use Rattle.table.specs.TableLaws.{sound-at, highest-is, highest-held}
 use Rattle.table.specs.HighestSlot.{highestSlot, named, highest-read, highest-slot-exists, beyond-blank}
-use Rattle.table.specs.Tabulate.{tabulate, tabulate-at, tabulate-cong, raise-tabulate}
-use Rattle.volume.specs.Volume.{sizesOk, wordsFit, stateFits}
-use Rattle.recovery.specs.declared.Verdict.the-variants.{Committed, Uncommitted, On}
-use Rattle.recovery.specs.declared.End.{End}
-use Rattle.recovery.specs.declared.End.the-variants as ends
-use Rattle.recovery.specs.Verdict.{isStraddled, linkVerdict, slotVerdict, verdict}
-use Rattle.recovery.specs.Follow.{follow}
-use Rattle.recovery.specs.Recover.{walkOf, isAstray, backPointer, committedBy, committedOf, mentioned, usedOf, recovered, recoverAnswer}
-use Rattle.recovery.specs.RecoverLaws.{verdict-inside}
-use Rattle.recovery.specs.Codes.{codeOf, coded, coded-back, StaysInside, follow-same}
+use Rattle.bounded.specs.Tabulate.{tabulate, tabulate-at, tabulate-cong, raise-tabulate}
+use Rattle.rules.specs.Volume.{sizesOk, wordsFit, stateFits}
+use Rattle.follow.specs.declared.Verdict.the-variants.{Committed, Uncommitted, On}
+use Rattle.follow.specs.declared.End.{End}
+use Rattle.follow.specs.declared.End.the-variants as ends
+use Rattle.rules.specs.Verdict.{isStraddled, linkVerdict, slotVerdict, verdict}
+use Rattle.follow.specs.Follow.{follow, isAstray}
+use Rattle.rules.specs.Recover.{walkOf, backPointer, committedBy, committedOf, mentioned, usedOf, recovered, recoverAnswer}
+use Rattle.rules.specs.laws.Recover.{verdict-inside}
+use Rattle.follow.specs.Codes.{codeOf, coded, coded-back, StaysInside, follow-same}
 
 -- a page without a record has committed version 0
 pub committed-blank : (e : End) → committedBy e Blank ≡ 0

@@ -1,10 +1,9 @@
 // Committed versions: following verdicts from each page, and whether the versions found are there.
 
-use super::End;
-use super::Verdict;
-use super::Walk;
 use super::link::highest_of;
 use super::link::verdict_codes;
+use follow::End;
+use record::Slot;
 ghost use mathlib.Core.Path.{_≡_};
 ghost use mathlib.Core.Bool.{false};
 ghost use Prim.Native.Nat.{_*_, _≤_, _<_};
@@ -12,50 +11,22 @@ ghost use lib.ListN.{length, getD, set};
 ghost use Rattle.bounded.specs.Below.{allBelow, someBelow};
 ghost use Rattle.record.specs.Slot.{slotAt};
 ghost use Rattle.table.specs.Table.{hasVersion};
-ghost use Rattle.table.specs.Tabulate.{tabulate};
-ghost use Rattle.recovery.specs.Codes.{coded, StaysInside};
-ghost use Rattle.recovery.specs.Follow.{follow};
-ghost use Rattle.recovery.specs.Recover.{walkOf, isAstray, committedOf};
+ghost use Rattle.bounded.specs.Tabulate.{tabulate};
+ghost use Rattle.follow.specs.Follow.{isAstray};
+ghost use Rattle.rules.specs.Recover.{walkOf, committedBy, committedOf};
 ghost use Rattle.recovery.specs.Tables.{Surveyed, verdictCodes, linksAnswer};
 
-// The walk from a page over the codes of verdicts.
-fn follow_from(codes: &[u32; 256], pages: u32, start: u32) -> Walk
-    requires { ⌜ pages ≤ 256 ⌝ }
-    requires { ⌜ start < pages ⌝ }
-    requires { ⌜ StaysInside pages (coded (now codes)) ⌝ }
-    ensures { λ r. ⌜ r ≡ follow pages (coded (now (codes .entry))) start ⌝ }
+// "Committed = hv(p), or else the c of p's highest record."
+fn committed_by(end: End, top: Slot) -> u32
+    ensures { λ r. ⌜ r ≡ committedBy end top ⌝ }
 {
-    let mut page = start;
-    let mut links = 0;
-    while links < pages {
-        match Verdict::of_code(codes[page as usize]) {
-            Verdict::Committed => {
-                return Walk {
-                    end: End::Committed,
-                    links: links + 1,
-                };
-            }
-            Verdict::Uncommitted => {
-                return Walk {
-                    end: End::Uncommitted,
-                    links: links + 1,
-                };
-            }
-            Verdict::On(next) => {
-                if next == start {
-                    return Walk {
-                        end: End::Committed,
-                        links: links + 1,
-                    };
-                }
-                page = next;
-            }
-        }
-        links += 1;
-    }
-    Walk {
-        end: End::Astray,
-        links: links,
+    let Slot::Holds(record) = top else {
+        return 0;
+    };
+    match end {
+        End::Committed => record.v,
+        End::Uncommitted => record.c,
+        End::Astray => record.c,
     }
 }
 
@@ -75,9 +46,9 @@ fn commit_page(
     ensures { λ r. ⌜ r ≡ isAstray (walkOf pages slots (slotAt (now (words .entry))) page .end) ⌝ }
     ensures { λ _. ⌜ now (committed .exit) ≡ set (now (committed .entry)) page (committedOf pages slots (slotAt (now (words .entry))) page) ⌝ }
 {
-    let walk = follow_from(codes, pages, page);
+    let walk = follow::follow_from(codes, pages, page);
     let end = walk.end;
-    committed[page as usize] = end.committed(highest_of(words, pages, slots, top, page));
+    committed[page as usize] = committed_by(end, highest_of(words, pages, slots, top, page));
     end.is_astray()
 }
 

@@ -10,8 +10,8 @@ ghost use Rattle.record.specs.Slot.{slotAt};
 ghost use Rattle.state.specs.Change.{atRest};
 ghost use Rattle.state.specs.State.{stateWords};
 ghost use Rattle.table.specs.Table.{tableSound};
-ghost use Rattle.table.specs.Tabulate.{tabulate};
-ghost use Rattle.recovery.specs.Recover.{committedOf, usedOf, recovered};
+ghost use Rattle.bounded.specs.Tabulate.{tabulate};
+ghost use Rattle.rules.specs.Recover.{committedOf, usedOf, recovered};
 
 // The page's entry becomes at least the version.
 fn raise_entry(used: &mut [u32; 256], page: u32, version: u32)

@@ -11,83 +11,9 @@ ghost use lib.ListN.{length, getD};
 ghost use Rattle.bounded.specs.Below.{allBelow};
 ghost use Rattle.outcome.specs.Outcome.{returned};
 ghost use Rattle.record.specs.Slot.{slotAt};
-ghost use Rattle.table.specs.Tabulate.{tabulate};
-ghost use Rattle.recovery.specs.Codes.{codeOf, ofCode};
-ghost use Rattle.recovery.specs.Recover.{isAstray, committedBy, committedOf, recoverOutcome};
+ghost use Rattle.bounded.specs.Tabulate.{tabulate};
+ghost use Rattle.rules.specs.Recover.{committedOf, recoverOutcome};
 ghost use Rattle.recovery.specs.Tables.{tableAnswer};
-use record::Slot;
-
-// What one link says: the start is committed, it is uncommitted, or go on at a page's highest record.
-pub enum Verdict {
-    Committed,
-    Uncommitted,
-    On(u32),
-}
-
-// Where following the links from a page ends.
-pub enum End {
-    Committed,
-    Uncommitted,
-    // The links run into a ring that lacks the start.
-    Astray,
-}
-
-// The end, and how many links were compared on the way.
-pub struct Walk {
-    pub end: End,
-    pub links: u32,
-}
-
-impl Verdict {
-    // The verdict as one number: a page, 256 for committed, 257 for uncommitted.
-    pub fn code(self) -> u32
-        ensures { λ r. ⌜ r ≡ codeOf self ⌝ }
-    {
-        match self {
-            Verdict::On(page) => page,
-            Verdict::Committed => 256,
-            Verdict::Uncommitted => 257,
-        }
-    }
-
-    pub fn of_code(code: u32) -> Verdict
-        ensures { λ r. ⌜ r ≡ ofCode code ⌝ }
-    {
-        if code == 256 {
-            return Verdict::Committed;
-        }
-        if code == 257 {
-            return Verdict::Uncommitted;
-        }
-        Verdict::On(code)
-    }
-}
-
-impl End {
-    pub fn is_astray(self) -> bool
-        ensures { λ r. ⌜ r ≡ isAstray self ⌝ }
-    {
-        match self {
-            End::Committed => false,
-            End::Uncommitted => false,
-            End::Astray => true,
-        }
-    }
-
-    // "Committed = hv(p), or else the c of p's highest record."
-    pub fn committed(self, top: Slot) -> u32
-        ensures { λ r. ⌜ r ≡ committedBy self top ⌝ }
-    {
-        let Slot::Holds(record) = top else {
-            return 0;
-        };
-        match self {
-            End::Committed => record.v,
-            End::Uncommitted => record.c,
-            End::Astray => record.c,
-        }
-    }
-}
 
 // Each page has a record, by the table of highest slots.
 fn records_present(pages: u32, slots: u32, top: &[u32; 256]) -> bool

@@ -1,6 +1,6 @@
 // One link's verdict: the highest record of a page, the search for a straddler, and the table of verdicts.
 
-use super::Verdict;
+use follow::Verdict;
 use record::Record;
 use record::Slot;
 ghost use mathlib.Core.Path.{_≡_};
@@ -8,7 +8,7 @@ ghost use Prim.Native.Nat.{_*_, _≤_, _<_};
 ghost use lib.ListN.{length};
 ghost use Rattle.record.specs.Slot.{slotAt, holds, straddles};
 ghost use Rattle.table.specs.Table.{highest, versionIn};
-ghost use Rattle.recovery.specs.Verdict.{isStraddled, linkVerdict, verdict};
+ghost use Rattle.rules.specs.Verdict.{isStraddled, linkVerdict, verdict};
 ghost use Rattle.recovery.specs.Tables.{Surveyed, verdictCodes};
 
 // The slot holds a record that straddles the link.

@@ -9,7 +9,7 @@ use lib.ListN.{length, take, drop, length-take}
 use lib.Seq.{take-all}
 use borrow.Author.Tests.{ne-eqb, eq-eqb, lt-ltb}
 use Rattle.bounded.specs.Choice.{on-lt}
-use Rattle.volume.specs.Volume.{Volume}
+use Rattle.rules.specs.Volume.{Volume}
 use Rattle.memory.specs.MemoryLaws.{front-lent}
 use Rattle.text.specs.Print.{shown, added}
 use Rattle.text.specs.PrintLaws.{added-none}

@@ -11,9 +11,9 @@ use borrow.Author.Tests.{eq-eqb, ne-eqb}
 use Rattle.bounded.specs.Choice.{on-eq}
 use Rattle.bounded.specs.Parts.{joinFrom, joinParts}
 use Rattle.outcome.specs.Outcome.{Outcome, held, settled-answer}
-use Rattle.volume.specs.Volume.{Volume, volumeFits}
-use Rattle.volume.specs.Format.{formatted as formattedVolume, formatAnswer, formatOutcome}
-use Rattle.volume.specs.SizesLaws.{fits-facts}
+use Rattle.rules.specs.Volume.{Volume, volumeFits}
+use Rattle.rules.specs.Format.{formatted as formattedVolume, formatAnswer, formatOutcome}
+use Rattle.rules.specs.laws.Sizes.{fits-facts}
 use Rattle.memory.specs.Memory.{inUse, leaving}
 use Rattle.text.specs.Scan.{bytes}
 use Rattle.text.specs.Print.{shown, added, decimalIn, decimal}

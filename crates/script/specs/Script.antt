@@ -5,8 +5,8 @@ use mathlib.Core.Bool.{Bool, true, false, cond, not, _&&_}
 use lib.Dec.{eqb}
 use lib.ListN.{take, replicate}
 use Rattle.outcome.specs.Outcome.{Outcome}
-use Rattle.volume.specs.Volume.{Volume}
-use Rattle.volume.specs.Format.{formatOutcome}
+use Rattle.rules.specs.Volume.{Volume}
+use Rattle.rules.specs.Format.{formatOutcome}
 use Rattle.atomicity.specs.Call.{Call, perform}
 use Rattle.memory.specs.Memory.{inUse, stateBack, volumeBack, leaving, lost}
 use Rattle.text.specs.Scan.{bytes}

@@ -9,14 +9,14 @@ use lib.ListN.{length, take, replicate, take-append-drop}
 use borrow.Author.Tests.{ne-eqb, eq-eqb}
 use Rattle.outcome.specs.Outcome.{Outcome, returned}
 use Rattle.record.specs.Flash.{Flash}
-use Rattle.volume.specs.Volume.{Volume}
-use Rattle.volume.specs.Format.{formatAnswer, formatOutcome}
-use Rattle.volume.specs.CallLaws.{format-refused as volume-refused}
-use Rattle.transact.specs.Launch.{launchOutcome}
-use Rattle.transact.specs.Write.{writeOutcome}
-use Rattle.transact.specs.Withdraw.{withdrawOutcome}
-use Rattle.collect.specs.Erase.{eraseOutcome}
-use Rattle.recovery.specs.Recover.{recoverOutcome}
+use Rattle.rules.specs.Volume.{Volume}
+use Rattle.rules.specs.Format.{formatAnswer, formatOutcome}
+use Rattle.rules.specs.laws.Outcomes.{format-refused as volume-refused}
+use Rattle.rules.specs.Launch.{launchOutcome}
+use Rattle.rules.specs.Write.{writeOutcome}
+use Rattle.rules.specs.Withdraw.{withdrawOutcome}
+use Rattle.rules.specs.Erase.{eraseOutcome}
+use Rattle.rules.specs.Recover.{recoverOutcome}
 use Rattle.atomicity.specs.Call.{perform, withState, withFlash}
 use Rattle.memory.specs.Memory.{inUse, stateBack, flashBack, volumeBack, leaving, lost}
 use Rattle.text.specs.Scan.{bytes}

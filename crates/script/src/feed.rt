@@ -2,7 +2,7 @@
 ghost use mathlib.Core.Path.{_≡_};
 ghost use lib.ListN.{length};
 ghost use Rattle.bounded.specs.Limits.{width};
-ghost use Rattle.volume.specs.Volume.{volume};
+ghost use Rattle.rules.specs.Volume.{volume};
 ghost use Rattle.text.specs.Print.{shown, added};
 ghost use Rattle.script.specs.Script.{standing};
 ghost use Rattle.script.specs.Feed.{carried, fed};

@@ -4,7 +4,7 @@ ghost use mathlib.Core.Path.{_≡_};
 ghost use mathlib.Core.List.{List};
 ghost use mathlib.Core.Bool.{true};
 ghost use Rattle.bounded.specs.Limits.{width};
-ghost use Rattle.volume.specs.Volume.{Volume, volume};
+ghost use Rattle.rules.specs.Volume.{Volume, volume};
 ghost use Rattle.text.specs.Print.{shown, added};
 ghost use Rattle.line.specs.Line.{said};
 ghost use Rattle.listing.specs.Listing.{answerText, listText};

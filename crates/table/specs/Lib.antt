@@ -2,5 +2,4 @@ pub mod Table
 pub mod TableLaws
 pub mod Given
 pub mod Computing
-pub mod Tabulate
 pub mod HighestSlot

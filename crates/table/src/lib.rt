@@ -8,7 +8,7 @@ ghost use mathlib.Core.Bool.{true};
 ghost use Rattle.bounded.specs.Below.{someBelow};
 ghost use Rattle.table.specs.Table.{tableSound, ofVersion, clash, someClash, lowestSlot, above};
 ghost use Rattle.table.specs.HighestSlot.{named, highestSlot};
-ghost use Rattle.table.specs.Tabulate.{tabulate};
+ghost use Rattle.bounded.specs.Tabulate.{tabulate};
 use record::Record;
 use record::Slot;
 

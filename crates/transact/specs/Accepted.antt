@@ -3,102 +3,30 @@ use Prim.Native.Nat.{ℕ, _+_, _*_, _≤_, _<_}
 use native.Mathlib.Omega.{arith}
 use mathlib.Core.Path.{_≡_, sym, ap, subst}
 use mathlib.Core.List.{List}
-use mathlib.Core.Bool.{Bool, true, false, cond, _&&_}
-use lib.Dec.{ltb, eqb}
+use mathlib.Core.Bool.{Bool, true, false, cond}
 use lib.ListN.{length, getD}
-use borrow.Author.Tests.{ltb-true, eqb-true, eq-eqb}
+use borrow.Author.Tests.{eq-eqb}
 use Rattle.bounded.specs.Limits.{highestVersion}
-use Rattle.bounded.specs.Choice.{on-eq, never, both-left, both-right}
+use Rattle.bounded.specs.Choice.{on-eq, never}
 use Rattle.bounded.specs.BelowLaws.{some-not-at}
 use Rattle.bounded.specs.Parts.{putPart}
 use Rattle.bounded.specs.PartsLaws.{part-inside}
-use Rattle.outcome.specs.Outcome.{passed, held}
 use Rattle.record.specs.declared.Record.{Record}
-use Rattle.record.specs.Slot.{slotAt, wordsOf, plannedRecord, isBlank}
+use Rattle.record.specs.Slot.{wordsOf, plannedRecord}
 use Rattle.record.specs.Flash.{apply, putSlot}
 use Rattle.state.specs.declared.PageState.{PageState}
-use Rattle.state.specs.State.{stateAt, stateWords, stateSound, inFlight, isWritten}
+use Rattle.state.specs.State.{stateAt, stateWords, stateSound, inFlight}
 use Rattle.state.specs.StateLaws.{state-sound-facts}
 use Rattle.state.specs.Change.{launched, withdrawn, completes, afterWrite}
 use Rattle.state.specs.Walk.{pagesIn, Walkable, Launchable}
 use Rattle.state.specs.WalkLaws.{pages-in}
-use Rattle.table.specs.Table.{tableSound}
-use Rattle.volume.specs.Volume.{Volume, volume, volumeFits, sizesOk, stateFits, listOk}
-use Rattle.volume.specs.SizesLaws.{Fits, fits-facts, state-fits-exactly}
-use Rattle.volume.specs.ListLaws.{Listed, list-facts}
-use Rattle.transact.specs.Launch.{somePage, usedUp, launchAnswer}
-use Rattle.transact.specs.Write.{planOf, writeAnswer, writeStep, writeDone, writeChange}
-use Rattle.transact.specs.Withdraw.{withdrawAnswer}
-
--- ---- the tests that each call passes
-
-pub record LaunchTests (P : ℕ) (state pages : List ℕ) : Type 0 where
-  pub state-sized : length state ≡ 4 * P
-  pub sound : stateSound P (stateAt state) ≡ true
-  pub listed : listOk P pages ≡ true
-  pub none-flying : somePage pages (stateAt state) inFlight ≡ false
-  pub none-used-up : somePage pages (stateAt state) usedUp ≡ false
-
-pub record WithdrawTests (P : ℕ) (state : List ℕ) (page : ℕ) : Type 0 where
-  pub state-sized : length state ≡ 4 * P
-  pub sound : stateSound P (stateAt state) ≡ true
-  pub page-below : page < P
-  pub flying : inFlight (stateAt state page) ≡ true
-
-pub record WriteTests (w P S : ℕ) (v : Volume) (page slot : ℕ) (bytes : List ℕ) : Type 0 where
-  pub fits : Fits w P S v
-  pub whole : length bytes ≡ w
-  pub sound : stateSound P (stateAt (v .state)) ≡ true
-  pub page-below : page < P
-  pub slot-below : slot < S
-  pub flying : inFlight (stateAt (v .state) page) ≡ true
-  pub unwritten : isWritten (stateAt (v .state) page) ≡ false
-  pub free : isBlank (slotAt (v .flash .words) slot) ≡ true
-
-module _ (P S : ℕ) (state : List ℕ) where
-  -- the state's words are four for each of P pages
-  sized : (sizesOk P S && stateFits P state) ≡ true → length state ≡ 4 * P
-  sized e = state-fits-exactly P state .0 (both-right (sizesOk P S) (stateFits P state) e)
-
-  pub launch-tests : (pages : List ℕ) → launchAnswer P S state pages ≡ 0 → LaunchTests P state pages
-  unfolding launchAnswer
-  launch-tests pages z =
-      let a = held (sizesOk P S && stateFits P state) _ _ z in
-      let b = held (stateSound P (stateAt state)) _ _ (a .1) in
-      let c = held (listOk P pages) _ _ (b .1) in
-      let d = passed (somePage pages (stateAt state) inFlight) _ _ (c .1) in
-      let f = passed (somePage pages (stateAt state) usedUp) _ _ (d .1) in
-      record { state-sized = sized (a .0); sound = b .0; listed = c .0; none-flying = d .0; none-used-up = f .0 }
-
-  pub withdraw-tests : (page : ℕ) → withdrawAnswer P S state page ≡ 0 → WithdrawTests P state page
-  unfolding withdrawAnswer
-  withdraw-tests page z =
-      let a = held (sizesOk P S && stateFits P state) _ _ z in
-      let b = held (stateSound P (stateAt state)) _ _ (a .1) in
-      let c = held (ltb page P) _ _ (b .1) in
-      let d = held (inFlight (stateAt state page)) _ _ (c .1) in
-      record { state-sized = sized (a .0); sound = b .0; page-below = ltb-true page P (c .0); flying = d .0 }
-
-pub write-tests : (w P S : ℕ) (v : Volume) (page slot : ℕ) (bytes : List ℕ) → writeAnswer w P S v page slot bytes ≡ 0 → WriteTests w P S v page slot bytes
-unfolding writeAnswer
-write-tests w P S v page slot bytes z =
-    let a = held (volumeFits w P S v && eqb (length bytes) w) _ _ z in
-    let b = held (tableSound P S (slotAt (v .flash .words))) _ _ (a .1) in
-    let c = held (stateSound P (stateAt (v .state))) _ _ (b .1) in
-    let d = held (ltb page P && ltb slot S) _ _ (c .1) in
-    let f = held (inFlight (stateAt (v .state) page)) _ _ (d .1) in
-    let g = passed (isWritten (stateAt (v .state) page)) _ _ (f .1) in
-    let h = held (isBlank (slotAt (v .flash .words) slot)) _ _ (g .1) in
-    record {
-      fits = fits-facts w P S v (both-left (volumeFits w P S v) (eqb (length bytes) w) (a .0));
-      whole = eqb-true (length bytes) w (both-right (volumeFits w P S v) (eqb (length bytes) w) (a .0));
-      sound = c .0;
-      page-below = ltb-true page P (both-left (ltb page P) (ltb slot S) (d .0));
-      slot-below = ltb-true slot S (both-right (ltb page P) (ltb slot S) (d .0));
-      flying = f .0;
-      unwritten = g .0;
-      free = h .0;
-    }
+use Rattle.rules.specs.Volume.{Volume, volume, stateFits, listOk}
+use Rattle.rules.specs.laws.Sizes.{state-fits-exactly}
+use Rattle.rules.specs.laws.Lists.{Listed, list-facts}
+use Rattle.rules.specs.Launch.{somePage, usedUp, launchAnswer}
+use Rattle.rules.specs.Write.{planOf, writeAnswer, writeStep, writeDone, writeChange}
+use Rattle.rules.specs.Withdraw.{withdrawAnswer}
+use Rattle.rules.specs.laws.Accepted.{launch-tests, withdraw-tests, write-tests}
 
 -- the tests of a list of pages and of the state's words, for the pages that these words are of
 pub listed-pages : (P : ℕ) (state pages : List ℕ) → stateFits P state ≡ true → listOk P pages ≡ true → Listed (pagesIn state) pages

@@ -6,11 +6,11 @@ ghost use Rattle.bounded.specs.Limits.{width};
 ghost use Rattle.outcome.specs.Outcome.{returned};
 ghost use Rattle.state.specs.State.{stateAt, inFlight};
 ghost use Rattle.state.specs.Walk.{pagesIn, Walkable};
-ghost use Rattle.volume.specs.Volume.{volume};
-ghost use Rattle.volume.specs.ListLaws.{Listed};
-ghost use Rattle.transact.specs.Launch.{somePage, usedUp, launchAnswer, launchOutcome};
-ghost use Rattle.transact.specs.Write.{planOf, writeAnswer, writeOutcome};
-ghost use Rattle.transact.specs.Withdraw.{withdrawAnswer, withdrawOutcome};
+ghost use Rattle.rules.specs.Volume.{volume};
+ghost use Rattle.rules.specs.laws.Lists.{Listed};
+ghost use Rattle.rules.specs.Launch.{somePage, usedUp, launchAnswer, launchOutcome};
+ghost use Rattle.rules.specs.Write.{planOf, writeAnswer, writeOutcome};
+ghost use Rattle.rules.specs.Withdraw.{withdrawAnswer, withdrawOutcome};
 
 // "used is at most 4,294,967,294"
 const HIGHEST_VERSION: u32 = 4294967294;

@@ -11,8 +11,8 @@ use Rattle.record.specs.SlotLaws.{words-length}
 use Rattle.state.specs.declared.PageState.{PageState}
 use Rattle.state.specs.State.{pageWords, stateWords}
 use Rattle.state.specs.StateLaws.{length-pageWords}
-use Rattle.volume.specs.Fill.{filled, filled-all}
-use Rattle.volume.specs.Format.{formattedWords, formattedContents}
+use Rattle.bounded.specs.Fill.{filled, filled-all}
+use Rattle.rules.specs.Format.{formattedWords, formattedContents}
 
 -- "slot i below P holds (i, 0, 0, i, 0) …; all other slots are blank": the words of slot k
 unfoldable pub freshWords : (P k : ℕ) → List ℕ

@@ -1,10 +1,1 @@
-pub mod Volume
-pub mod SizesLaws
-pub mod ListLaws
-pub mod Fill
-pub mod Format
 pub mod FormatLaws
-pub mod Read
-pub mod CallLaws
-pub mod Computing
-pub mod Cases

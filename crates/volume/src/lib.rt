@@ -9,9 +9,9 @@ ghost use Rattle.record.specs.Slot.{slotAt};
 ghost use Rattle.state.specs.State.{stateAt, stateWords};
 ghost use Rattle.state.specs.Change.{freshState};
 ghost use Rattle.table.specs.Table.{lowestSlot};
-ghost use Rattle.volume.specs.Volume.{volume, sizesOk, wordsFit, contentsFit, stateFits, volumeFits, listOk};
-ghost use Rattle.volume.specs.ListLaws.{newAt};
-ghost use Rattle.volume.specs.Format.{formattedWords, formattedContents, formatOutcome};
+ghost use Rattle.rules.specs.Volume.{volume, sizesOk, wordsFit, contentsFit, stateFits, volumeFits, listOk};
+ghost use Rattle.rules.specs.laws.Lists.{newAt};
+ghost use Rattle.rules.specs.Format.{formattedWords, formattedContents, formatOutcome};
 ghost use Rattle.volume.specs.FormatLaws.{freshWords, freshBytes};
 
 // Bytes of contents a slot has: the `width` of the contracts, which the proofs of format and read hold it to.

@@ -1,6 +1,6 @@
 -- `bpcc::star_cases` meets its contract: the theorems are cited. Assumes nothing.
-use Rattle.volume.specs.Cases.{bound-rows}
-use Rattle.atomicity.specs.StarCases.{star-cases}
+use Rattle.rules.specs.cases.Bounds.{bound-rows}
+use Rattle.rules.specs.cases.Star.{star-cases}
 use Rattle.bpcc.proofs.star_cases.Statement.{statement}
 use Rattle.bpcc.proofs.star_cases.Tie as tie
 

@@ -3,7 +3,7 @@ use borrow.Author.Needs.{needs}
 use mathlib.Core.Path.{refl, sym, ap, _∙_}
 use Rattle.outcome.specs.Outcome.{returned}
 use Rattle.outcome.specs.Reply.{reply-refused, reply-done}
-use Rattle.collect.specs.Erase.{eraseOutcome}
+use Rattle.rules.specs.Erase.{eraseOutcome}
 use Rattle.collect.specs.EraseLaws.{accepted-listed}
 use Rattle.collect.proofs.erase.Statement.{statement}
 use Rattle.collect.proofs.erase.Tie as tie

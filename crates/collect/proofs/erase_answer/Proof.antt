@@ -1,9 +1,9 @@
 -- Each return rewrites with the tests that led there; each call's bounds come from the sizes tested first.
 use native.Mathlib.Omega.{arith}
 use Rattle.bounded.specs.Choice.{said-yes, said-no}
-use Rattle.volume.specs.SizesLaws.{fits-facts}
-use Rattle.volume.specs.ListLaws.{list-facts}
-use Rattle.collect.specs.Erase.{eraseAnswer}
+use Rattle.rules.specs.laws.Sizes.{fits-facts}
+use Rattle.rules.specs.laws.Lists.{list-facts}
+use Rattle.rules.specs.Erase.{eraseAnswer}
 use Rattle.collect.specs.EraseLaws.{fits-within}
 use borrow.Author.Needs.{needs}
 use Rattle.collect.proofs.erase_answer.Statement.{statement}

@@ -6,7 +6,7 @@ use mathlib.Core.Bool.{false}
 use Rattle.bounded.specs.BelowLaws.{first-is, first-none}
 use Rattle.record.specs.Slot.{slotAt}
 use Rattle.state.specs.State.{stateAt}
-use Rattle.collect.specs.Permission.{mayErase}
+use Rattle.rules.specs.Permission.{mayErase}
 use Rattle.collect.specs.SearchLaws.{none-more}
 use Rattle.collect.proofs.first_erasable.Statement.{statement}
 use Rattle.collect.proofs.first_erasable.Tie as tie

@@ -1,7 +1,7 @@
 -- In flight and at used, tested in this order.
 use borrow.Author.Needs.{needs}
 use Rattle.bounded.specs.Choice.{said-yes, said-no}
-use Rattle.collect.specs.Permission.{isCurrent}
+use Rattle.rules.specs.Permission.{isCurrent}
 use Rattle.collect.proofs.is_current.Statement.{statement}
 use Rattle.collect.proofs.is_current.Tie as tie
 

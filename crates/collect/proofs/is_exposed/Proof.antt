@@ -1,6 +1,6 @@
 -- The page read is the one that the definition names.
 use borrow.Author.Needs.{needs}
-use Rattle.collect.specs.Permission.{isExposed}
+use Rattle.rules.specs.Permission.{isExposed}
 use Rattle.collect.proofs.is_exposed.Statement.{statement}
 use Rattle.collect.proofs.is_exposed.Tie as tie
 

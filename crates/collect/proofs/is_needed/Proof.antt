@@ -7,7 +7,7 @@ use Rattle.bounded.specs.Below.{someBelow}
 use Rattle.bounded.specs.BelowLaws.{some-zero, some-more}
 use Rattle.record.specs.Slot.{holds, someRecord, slotAt}
 use Rattle.state.specs.State.{stateAt}
-use Rattle.collect.specs.Permission.{outreaches, isShielded}
+use Rattle.rules.specs.Permission.{outreaches, isShielded}
 use Rattle.collect.specs.SearchLaws.{outreached-not-needed, shields-needed, nothing-shielded}
 use Rattle.collect.proofs.is_needed.Statement.{statement}
 use Rattle.collect.proofs.is_needed.Tie as tie

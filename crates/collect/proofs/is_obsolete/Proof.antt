@@ -1,6 +1,6 @@
 -- The page read is the one that the definition names.
 use borrow.Author.Needs.{needs}
-use Rattle.collect.specs.Permission.{isObsolete}
+use Rattle.rules.specs.Permission.{isObsolete}
 use Rattle.collect.proofs.is_obsolete.Statement.{statement}
 use Rattle.collect.proofs.is_obsolete.Tie as tie
 

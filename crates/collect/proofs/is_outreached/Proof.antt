@@ -1,6 +1,6 @@
 -- Same page, same c, higher v, tested in this order.
 use borrow.Author.Tests.{ne-eqb, eq-eqb, lt-ltb, le-ltb, le-leb, lt-leb}
-use Rattle.collect.specs.Permission.{outreaches}
+use Rattle.rules.specs.Permission.{outreaches}
 use Rattle.collect.proofs.is_outreached.Statement.{statement}
 use Rattle.collect.proofs.is_outreached.Tie as tie
 

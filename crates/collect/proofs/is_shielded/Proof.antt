@@ -1,7 +1,7 @@
 -- Exposed and straddled, tested in this order.
 use borrow.Author.Needs.{needs}
 use Rattle.bounded.specs.Choice.{said-yes, said-no}
-use Rattle.collect.specs.Permission.{isShielded}
+use Rattle.rules.specs.Permission.{isShielded}
 use Rattle.collect.proofs.is_shielded.Statement.{statement}
 use Rattle.collect.proofs.is_shielded.Tie as tie
 

@@ -1,7 +1,7 @@
 -- A blank slot may not be erased; the page of a record in the table is in the state.
 use borrow.Author.Needs.{needs}
 use mathlib.Core.Path.{sym, _∙_}
-use Rattle.collect.specs.Permission.{mayErase}
+use Rattle.rules.specs.Permission.{mayErase}
 use Rattle.collect.specs.SearchLaws.{holds-none, holds-record}
 use Rattle.collect.proofs.may_erase.Statement.{statement}
 use Rattle.collect.proofs.may_erase.Tie as tie

@@ -10,7 +10,7 @@ use Rattle.bounded.specs.BelowLaws.{all-zero, all-more, all-fails}
 use Rattle.bounded.specs.Choice.{said-yes, said-no}
 use Rattle.record.specs.Slot.{slotAt}
 use Rattle.state.specs.State.{stateAt}
-use Rattle.collect.specs.Permission.{mayErase, mayEraseAll}
+use Rattle.rules.specs.Permission.{mayErase, mayEraseAll}
 use Rattle.collect.proofs.may_erase_all.Statement.{statement}
 use Rattle.collect.proofs.may_erase_all.Tie as tie
 

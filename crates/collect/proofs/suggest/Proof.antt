@@ -4,7 +4,7 @@ use borrow.Author.Needs.{needs}
 use mathlib.Core.Path.{refl}
 use Rattle.bounded.specs.Limits.{noNumber}
 use Rattle.bounded.specs.Choice.{said-yes, said-no}
-use Rattle.collect.specs.Suggest.{suggestAnswer}
+use Rattle.rules.specs.Suggest.{suggestAnswer}
 use Rattle.collect.specs.SuggestLaws.{found-passes, found-some, found-none, fit-words, fit-state, fit-within, suggest-refused, suggest-named}
 use Rattle.collect.proofs.suggest.Statement.{statement}
 use Rattle.collect.proofs.suggest.Tie as tie

@@ -3,7 +3,7 @@ use Prim.Native.Nat.{ℕ, _-_, _≤_}
 use native.Mathlib.Omega.{arith}
 use mathlib.Core.Path.{_≡_, sym}
 use Rattle.bounded.specs.Limits.{width}
-use Rattle.volume.specs.Volume.{volume}
+use Rattle.rules.specs.Volume.{volume}
 use Rattle.listing.specs.Listing.{pageRead, firstRefusal, listAnswer}
 use Rattle.listing.specs.ListingLaws.{none-refused, none-more, first-found}
 use Rattle.listing.proofs.list_answer.Statement.{statement}

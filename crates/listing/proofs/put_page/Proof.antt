@@ -1,5 +1,5 @@
 use borrow.Author.Needs.{needs}
-use Rattle.volume.specs.Read.{readSlot}
+use Rattle.rules.specs.Read.{readSlot}
 use Rattle.listing.specs.Listing.{pageText}
 use Rattle.listing.specs.ListingLaws.{readable}
 use Rattle.listing.proofs.put_page.Statement.{statement}

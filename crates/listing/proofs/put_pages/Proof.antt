@@ -5,7 +5,7 @@ use mathlib.Core.Path.{_≡_, refl, _∙_}
 use lib.ListN.{length}
 use Rattle.bounded.specs.Limits.{width}
 use Rattle.bounded.specs.Parts.{joinFrom, joinParts}
-use Rattle.volume.specs.Volume.{volume}
+use Rattle.rules.specs.Volume.{volume}
 use Rattle.text.specs.Print.{shown, added}
 use Rattle.text.specs.PrintLaws.{added-none}
 use Rattle.listing.specs.Listing.{pageText, listAnswer}

@@ -3,7 +3,7 @@ use lib.ListN.{take, drop}
 use borrow.Author.Needs.{needs}
 use Rattle.bounded.specs.Limits.{width}
 use Rattle.record.specs.Flash.{Flash, flash}
-use Rattle.collect.specs.Erase.{eraseOutcome}
+use Rattle.rules.specs.Erase.{eraseOutcome}
 use Rattle.memory.specs.Memory.{inUse}
 use Rattle.memory.specs.MemoryLaws.{front-lent, flash-called}
 use Rattle.memory.proofs.erase.Statement.{statement}

@@ -1,7 +1,7 @@
 use borrow.Author.Needs.{needs}
 use Rattle.bounded.specs.Limits.{width}
-use Rattle.volume.specs.Volume.{volume}
-use Rattle.volume.specs.Format.{formatOutcome}
+use Rattle.rules.specs.Volume.{volume}
+use Rattle.rules.specs.Format.{formatOutcome}
 use Rattle.memory.specs.MemoryLaws.{volume-called}
 use Rattle.memory.proofs.format.Statement.{statement}
 use Rattle.memory.proofs.format.Tie as tie

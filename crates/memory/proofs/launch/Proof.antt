@@ -2,7 +2,7 @@ use Prim.Native.Nat.{ℕ, _-_}
 use mathlib.Core.List.{List}
 use lib.ListN.{take, drop}
 use borrow.Author.Needs.{needs}
-use Rattle.transact.specs.Launch.{launchOutcome}
+use Rattle.rules.specs.Launch.{launchOutcome}
 use Rattle.memory.specs.MemoryLaws.{front-lent, state-called}
 use Rattle.memory.proofs.launch.Statement.{statement}
 use Rattle.memory.proofs.launch.Tie as tie

@@ -2,7 +2,7 @@ use Prim.Native.Nat.{ℕ, _*_, _-_}
 use mathlib.Core.List.{List}
 use lib.ListN.{take, drop}
 use borrow.Author.Needs.{needs}
-use Rattle.recovery.specs.Recover.{recoverOutcome}
+use Rattle.rules.specs.Recover.{recoverOutcome}
 use Rattle.memory.specs.MemoryLaws.{front-lent, state-called}
 use Rattle.memory.proofs.recover.Statement.{statement}
 use Rattle.memory.proofs.recover.Tie as tie

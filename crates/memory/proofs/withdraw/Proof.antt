@@ -1,7 +1,7 @@
 use Prim.Native.Nat.{ℕ}
 use mathlib.Core.List.{List}
 use borrow.Author.Needs.{needs}
-use Rattle.transact.specs.Withdraw.{withdrawOutcome}
+use Rattle.rules.specs.Withdraw.{withdrawOutcome}
 use Rattle.memory.specs.MemoryLaws.{state-called}
 use Rattle.memory.proofs.withdraw.Statement.{statement}
 use Rattle.memory.proofs.withdraw.Tie as tie

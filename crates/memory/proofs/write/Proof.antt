@@ -1,8 +1,8 @@
 use borrow.Author.Needs.{needs}
 use lib.ListN.{replicate}
 use Rattle.bounded.specs.Limits.{width}
-use Rattle.volume.specs.Volume.{Volume, volume}
-use Rattle.transact.specs.Write.{writeOutcome}
+use Rattle.rules.specs.Volume.{Volume, volume}
+use Rattle.rules.specs.Write.{writeOutcome}
 use Rattle.memory.specs.MemoryLaws.{volume-called}
 use Rattle.memory.proofs.write.Statement.{statement}
 use Rattle.memory.proofs.write.Tie as tie

@@ -10,8 +10,8 @@ use Rattle.outcome.specs.Outcome.{returned}
 use Rattle.outcome.specs.Reply.{reply-refused, reply-done}
 use Rattle.record.specs.Slot.{bytesAt}
 use Rattle.table.specs.Table.{hasVersion}
-use Rattle.volume.specs.SizesLaws.{fits-facts}
-use Rattle.volume.specs.Read.{readSlot, readAnswer, readOutcome}
+use Rattle.rules.specs.laws.Sizes.{fits-facts}
+use Rattle.rules.specs.Read.{readSlot, readAnswer, readOutcome}
 use Rattle.reader.proofs.copy_page.Statement.{statement}
 use Rattle.reader.proofs.copy_page.Tie as tie
 

@@ -44,8 +44,8 @@ use denote.Exit.{yes}
 use denote.Triple.Clauses.{ensured, lasts}
 use Rattle.bounded.specs.Limits.{width}
 use Rattle.outcome.specs.Outcome.{returned}
-use Rattle.volume.specs.Volume.{volume}
-use Rattle.volume.specs.Read.{readOutcome}
+use Rattle.rules.specs.Volume.{volume}
+use Rattle.rules.specs.Read.{readOutcome}
 use Rattle.reader.specs.declared.Reader.{Reader}
 use Rattle.reader.proofs.Reader as T
 use Rattle.reader.proofs.Reader.Laws as T′

@@ -4,8 +4,8 @@ use mathlib.Core.Path.{refl, sym, ap, _∙_}
 use Rattle.bounded.specs.Choice.{said-no, said-yes}
 use Rattle.outcome.specs.Outcome.{returned}
 use Rattle.outcome.specs.Reply.{reply-refused, reply-done}
-use Rattle.volume.specs.SizesLaws.{sizes-facts, words-fit-exactly, state-fits-exactly}
-use Rattle.recovery.specs.Recover.{recoverOutcome}
+use Rattle.rules.specs.laws.Sizes.{sizes-facts, words-fit-exactly, state-fits-exactly}
+use Rattle.rules.specs.Recover.{recoverOutcome}
 use Rattle.recovery.specs.Tables.{answer-by-sizes, answer-by-table, accepted-sound}
 use Rattle.recovery.proofs.recover.Statement.{statement}
 use Rattle.recovery.proofs.recover.Tie as tie

@@ -3,7 +3,7 @@ use native.Mathlib.Omega.{arith}
 use mathlib.Core.Path.{_≡_, refl}
 use Rattle.record.specs.Slot.{slotAt}
 use Rattle.table.specs.HighestSlot.{highestSlot}
-use Rattle.table.specs.Tabulate.{tabulate, tabulate-same}
+use Rattle.bounded.specs.Tabulate.{tabulate, tabulate-same}
 use Rattle.table.proofs.highest_slots.Statement.{statement}
 use Rattle.table.proofs.highest_slots.Tie as tie
 

@@ -4,7 +4,7 @@ use Prim.Native.Nat.{ℕ}
 use borrow.Author.Needs.{needs}
 use Rattle.outcome.specs.Outcome.{returned}
 use Rattle.outcome.specs.Reply.{reply-refused, reply-done}
-use Rattle.transact.specs.Launch.{launchOutcome}
+use Rattle.rules.specs.Launch.{launchOutcome}
 use Rattle.transact.specs.Accepted.{launch-accepted, launch-leaves}
 use Rattle.transact.proofs.launch.Statement.{statement}
 use Rattle.transact.proofs.launch.Tie as tie

@@ -2,8 +2,8 @@ use native.Mathlib.Omega.{arith}
 use mathlib.Core.Path.{sym, _∙_}
 use borrow.Author.Needs.{needs}
 use Rattle.bounded.specs.Choice.{said-no, said-yes}
-use Rattle.volume.specs.SizesLaws.{state-fits-exactly}
-use Rattle.transact.specs.Launch.{launchAnswer}
+use Rattle.rules.specs.laws.Sizes.{state-fits-exactly}
+use Rattle.rules.specs.Launch.{launchAnswer}
 use Rattle.transact.specs.Accepted.{listed-pages}
 use Rattle.transact.proofs.launch_answer.Statement.{statement}
 use Rattle.transact.proofs.launch_answer.Tie as tie

@@ -7,7 +7,7 @@ use Rattle.bounded.specs.Below.{someBelow}
 use Rattle.bounded.specs.BelowLaws.{some-zero, some-more, some-of}
 use Rattle.state.specs.State.{stateAt, inFlight}
 use Rattle.state.specs.Walk.{pagesIn}
-use Rattle.transact.specs.Launch.{somePage}
+use Rattle.rules.specs.Launch.{somePage}
 use Rattle.transact.proofs.some_in_flight.Statement.{statement}
 use Rattle.transact.proofs.some_in_flight.Tie as tie
 

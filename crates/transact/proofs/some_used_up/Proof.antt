@@ -7,7 +7,7 @@ use Rattle.bounded.specs.Below.{someBelow}
 use Rattle.bounded.specs.BelowLaws.{some-zero, some-more, some-of}
 use Rattle.state.specs.State.{stateAt}
 use Rattle.state.specs.Walk.{pagesIn}
-use Rattle.transact.specs.Launch.{somePage, usedUp}
+use Rattle.rules.specs.Launch.{somePage, usedUp}
 use Rattle.transact.proofs.some_used_up.Statement.{statement}
 use Rattle.transact.proofs.some_used_up.Tie as tie
 

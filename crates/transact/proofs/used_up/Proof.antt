@@ -1,5 +1,5 @@
 use mathlib.Core.Path.{refl}
-use Rattle.transact.specs.Launch.{usedUp}
+use Rattle.rules.specs.Launch.{usedUp}
 use Rattle.transact.proofs.used_up.Statement.{statement}
 use Rattle.transact.proofs.used_up.Tie as tie
 

@@ -4,7 +4,7 @@ use Prim.Native.Nat.{ℕ}
 use borrow.Author.Needs.{needs}
 use Rattle.outcome.specs.Outcome.{returned}
 use Rattle.outcome.specs.Reply.{reply-refused, reply-done}
-use Rattle.transact.specs.Withdraw.{withdrawOutcome}
+use Rattle.rules.specs.Withdraw.{withdrawOutcome}
 use Rattle.transact.specs.Accepted.{withdraw-accepted, withdraw-leaves}
 use Rattle.transact.proofs.withdraw.Statement.{statement}
 use Rattle.transact.proofs.withdraw.Tie as tie

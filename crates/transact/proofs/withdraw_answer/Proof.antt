@@ -4,8 +4,8 @@ use borrow.Author.Needs.{needs}
 use borrow.Author.Tests.{lt-ltb, le-ltb}
 use Rattle.bounded.specs.Choice.{said-no, said-yes}
 use Rattle.state.specs.State.{inFlight}
-use Rattle.volume.specs.SizesLaws.{state-fits-exactly}
-use Rattle.transact.specs.Withdraw.{withdrawAnswer}
+use Rattle.rules.specs.laws.Sizes.{state-fits-exactly}
+use Rattle.rules.specs.Withdraw.{withdrawAnswer}
 use Rattle.transact.proofs.withdraw_answer.Statement.{statement}
 use Rattle.transact.proofs.withdraw_answer.Tie as tie
 

@@ -4,8 +4,8 @@ use mathlib.Core.Bool.{true, false}
 use borrow.Author.Needs.{needs}
 use Rattle.outcome.specs.Outcome.{returned}
 use Rattle.outcome.specs.Reply.{Replies, reply-refused, reply-done}
-use Rattle.volume.specs.Volume.{Volume}
-use Rattle.transact.specs.Write.{writeOutcome}
+use Rattle.rules.specs.Volume.{Volume}
+use Rattle.rules.specs.Write.{writeOutcome}
 use Rattle.transact.specs.Accepted.{write-accepted, write-leaves, write-says}
 use Rattle.transact.proofs.write.Statement.{statement}
 use Rattle.transact.proofs.write.Tie as tie

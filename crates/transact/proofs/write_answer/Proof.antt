@@ -5,8 +5,8 @@ use borrow.Author.Tests.{ne-eqb, eq-eqb, lt-ltb, le-ltb}
 use Rattle.bounded.specs.Choice.{said-no, said-yes}
 use Rattle.record.specs.Slot.{isBlank}
 use Rattle.state.specs.State.{inFlight, isWritten}
-use Rattle.volume.specs.SizesLaws.{fits-facts}
-use Rattle.transact.specs.Write.{writeAnswer}
+use Rattle.rules.specs.laws.Sizes.{fits-facts}
+use Rattle.rules.specs.Write.{writeAnswer}
 use Rattle.transact.proofs.write_answer.Statement.{statement}
 use Rattle.transact.proofs.write_answer.Tie as tie
 

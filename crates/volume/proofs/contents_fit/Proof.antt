@@ -1,8 +1,8 @@
 -- The test is the definition; a product of two 32-bit numbers fits a usize.
 use native.Mathlib.Omega.{arith}
 use mathlib.Core.Path.{refl}
-use Rattle.volume.specs.Volume.{contentsFit}
-use Rattle.volume.specs.SizesLaws.{words-product}
+use Rattle.rules.specs.Volume.{contentsFit}
+use Rattle.rules.specs.laws.Sizes.{words-product}
 use Rattle.volume.proofs.contents_fit.Statement.{statement}
 use Rattle.volume.proofs.contents_fit.Tie as tie
 

@@ -4,8 +4,8 @@ use mathlib.Core.Path.{refl}
 use borrow.Author.Needs.{needs}
 use Rattle.bounded.specs.Choice.{said-no, said-yes}
 use Rattle.outcome.specs.Reply.{reply-refused, reply-done}
-use Rattle.volume.specs.SizesLaws.{fits-facts}
-use Rattle.volume.specs.Format.{formatted, formatAnswer, formatOutcome}
+use Rattle.rules.specs.laws.Sizes.{fits-facts}
+use Rattle.rules.specs.Format.{formatted, formatAnswer, formatOutcome}
 use Rattle.volume.proofs.format.Statement.{statement}
 use Rattle.volume.proofs.format.Tie as tie
 

@@ -5,7 +5,7 @@ use mathlib.Core.Path.{_≡_, refl, ap, _∙_}
 use lib.ListN.{length}
 use Rattle.bounded.specs.Limits.{width}
 use Rattle.bounded.specs.Parts.{putPart}
-use Rattle.volume.specs.Fill.{filled, filled-none, filled-more}
+use Rattle.bounded.specs.Fill.{filled, filled-none, filled-more}
 use Rattle.volume.specs.FormatLaws.{freshWords, freshBytes, words-formatted, contents-formatted}
 use Rattle.volume.proofs.format_flash.Statement.{statement}
 use Rattle.volume.proofs.format_flash.Tie as tie

@@ -7,7 +7,7 @@ use lib.ListN.{length}
 use Rattle.bounded.specs.Parts.{putPart}
 use Rattle.state.specs.State.{pageWords}
 use Rattle.state.specs.Change.{atRest, freshState}
-use Rattle.volume.specs.Fill.{filled, filled-none, filled-more}
+use Rattle.bounded.specs.Fill.{filled, filled-none, filled-more}
 use Rattle.volume.specs.FormatLaws.{state-filled}
 use Rattle.volume.proofs.format_state.Statement.{statement}
 use Rattle.volume.proofs.format_state.Tie as tie

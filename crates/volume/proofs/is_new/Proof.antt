@@ -7,7 +7,7 @@ use borrow.Author.Tests.{eq-eqb, ne-eqb}
 use Rattle.bounded.specs.Choice.{not-yes, not-no}
 use Rattle.bounded.specs.Below.{allBelow}
 use Rattle.bounded.specs.BelowLaws.{all-zero, all-more, all-fails}
-use Rattle.volume.specs.ListLaws.{newAt, unlike}
+use Rattle.rules.specs.laws.Lists.{newAt, unlike}
 use Rattle.volume.proofs.is_new.Statement.{statement}
 use Rattle.volume.proofs.is_new.Tie as tie
 

@@ -8,7 +8,7 @@ use lib.ListN.{length}
 use Rattle.bounded.specs.Choice.{said-no, said-yes}
 use Rattle.bounded.specs.Below.{allBelow}
 use Rattle.bounded.specs.BelowLaws.{all-zero, all-more}
-use Rattle.volume.specs.ListLaws.{rangedAt, newAt, list-empty, list-out-of-range, list-repeats, list-passes}
+use Rattle.rules.specs.laws.Lists.{rangedAt, newAt, list-empty, list-out-of-range, list-repeats, list-passes}
 use Rattle.volume.proofs.list_ok.Statement.{statement}
 use Rattle.volume.proofs.list_ok.Tie as tie
 

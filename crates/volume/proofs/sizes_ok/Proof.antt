@@ -1,6 +1,6 @@
 -- Each return is what the tests on its way give.
 use borrow.Author.Tests.{ne-eqb, eq-eqb, lt-ltb, le-ltb, le-leb, lt-leb}
-use Rattle.volume.specs.Volume.{sizesOk}
+use Rattle.rules.specs.Volume.{sizesOk}
 use Rattle.volume.proofs.sizes_ok.Statement.{statement}
 use Rattle.volume.proofs.sizes_ok.Tie as tie
 

@@ -1,7 +1,7 @@
 -- The test is the definition; 4 × 4,294,967,295 fits a usize.
 use borrow.Author.Needs.{needs}
 use mathlib.Core.Path.{refl}
-use Rattle.volume.specs.Volume.{stateFits}
+use Rattle.rules.specs.Volume.{stateFits}
 use Rattle.volume.proofs.state_fits.Statement.{statement}
 use Rattle.volume.proofs.state_fits.Tie as tie
 

@@ -1,7 +1,7 @@
 -- Each return is what the called tests on its way answered.
 use borrow.Author.Needs.{needs}
 use Rattle.bounded.specs.Choice.{said-no, said-yes}
-use Rattle.volume.specs.Volume.{volumeFits}
+use Rattle.rules.specs.Volume.{volumeFits}
 use Rattle.volume.proofs.volume_fits.Statement.{statement}
 use Rattle.volume.proofs.volume_fits.Tie as tie
 

@@ -1,7 +1,7 @@
 -- The test is the definition; 5 × 4,294,967,295 fits a usize.
 use borrow.Author.Needs.{needs}
 use mathlib.Core.Path.{refl}
-use Rattle.volume.specs.Volume.{wordsFit}
+use Rattle.rules.specs.Volume.{wordsFit}
 use Rattle.volume.proofs.words_fit.Statement.{statement}
 use Rattle.volume.proofs.words_fit.Tie as tie
 

@@ -2,8 +2,9 @@ use borrow.Author.Needs.{needs}
 use mathlib.Core.Path.{_≡_, sym, ap, ap₂, _∙_}
 use lib.ListN.{set}
 use Rattle.record.specs.Slot.{slotAt}
-use Rattle.recovery.specs.declared.Walk.{Walk}
-use Rattle.recovery.specs.Recover.{walkOf, isAstray, committedBy, committedOf}
+use Rattle.follow.specs.declared.Walk.{Walk}
+use Rattle.rules.specs.Recover.{walkOf, committedBy, committedOf}
+use Rattle.follow.specs.Follow.{isAstray}
 use Rattle.recovery.specs.Tables.{codes-inside, codes-walk}
 use Rattle.recovery.proofs.committed.commit_page.Statement.{statement}
 use Rattle.recovery.proofs.committed.commit_page.Tie as tie
@@ -16,8 +17,8 @@ follow-from-requires c κs =
 highest-of-requires : tie.Need-highest-of-requires
 highest-of-requires c κs = search needs
 
-committed-requires : tie.Need-committed-requires
-committed-requires c κs = search needs
+committed-by-requires : tie.Need-committed-by-requires
+committed-by-requires c κs = search needs
 
 mul-committed : tie.Need-mul-committed
 mul-committed c = search needs
@@ -38,7 +39,7 @@ returns c =
     f .follow-from .ensures ∙ sym (codes-walk _ _ _ _ (pre .0) _ (pre .1 .1) _ (pre .1 .0)) in
     let ended = ap (λ (w : Walk). w .end) walked in (
       c .is-astray .ensures ∙ ap isAstray ended,
-      ap (set (a .committed .now) (a .page)) (c .before .committed .ensures ∙ ap₂ committedBy ended (c .before .before .highest-of .ensures)),
+      ap (set (a .committed .now) (a .page)) (c .before .committed-by .ensures ∙ ap₂ committedBy ended (c .before .before .highest-of .ensures)),
     )
 
 pub commit-page-spec : {M : Type 1} → statement M
@@ -47,7 +48,7 @@ commit-page-spec =
     (tie.spec
     follow-from-requires
     highest-of-requires
-    committed-requires
+    committed-by-requires
     mul-committed
     element-write-committed
     is-astray-requires

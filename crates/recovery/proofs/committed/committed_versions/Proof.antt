@@ -8,8 +8,9 @@ use Rattle.bounded.specs.Below.{someBelow}
 use Rattle.bounded.specs.BelowLaws.{some-zero, some-more, some-of}
 use Rattle.bounded.specs.Choice.{never}
 use Rattle.record.specs.Slot.{slotAt}
-use Rattle.table.specs.Tabulate.{tabulatedTo, tabulated-none, tabulated-more, tabulated-all}
-use Rattle.recovery.specs.Recover.{walkOf, isAstray, committedOf}
+use Rattle.bounded.specs.Tabulate.{tabulatedTo, tabulated-none, tabulated-more, tabulated-all}
+use Rattle.rules.specs.Recover.{walkOf, committedOf}
+use Rattle.follow.specs.Follow.{isAstray}
 use Rattle.recovery.specs.Tables.{committed-beyond}
 use Rattle.recovery.proofs.committed.committed_versions.Statement.{statement}
 use Rattle.recovery.proofs.committed.committed_versions.Tie as tie

@@ -8,7 +8,7 @@ use Rattle.state.specs.declared.PageState.{PageState}
 use Rattle.state.specs.State.{pageWords, stateWords}
 use Rattle.state.specs.StateLaws.{length-pageWords}
 use Rattle.state.specs.Change.{atRest}
-use Rattle.volume.specs.Fill.{filled, filled-none, filled-more, filled-all}
+use Rattle.bounded.specs.Fill.{filled, filled-none, filled-more, filled-all}
 use Rattle.recovery.proofs.fill.store_pages.Statement.{statement}
 use Rattle.recovery.proofs.fill.store_pages.Tie as tie
 

@@ -3,8 +3,8 @@ use Prim.Native.Nat.{_≤_, _-_}
 use mathlib.Core.Path.{_≡_, refl}
 use Rattle.bounded.specs.Below.{maxBelow}
 use Rattle.record.specs.Slot.{slotAt}
-use Rattle.table.specs.Tabulate.{tabulate, tabulate-same}
-use Rattle.recovery.specs.Recover.{usedOf}
+use Rattle.bounded.specs.Tabulate.{tabulate, tabulate-same}
+use Rattle.rules.specs.Recover.{usedOf}
 use Rattle.recovery.proofs.fill.used_versions.Statement.{statement}
 use Rattle.recovery.proofs.fill.used_versions.Tie as tie
 

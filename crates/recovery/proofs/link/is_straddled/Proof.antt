@@ -6,7 +6,7 @@ use Rattle.bounded.specs.Below.{someBelow}
 use Rattle.bounded.specs.BelowLaws.{some-zero, some-more, some-of}
 use Rattle.record.specs.declared.Record.{Record}
 use Rattle.record.specs.Slot.{slotAt, holds, straddles, someRecord}
-use Rattle.recovery.specs.Verdict.{isStraddled}
+use Rattle.rules.specs.Verdict.{isStraddled}
 use Rattle.recovery.proofs.link.is_straddled.Statement.{statement}
 use Rattle.recovery.proofs.link.is_straddled.Tie as tie
 

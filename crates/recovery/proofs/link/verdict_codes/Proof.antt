@@ -4,9 +4,9 @@ use mathlib.Core.Path.{_≡_, ap, _∙_}
 use mathlib.Core.List.{List}
 use lib.ListN.{set}
 use Rattle.record.specs.Slot.{slotAt}
-use Rattle.table.specs.Tabulate.{tabulatedTo, tabulated-none, tabulated-more, tabulated-all}
-use Rattle.recovery.specs.Codes.{codeOf}
-use Rattle.recovery.specs.Verdict.{verdict}
+use Rattle.bounded.specs.Tabulate.{tabulatedTo, tabulated-none, tabulated-more, tabulated-all}
+use Rattle.follow.specs.Codes.{codeOf}
+use Rattle.rules.specs.Verdict.{verdict}
 use Rattle.recovery.specs.Tables.{code-beyond}
 use Rattle.recovery.proofs.link.verdict_codes.Statement.{statement}
 use Rattle.recovery.proofs.link.verdict_codes.Tie as tie

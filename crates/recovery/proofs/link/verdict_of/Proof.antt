@@ -2,7 +2,7 @@ use borrow.Author.Needs.{needs}
 use native.Mathlib.Omega.{arith}
 use mathlib.Core.Path.{sym, ap, _∙_}
 use Rattle.record.specs.Slot.{slotAt}
-use Rattle.recovery.specs.Verdict.{slotVerdict, verdict}
+use Rattle.rules.specs.Verdict.{slotVerdict, verdict}
 use Rattle.recovery.specs.Tables.{top-next}
 use Rattle.recovery.proofs.link.verdict_of.Statement.{statement}
 use Rattle.recovery.proofs.link.verdict_of.Tie as tie

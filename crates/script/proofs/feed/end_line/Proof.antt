@@ -1,6 +1,6 @@
 use borrow.Author.Needs.{needs}
 use Rattle.bounded.specs.Limits.{width}
-use Rattle.volume.specs.Volume.{volume}
+use Rattle.rules.specs.Volume.{volume}
 use Rattle.script.specs.FeedLaws.{held-carried}
 use Rattle.script.proofs.feed.end_line.Statement.{statement}
 use Rattle.script.proofs.feed.end_line.Tie as tie

@@ -2,7 +2,7 @@ use Prim.Native.Nat.{ℕ}
 use lib.ListN.{length-replicate}
 use borrow.Author.Needs.{needs}
 use Rattle.bounded.specs.Limits.{width}
-use Rattle.volume.specs.Volume.{volume}
+use Rattle.rules.specs.Volume.{volume}
 use Rattle.script.specs.FeedLaws.{line-carried}
 use Rattle.script.proofs.feed.run_line.Statement.{statement}
 use Rattle.script.proofs.feed.run_line.Tie as tie

@@ -1,6 +1,6 @@
 use borrow.Author.Needs.{needs}
 use Rattle.bounded.specs.Limits.{width}
-use Rattle.volume.specs.Volume.{volume}
+use Rattle.rules.specs.Volume.{volume}
 use Rattle.script.specs.StepLaws.{format-refused, format-accepted}
 use Rattle.script.proofs.step.format_step.Statement.{statement}
 use Rattle.script.proofs.step.format_step.Tie as tie

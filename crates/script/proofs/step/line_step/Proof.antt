@@ -1,6 +1,6 @@
 use borrow.Author.Needs.{needs}
 use Rattle.bounded.specs.Limits.{width}
-use Rattle.volume.specs.Volume.{volume}
+use Rattle.rules.specs.Volume.{volume}
 use Rattle.line.specs.Line.{said}
 use Rattle.script.specs.Script.{lineTurn}
 use Rattle.script.specs.StepLaws.{went-launch, went-write, went-withdraw, went-erase, went-recover, went-cut, went-list}

@@ -1,7 +1,7 @@
 use mathlib.Core.Path.{ap, _∙_}
 use borrow.Author.Needs.{needs}
 use Rattle.bounded.specs.Limits.{width}
-use Rattle.volume.specs.Volume.{Volume, volume}
+use Rattle.rules.specs.Volume.{Volume, volume}
 use Rattle.memory.specs.MemoryLaws.{volume-lent}
 use Rattle.text.specs.Print.{added}
 use Rattle.listing.specs.Listing.{listText}

@@ -1,7 +1,7 @@
 use mathlib.Core.Path.{sym, _∙_}
 use borrow.Author.Needs.{needs}
 use Rattle.bounded.specs.Limits.{width}
-use Rattle.volume.specs.Volume.{volume}
+use Rattle.rules.specs.Volume.{volume}
 use Rattle.line.specs.Line.{said}
 use Rattle.script.specs.StepLaws.{went-idle, turn-over, turn-early, turn-line}
 use Rattle.script.proofs.step.step.Statement.{statement}

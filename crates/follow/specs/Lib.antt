@@ -1,0 +1,5 @@
+pub mod Follow
+pub mod FollowLaws
+pub mod WalkLaws
+pub mod Codes
+pub mod Colours

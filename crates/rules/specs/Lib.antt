@@ -1,0 +1,13 @@
+pub mod Volume
+pub mod Format
+pub mod Launch
+pub mod Write
+pub mod Withdraw
+pub mod Permission
+pub mod Erase
+pub mod Suggest
+pub mod Verdict
+pub mod Recover
+pub mod Read
+pub mod laws
+pub mod cases

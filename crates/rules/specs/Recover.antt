@@ -1,0 +1,66 @@
+-- The call recover.
+use Prim.Native.Nat.{ℕ, max}
+use mathlib.Core.List.{List}
+use mathlib.Core.Bool.{Bool, true, false, cond, not, _&&_, _||_}
+use lib.Dec.{eqb}
+use Rattle.bounded.specs.Below.{allBelow, someBelow, maxBelow}
+use Rattle.outcome.specs.Outcome.{_⇒_otherwise_, Outcome, settled}
+use Rattle.record.specs.declared.Slot.{Slot}
+use Rattle.record.specs.declared.Slot.the-variants.{Blank, Holds}
+use Rattle.record.specs.Slot.{slotAt}
+use Rattle.state.specs.declared.PageState.{PageState}
+use Rattle.state.specs.State.{stateWords}
+use Rattle.state.specs.Change.{atRest}
+use Rattle.table.specs.Table.{tableSound, someClash, hasRecord, hasVersion, highest, versionIn}
+use Rattle.rules.specs.Volume.{sizesOk, wordsFit, stateFits}
+use Rattle.follow.specs.declared.End.{End}
+use Rattle.follow.specs.declared.End.the-variants as ends
+use Rattle.follow.specs.declared.Walk.{Walk}
+use Rattle.rules.specs.Verdict.{verdict}
+use Rattle.follow.specs.Follow.{follow, isAstray}
+
+-- the walk from page p's highest record
+unfoldable pub walkOf : (P S : ℕ) → (ℕ → Slot) → ℕ → Walk
+walkOf P S t p = follow P (verdict S t) p
+
+-- the back pointer in a slot; 0 where it is blank
+unfoldable pub backPointer : Slot → ℕ
+backPointer Blank = 0
+backPointer (Holds r) = r .c
+
+-- "Committed = hv(p), or else the c of p's highest record." (A walk gone astray is refused by 4.)
+unfoldable pub committedBy : End → Slot → ℕ
+committedBy ends.Committed top = versionIn top
+committedBy ends.Uncommitted top = backPointer top
+committedBy ends.Astray top = backPointer top
+
+unfoldable pub committedOf : (P S : ℕ) → (ℕ → Slot) → ℕ → ℕ
+committedOf P S t p = committedBy (walkOf P S t p .end) (highest S t p)
+
+-- the highest version that a slot mentions for page p: its v where p is its page, its nv where np is; 0 where it does not
+unfoldable pub mentioned : ℕ → Slot → ℕ
+mentioned p Blank = 0
+mentioned p (Holds r) = max (cond (eqb (r .p) p) (r .v) 0) (cond (eqb (r .np) p) (r .nv) 0)
+
+-- "Used = the highest of all v with that p and all nv with that np."
+unfoldable pub usedOf : ℕ → (ℕ → Slot) → ℕ → ℕ
+usedOf S t p = maxBelow S (λ k. mentioned p (t k))
+
+-- "No page is in flight, and written is 0 for all."
+unfoldable pub recovered : (P S : ℕ) → (ℕ → Slot) → ℕ → PageState
+unfolding atRest
+recovered P S t p = atRest (committedOf P S t p) (usedOf S t p)
+
+-- Recovery reads only the slot table: of the state it sees the length, and the old state "may hold anything".
+unfoldable pub recoverAnswer : (P S : ℕ) (words state : List ℕ) → ℕ
+recoverAnswer P S words state =
+    not (sizesOk P S && (wordsFit S words && stateFits P state)) ⇒ 1 otherwise
+    not (tableSound P S (slotAt words)) ⇒ 2 otherwise
+    (someClash S (slotAt words) || not (allBelow P (hasRecord S (slotAt words)))) ⇒ 3 otherwise
+    someBelow P (λ p. isAstray (walkOf P S (slotAt words) p .end)) ⇒ 4 otherwise
+    not (allBelow P (λ p. hasVersion S (slotAt words) p (committedOf P S (slotAt words) p))) ⇒ 14 otherwise
+    0
+
+-- "Recover: fills the sheet from the slot table". It alters the state alone.
+unfoldable pub recoverOutcome : (P S : ℕ) (words state : List ℕ) → Outcome (List ℕ)
+recoverOutcome P S words state = settled (recoverAnswer P S words state) 0 0 state (stateWords P (recovered P S (slotAt words)))

@@ -1,0 +1,51 @@
+-- The call write.
+use Prim.Native.Nat.{ℕ}
+use mathlib.Core.List.{List}
+use mathlib.Core.Bool.{cond, not, _&&_}
+use lib.Dec.{ltb, eqb}
+use lib.ListN.{length}
+use Rattle.outcome.specs.Outcome.{_⇒_otherwise_, Outcome, settled}
+use Rattle.record.specs.declared.Record.{Record}
+use Rattle.record.specs.Slot.{slotAt, plannedRecord, isBlank}
+use Rattle.record.specs.Flash.{Step, apply}
+use Rattle.state.specs.declared.PageState.{PageState}
+use Rattle.state.specs.State.{stateAt, stateWords, stateSound, inFlight, isWritten}
+use Rattle.state.specs.Change.{completes, afterWrite}
+use Rattle.table.specs.Table.{tableSound}
+use Rattle.rules.specs.Volume.{Volume, volumeFits}
+
+-- "the planned record has v = used of p, c = committed of p, np = next, nv = used of np"
+unfoldable pub planOf : (ℕ → PageState) → ℕ → Record
+unfolding plannedRecord
+planOf st p = plannedRecord p (st p .used) (st p .committed) (st p .next) (st (st p .next) .used)
+
+unfoldable pub writeAnswer : (w P S : ℕ) → Volume → (page slot : ℕ) (bytes : List ℕ) → ℕ
+writeAnswer w P S v page slot bytes =
+    not (volumeFits w P S v && eqb (length bytes) w) ⇒ 1 otherwise
+    not (tableSound P S (slotAt (v .flash .words))) ⇒ 2 otherwise
+    not (stateSound P (stateAt (v .state))) ⇒ 5 otherwise
+    not (ltb page P && ltb slot S) ⇒ 6 otherwise
+    not (inFlight (stateAt (v .state) page)) ⇒ 9 otherwise
+    isWritten (stateAt (v .state) page) ⇒ 10 otherwise
+    not (isBlank (slotAt (v .flash .words) slot)) ⇒ 11 otherwise
+    0
+
+-- "A write changes only the five words and 32 bytes of its slot in flash": one step.
+unfoldable pub writeStep : (ℕ → PageState) → (page slot : ℕ) (bytes : List ℕ) → Step
+writeStep st page slot bytes = Step.Store slot (planOf st page) bytes
+
+-- "the answer has done 1, else done 0"
+unfoldable pub writeDone : ℕ → (ℕ → PageState) → ℕ → ℕ
+writeDone P st page = cond (completes P st page) 1 0
+
+unfoldable pub writeChange : (w P : ℕ) → Volume → (page slot : ℕ) (bytes : List ℕ) → Volume
+writeChange w P v page slot bytes =
+    record {
+      flash = apply w (v .flash) (writeStep (stateAt (v .state)) page slot bytes);
+      state = stateWords P (afterWrite P (stateAt (v .state)) page);
+    }
+
+-- Refused, "done … 0".
+unfoldable pub writeOutcome : (w P S : ℕ) → Volume → (page slot : ℕ) (bytes : List ℕ) → Outcome Volume
+writeOutcome w P S v page slot bytes =
+    settled (writeAnswer w P S v page slot bytes) 0 (writeDone P (stateAt (v .state)) page) v (writeChange w P v page slot bytes)

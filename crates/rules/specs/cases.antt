@@ -1,0 +1,7 @@
+-- Document 01's cases, computed from the definitions.
+pub mod Computing
+pub mod Bounds
+pub mod Launch
+pub mod Erase
+pub mod Recover
+pub mod Star

@@ -1,0 +1,86 @@
+-- "May be erased" is exactly document 01's sentence, as a proposition.
+use Prim.Native.Nat.{ℕ, _<_}
+use mathlib.Core.Path.{_≡_}
+use mathlib.Core.List.{List}
+use mathlib.Core.Logic.{_⊎_, _↔_}
+use mathlib.Core.Bool.{Bool, true, not, _&&_}
+use lib.Dec.{ltb, eqb}
+use lib.ListN.{length, getD}
+use Rattle.bounded.specs.Choice.{negated, conjoined, disjoined, below-test, equal-test}
+use Rattle.bounded.specs.BelowLaws.{all-each}
+use Rattle.record.specs.declared.Record.{Record}
+use Rattle.record.specs.declared.Slot.{Slot}
+use Rattle.record.specs.declared.Slot.the-variants.{Holds}
+use Rattle.record.specs.Slot.{someRecord, straddles}
+use Rattle.record.specs.SlotLaws.{Straddles, straddles-exactly, holds-exactly, some-record-at, some-record-of}
+use Rattle.state.specs.declared.PageState.{PageState}
+use Rattle.state.specs.State.{inFlight}
+use Rattle.rules.specs.Permission.{isObsolete, isExposed, outreaches, isShielded, isNeeded, isCurrent, mayEraseRecord, mayErase, mayEraseAll}
+
+-- "some record" that passes a test which is exactly Q
+some-record :
+    (S : ℕ) (t : ℕ → Slot) (f : Record → Bool) {Q : Record → Type 0}
+    → ((r : Record) → (f r ≡ true) ↔ Q r)
+    → (someRecord S t f ≡ true) ↔ ((k : ℕ) × (r : Record) × (k < S) × (t k ≡ Holds r) × Q r)
+some-record S t f i = (
+  λ e. let w = some-record-at S t f e in (w .0, w .1, w .2, w .3, i (w .1) .0 (w .4)),
+  λ w. some-record-of S t f (w .0, w .1, w .2, w .3, i (w .1) .1 (w .4)),
+)
+
+module _ (S : ℕ) (t : ℕ → Slot) (st : ℕ → PageState) where
+  abbrev pub Obsolete : Record → Type 0
+  Obsolete r = r .v < st (r .p) .committed
+
+  abbrev pub Exposed : Record → Type 0
+  Exposed r = st (r .p) .committed < r .v
+
+  -- "no record has the same page and c with a higher v, and some exposed record's link is straddled by K"
+  pub record Needed (K : Record) : Type 0 where
+    pub furthest : (k : ℕ) (r : Record) → k < S → t k ≡ Holds r → r .p ≡ K .p → r .c ≡ K .c → K .v < r .v → ⊥
+    pub shields : (k : ℕ) × (r : Record) × (k < S) × (t k ≡ Holds r) × (Exposed r × Straddles K r)
+
+  -- "an obsolete record that is no needed straddler, or an exposed record other than one whose page is in flight with v = used"
+  abbrev pub Erasable : Record → Type 0
+  Erasable r = (Obsolete r × ¬ (Needed r)) ⊎ (Exposed r × ¬ ((inFlight (st (r .p)) ≡ true) × (r .v ≡ st (r .p) .used)))
+
+  needed-exactly : (K : Record) → (isNeeded S t st K ≡ true) ↔ Needed K
+  unfolding isNeeded outreaches isShielded isExposed
+  needed-exactly K = (
+    λ e. let w = i .0 e in record { furthest = λ k r h f p c v. w .0 (k, r, h, f, (p, (c, v))); shields = w .1 },
+    λ n. i .1 (λ w. n .furthest (w .0) (w .1) (w .2) (w .3) (w .4 .0) (w .4 .1 .0) (w .4 .1 .1), n .shields),
+  )
+    where
+      out : (r : Record) → (outreaches K r ≡ true) ↔ ((r .p ≡ K .p) × ((r .c ≡ K .c) × (K .v < r .v)))
+      out r =
+          conjoined (eqb (r .p) (K .p)) (eqb (r .c) (K .c) && ltb (K .v) (r .v)) (equal-test (r .p) (K .p))
+          (conjoined (eqb (r .c) (K .c)) (ltb (K .v) (r .v)) (equal-test (r .c) (K .c)) (below-test (K .v) (r .v)))
+
+      shield : (r : Record) → (isShielded st K r ≡ true) ↔ (Exposed r × Straddles K r)
+      shield r = conjoined (isExposed st r) (straddles K r) (below-test (st (r .p) .committed) (r .v)) (straddles-exactly K r)
+
+      i : (isNeeded S t st K ≡ true) ↔ (¬ ((k : ℕ) × (r : Record) × (k < S) × (t k ≡ Holds r) × ((r .p ≡ K .p) × ((r .c ≡ K .c) × (K .v < r .v)))) × ((k : ℕ) × (r : Record) × (k < S) × (t k ≡ Holds r) × (Exposed r × Straddles K r)))
+      i =
+          conjoined (not (someRecord S t (outreaches K))) (someRecord S t (isShielded st K))
+          (negated (someRecord S t (outreaches K)) (some-record S t (outreaches K) out))
+          (some-record S t (isShielded st K) shield)
+
+  erasable-exactly : (r : Record) → (mayEraseRecord S t st r ≡ true) ↔ Erasable r
+  unfolding mayEraseRecord isObsolete isExposed isCurrent
+  erasable-exactly r =
+      disjoined (isObsolete st r && not (isNeeded S t st r)) (isExposed st r && not (isCurrent st r))
+      (conjoined (isObsolete st r) (not (isNeeded S t st r)) (below-test (r .v) (st (r .p) .committed)) (negated (isNeeded S t st r) (needed-exactly r)))
+      (conjoined (isExposed st r) (not (isCurrent st r)) (below-test (st (r .p) .committed) (r .v))
+      (negated (isCurrent st r) (conjoined (inFlight (st (r .p))) (eqb (r .v) (st (r .p) .used)) (λ e. e, λ e. e) (equal-test (r .v) (st (r .p) .used)))))
+
+  -- "A slot may be erased if it holds …"
+  pub may-erase-exactly : (k : ℕ) → (mayErase S t st k ≡ true) ↔ ((r : Record) × (t k ≡ Holds r) × Erasable r)
+  unfolding mayErase
+  may-erase-exactly k = (
+    λ e. let h = holds-exactly (mayEraseRecord S t st) (t k) .0 e in (h .0, h .1, erasable-exactly (h .0) .0 (h .2)),
+    λ w. holds-exactly (mayEraseRecord S t st) (t k) .1 (w .0, w .1, erasable-exactly (w .0) .1 (w .2)),
+  )
+
+  -- each listed slot may be erased
+  pub may-erase-all : (slots : List ℕ) → (mayEraseAll S t st slots ≡ true) ↔ ((i : ℕ) → i < length slots → mayErase S t st (getD slots i 0) ≡ true)
+  unfolding mayEraseAll
+  may-erase-all slots = all-each (λ i. mayErase S t st (getD slots i 0)) (length slots)

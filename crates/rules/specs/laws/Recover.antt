@@ -1,0 +1,135 @@
+-- What recover's definitions say as propositions, and what its outcome depends on.
+use Prim.Native.Nat.{ℕ, _≤_, _<_, max}
+use native.Mathlib.Omega.{arith}
+use mathlib.Core.Path.{_≡_, refl, sym}
+use mathlib.Core.List.{List}
+use mathlib.Core.Logic.{_↔_}
+use mathlib.Core.Bool.{Bool, true, false, cond}
+use lib.Dec.{ltb, eqb}
+use lib.ListN.{length}
+use borrow.Author.Tests.{eq-eqb}
+use Rattle.bounded.specs.Below.{someBelow}
+use Rattle.bounded.specs.Choice.{never}
+use Rattle.bounded.specs.BelowLaws.{some-at, some-of, max-above, max-bound}
+use Rattle.outcome.specs.Outcome.{settled-refused, settled-done}
+use Rattle.record.specs.declared.Record.{Record}
+use Rattle.record.specs.declared.Slot.{Slot}
+use Rattle.record.specs.declared.Slot.the-variants.{Blank, Holds}
+use Rattle.record.specs.Slot.{slotAt, recordSound}
+use Rattle.record.specs.SlotLaws.{sound-facts}
+use Rattle.state.specs.State.{stateWords}
+use Rattle.table.specs.Table.{tableSound, highest, highestVersionOf}
+use Rattle.table.specs.TableLaws.{highest-is, highest-held, sound-at}
+use Rattle.rules.specs.Volume.{stateFits}
+use Rattle.follow.specs.declared.Verdict.the-variants as says
+use Rattle.follow.specs.declared.End.{End}
+use Rattle.follow.specs.declared.End.the-variants as ends
+use Rattle.rules.specs.Verdict.{isStraddled, linkVerdict, slotVerdict, verdict}
+use Rattle.follow.specs.FollowLaws.{RunsIntoRing, astray-exactly}
+use Rattle.rules.specs.Recover.{walkOf, mentioned, usedOf, recovered, recoverAnswer, recoverOutcome}
+use Rattle.follow.specs.Follow.{isAstray}
+use Rattle.bounded.specs.Limits.{highestVersion}
+
+-- ---- verdicts lead to pages
+
+module _ (S : ℕ) (t : ℕ → Slot) where
+  -- a link that goes on goes on at np
+  pub on-next : (J : Record) (r : ℕ) → linkVerdict S t J ≡ says.On r → r ≡ J .np
+  unfolding linkVerdict
+  on-next J r e = by (ltb (J .nv) (highestVersionOf S t (J .np))) (isStraddled S t J) (ltb (highestVersionOf S t (J .np)) (J .nv)) e
+    where
+      by : (a b c : Bool) → cond a (cond b says.Uncommitted says.Committed) (cond c says.Uncommitted (says.On (J .np))) ≡ says.On r → r ≡ J .np
+      by true true c h = let z : _≡_ {A = ℕ} 0 1 = cc in absurd (omega arith)
+      by true false c h = let z : _≡_ {A = ℕ} 0 1 = cc in absurd (omega arith)
+      by false b true h = let z : _≡_ {A = ℕ} 0 1 = cc in absurd (omega arith)
+      by false b false h = cc
+
+  -- in a sound table every verdict that goes on goes on at a page below P
+  pub verdict-inside : (P : ℕ) → tableSound P S t ≡ true → (q r : ℕ) → q < P → verdict S t q ≡ says.On r → r < P
+  unfolding verdict slotVerdict
+  verdict-inside P sound q r h e = by (highest S t q) refl e
+    where
+      by : (s : Slot) → highest S t q ≡ s → slotVerdict S t s ≡ says.On r → r < P
+      by Blank f g = let z : _≡_ {A = ℕ} 0 1 = cc in absurd (omega arith)
+      by (Holds J) f g =
+          let k = highest-held t q S (highest-is t q S) f in
+          let u = sound-at t P S (k .0) sound (k .1) (k .2) in
+          let i = on-next J r g in
+          let l = sound-facts P J u .next-below in
+          omega arith
+
+-- ---- answer 4
+
+isAstray-exactly : (e : End) → (isAstray e ≡ true) ↔ (e ≡ ends.Astray)
+unfolding isAstray
+isAstray-exactly ends.Committed = (λ h. absurd (never refl (sym h)), λ h. let z : _≡_ {A = ℕ} 0 1 = cc in absurd (omega arith))
+isAstray-exactly ends.Uncommitted = (λ h. absurd (never refl (sym h)), λ h. let z : _≡_ {A = ℕ} 0 1 = cc in absurd (omega arith))
+isAstray-exactly ends.Astray = (λ h. refl, λ h. refl)
+
+-- "the links run into a ring that lacks the start", for the links of some page's highest record: exactly the condition of answer 4
+pub astray-means :
+    (P S : ℕ) (t : ℕ → Slot)
+    → tableSound P S t ≡ true
+    → (someBelow P (λ p. isAstray (walkOf P S t p .end)) ≡ true) ↔ ((p : ℕ) × (p < P) × RunsIntoRing (verdict S t) p)
+unfolding walkOf
+astray-means P S t sound = (
+  λ e. let w = some-at (λ p. isAstray (walkOf P S t p .end)) P e in
+      (w .0, w .1, astray-exactly (verdict S t) (w .0) P (w .1) (verdict-inside S t P sound) .0 (isAstray-exactly (walkOf P S t (w .0) .end) .0 (w .2))),
+  λ w. some-of (λ p. isAstray (walkOf P S t p .end)) P (w .0) (w .1)
+      (isAstray-exactly (walkOf P S t (w .0) .end) .1 (astray-exactly (verdict S t) (w .0) P (w .1) (verdict-inside S t P sound) .1 (w .2))),
+)
+
+-- ---- used
+
+-- "all v with that p and all nv with that np" are at most used,
+pub used-above-version : (S : ℕ) (t : ℕ → Slot) (k : ℕ) (r : Record) → k < S → t k ≡ Holds r → r .v ≤ usedOf S t (r .p)
+unfolding usedOf mentioned
+used-above-version S t k r h e =
+    let a = max-above (λ k. mentioned (r .p) (t k)) S k h in
+    let b : mentioned (r .p) (t k) ≡ max (r .v) (cond (eqb (r .np) (r .p)) (r .nv) 0) = rw (e, mentioned, eq-eqb (r .p) (r .p) refl) in
+    omega arith
+
+pub used-above-next : (S : ℕ) (t : ℕ → Slot) (k : ℕ) (r : Record) → k < S → t k ≡ Holds r → r .nv ≤ usedOf S t (r .np)
+unfolding usedOf mentioned
+used-above-next S t k r h e =
+    let a = max-above (λ k. mentioned (r .np) (t k)) S k h in
+    let b : mentioned (r .np) (t k) ≡ max (cond (eqb (r .p) (r .np)) (r .v) 0) (r .nv) = rw (e, mentioned, eq-eqb (r .np) (r .np) refl) in
+    omega arith
+
+-- in a sound table no version is above the highest there is, so used is not
+pub used-most : (P S : ℕ) (t : ℕ → Slot) (p : ℕ) → tableSound P S t ≡ true → usedOf S t p ≤ highestVersion
+unfolding usedOf mentioned
+used-most P S t p sound =
+    max-bound (λ k. mentioned p (t k)) S highestVersion (λ k h. mentioned-most (t k) (λ r e. sound-at t P S k sound h e))
+  where
+    most : (b : Bool) (n : ℕ) → n ≤ highestVersion → cond b n 0 ≤ highestVersion
+    most true n h = h
+    most false n h = omega arith
+
+    mentioned-most : (s : Slot) → ((r : Record) → s ≡ Holds r → recordSound P r ≡ true) → mentioned p s ≤ highestVersion
+    mentioned-most Blank ok = omega arith
+    mentioned-most (Holds r) ok =
+        let f = sound-facts P r (ok r refl) in
+        let a = most (eqb (r .p) p) (r .v) (f .v-most) in
+        let b = most (eqb (r .np) p) (r .nv) (f .nv-most) in
+        omega arith
+
+-- ---- recovery reads only the slot table
+
+-- The answer depends on P, S, the slot words and the state's length alone,
+pub recover-answer-reads : (P S : ℕ) (words a b : List ℕ) → length a ≡ length b → recoverAnswer P S words a ≡ recoverAnswer P S words b
+unfolding recoverAnswer stateFits
+recover-answer-reads P S words a b e = rw (recoverAnswer, stateFits, e)
+
+-- and so do the words that an accepted recover fills.
+pub recover-fills :
+    (P S : ℕ) (words a : List ℕ)
+    → recoverAnswer P S words a ≡ 0
+    → recoverOutcome P S words a ≡ record { answer = 0; second = 0; left = stateWords P (recovered P S (slotAt words)) }
+unfolding recoverOutcome
+recover-fills P S words a e = settled-done (recoverAnswer P S words a) 0 0 a (stateWords P (recovered P S (slotAt words))) e
+
+-- A refused recover leaves the state as it was, and its second number is 0.
+pub recover-refused : (P S : ℕ) (words a : List ℕ) → ¬ (recoverAnswer P S words a ≡ 0) → recoverOutcome P S words a ≡ record { answer = recoverAnswer P S words a; second = 0; left = a }
+unfolding recoverOutcome
+recover-refused P S words a h = settled-refused (recoverAnswer P S words a) 0 0 a (stateWords P (recovered P S (slotAt words))) h
