@@ -1,7 +1,7 @@
 -- A verdict as one number, so that a table of verdicts fits an array: a page, 256 for committed, 257 for uncommitted.
-use Prim.Native.Nat.{ℕ, zero, suc, _<_}
+use Prim.Native.Nat.{ℕ, _<_}
 use native.Mathlib.Omega.{arith}
-use mathlib.Core.Path.{_≡_, refl, ap, _∙_}
+use mathlib.Core.Path.{_≡_, refl, sym, ap, _∙_}
 use mathlib.Core.List.{List}
 use mathlib.Core.Bool.{cond}
 use lib.Dec.{eqb}
@@ -10,8 +10,9 @@ use borrow.Author.Tests.{ne-eqb}
 use Rattle.bounded.specs.Tabulate.{tabulate, tabulate-at}
 use Rattle.follow.specs.declared.Verdict.{Verdict}
 use Rattle.follow.specs.declared.Verdict.the-variants.{Committed, Uncommitted, On}
-use Rattle.follow.specs.declared.Walk.{Walk}
-use Rattle.follow.specs.Follow.{link, followFrom, follow}
+use Rattle.follow.specs.declared.End.{End}
+use Rattle.follow.specs.Follow.{follow, StaysInside}
+use Rattle.follow.specs.Course.{Leads, here, onward, EndsAt, committed, uncommitted, back, ended, astray, walk-ends, walk-astray, course, led-inside}
 
 unfoldable pub codeOf : Verdict → ℕ
 codeOf (On page) = page
@@ -25,10 +26,6 @@ ofCode n = cond (eqb n 256) Committed (cond (eqb n 257) Uncommitted (On n))
 -- the verdict of page p in a table of codes
 unfoldable pub coded : List ℕ → ℕ → Verdict
 coded codes p = ofCode (getD codes p 0)
-
--- every verdict of a page below P that goes on goes on at a page below P
-abbrev pub StaysInside : ℕ → (ℕ → Verdict) → Type 0
-StaysInside P v = (q r : ℕ) → q < P → v q ≡ On r → r < P
 
 -- a verdict, coded and read
 pub code-back : (v : Verdict) → ((r : ℕ) → v ≡ On r → r < 256) → ofCode (codeOf v) ≡ v
@@ -46,20 +43,20 @@ coded-back v codes p e h inside =
     ∙ code-back (v p) inside
 
 -- A walk among P pages depends on their verdicts alone.
-module _ (P : ℕ) (v w : ℕ → Verdict) (inside : StaysInside P v) (same : (q : ℕ) → q < P → v q ≡ w q) (start : ℕ) where
-  one-link : (x : Verdict) (f g : ℕ → Walk) → ((r : ℕ) → x ≡ On r → f r ≡ g r) → link start x f ≡ link start x g
-  unfolding link
-  one-link Committed f g h = refl
-  one-link Uncommitted f g h = refl
-  one-link (On r) f g h = rw (h r refl)
+module _ (P : ℕ) (v w : ℕ → Verdict) (inside : StaysInside P v) (same : (q : ℕ) → q < P → v q ≡ w q) (start : ℕ) (h : start < P) where
+  same-way : {k q : ℕ} → Leads v start k q → Leads w start k q
+  same-way here = here
+  same-way (onward {q = q} l e d) = onward (same-way l) (sym (same q (led-inside h inside l)) ∙ e) d
 
-  follow-from-same : (n q : ℕ) → q < P → followFrom v start n q ≡ followFrom w start n q
-  unfolding followFrom
-  follow-from-same zero q h = refl
-  follow-from-same (suc n) q h =
-      one-link (v q) (λ r. followFrom v start n r) (λ r. followFrom w start n r) (λ r e. follow-from-same n r (inside q r h e))
-      ∙ ap (λ (x : Verdict). link start x (λ r. followFrom w start n r)) (same q h)
+  same-end : {q : ℕ} {e : End} → q < P → EndsAt v start q e → EndsAt w start q e
+  same-end {q} l (committed e) = committed (sym (same q l) ∙ e)
+  same-end {q} l (uncommitted e) = uncommitted (sym (same q l) ∙ e)
+  same-end {q} l (back e) = back (sym (same q l) ∙ e)
 
-  pub follow-same : start < P → follow P v start ≡ follow P w start
+  pub follow-same : follow P v start ≡ follow P w start
   unfolding follow
-  follow-same h = follow-from-same P start h
+  follow-same =
+      elim (course v start P) [
+        | ended l i x ↦ walk-ends l i x ∙ sym (walk-ends (same-way l) i (same-end (led-inside h inside l) x))
+        | astray l ↦ walk-astray l ∙ sym (walk-astray (same-way l))
+      ]

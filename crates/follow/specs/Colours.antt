@@ -1,91 +1,16 @@
 -- Following verdicts among pages that are green or red: a green start ends committed, a red one uncommitted, and none runs astray.
 -- Over any table of verdicts: no record and no version is mentioned.
-use Prim.Native.Nat.{ℕ, zero, suc, _+_, _-_, _≤_, _<_}
+use Prim.Native.Nat.{ℕ, zero, suc, _+_, _≤_, _<_}
 use native.Mathlib.Omega.{arith}
-use mathlib.Core.Path.{_≡_, refl, sym, ap, _∙_, subst}
+use mathlib.Core.Path.{_≡_, refl, subst}
 use mathlib.Core.Logic.{_⊎_, inl, inr}
-use borrow.Author.Tests.{eq-eqb, ne-eqb}
-use Rattle.bounded.specs.Choice.{on-eq}
-use Rattle.bounded.specs.Pigeonhole.{pigeonhole, comes-back}
 use Rattle.follow.specs.declared.Verdict.{Verdict}
 use Rattle.follow.specs.declared.Verdict.the-variants as says
 use Rattle.follow.specs.declared.End.{End}
 use Rattle.follow.specs.declared.End.the-variants as ends
-use Rattle.follow.specs.Follow.{follow, followFrom, link, endsHere, oneMore}
-
--- the page that a verdict at page q leads to; q itself where it ends there
-unfoldable pub onTo : Verdict → ℕ → ℕ
-onTo says.Committed q = q
-onTo says.Uncommitted q = q
-onTo (says.On r) q = r
-
-module _ (verdict : ℕ → Verdict) where
-  -- the page that k verdicts lead to from q
-  unfoldable pub ahead : ℕ → ℕ → ℕ
-  ahead q zero = q
-  ahead q (suc k) = onTo (verdict (ahead q k)) (ahead q k)
-
-  -- the first m verdicts from q all go on
-  abbrev pub GoesOn : (q m : ℕ) → Type 0
-  GoesOn q m = (i : ℕ) → i < m → verdict (ahead q i) ≡ says.On (ahead q (suc i))
-
-  ahead-zero : (q : ℕ) → ahead q 0 ≡ q
-  unfolding ahead
-  ahead-zero q = refl
-
-  ahead-on : (q r k : ℕ) → verdict q ≡ says.On r → ahead q (suc k) ≡ ahead r k
-  unfolding ahead onTo
-  ahead-on q r zero e = rw e
-  ahead-on q r (suc k) e = ap (λ (x : ℕ). onTo (verdict x) x) (ahead-on q r k e)
-
-  goes-on-more : (q r m : ℕ) → verdict q ≡ says.On r → GoesOn r m → GoesOn q (suc m)
-  goes-on-more q r m e h zero l =
-      ap verdict (ahead-zero q) ∙ e ∙ ap says.On (sym (ahead-on q r 0 e ∙ ahead-zero r))
-  goes-on-more q r m e h (suc i) l =
-      ap verdict (ahead-on q r i e) ∙ h i (omega arith) ∙ ap says.On (sym (ahead-on q r (suc i) e))
-
-  goes-on-none : (q : ℕ) → GoesOn q 0
-  goes-on-none q i l = absurd (omega arith)
-
-  ahead-add : (q i k : ℕ) → ahead q (i + k) ≡ ahead (ahead q i) k
-  unfolding ahead
-  ahead-add q i zero = ap (ahead q) (let e : i + 0 ≡ i = omega arith in e) ∙ sym (ahead-zero (ahead q i))
-  ahead-add q i (suc k) =
-      ap (ahead q) (let e : i + suc k ≡ suc (i + k) = omega arith in e) ∙ ap (λ (x : ℕ). onTo (verdict x) x) (ahead-add q i k)
-
-  module _ (start : ℕ) where
-    -- How the walk from `start`, now at q, with n links at the most, goes on: to a verdict that ends it, back to the start, or for all n links.
-    pub data Trace (n q : ℕ) : Type 0 where
-      committed : (m : ℕ) → m < n → GoesOn q m → verdict (ahead q m) ≡ says.Committed → followFrom verdict start n q .end ≡ ends.Committed → Trace n q
-      uncommitted : (m : ℕ) → m < n → GoesOn q m → verdict (ahead q m) ≡ says.Uncommitted → followFrom verdict start n q .end ≡ ends.Uncommitted → Trace n q
-      back : (m : ℕ) → m < n → GoesOn q (suc m) → ahead q (suc m) ≡ start → followFrom verdict start n q .end ≡ ends.Committed → Trace n q
-      astray : GoesOn q n → ((i : ℕ) → i < n → ¬ (ahead q (suc i) ≡ start)) → Trace n q
-
-    trace : (n q : ℕ) → Trace n q
-    unfolding followFrom link endsHere oneMore
-    trace zero q = astray (goes-on-none q) (λ i l. absurd (omega arith))
-    trace (suc n) q = go (verdict q) refl (λ r. trace n r)
-      where
-        go : (w : Verdict) → verdict q ≡ w → ((r : ℕ) → Trace n r) → Trace (suc n) q
-        go says.Committed e rest = committed 0 (omega arith) (goes-on-none q) (ap verdict (ahead-zero q) ∙ e) (rw e)
-        go says.Uncommitted e rest = uncommitted 0 (omega arith) (goes-on-none q) (ap verdict (ahead-zero q) ∙ e) (rw e)
-        go (says.On r) e rest =
-            on-eq r start
-            (λ s. back 0 (omega arith) (goes-on-more q r 0 e (goes-on-none r)) (ahead-on q r 0 e ∙ ahead-zero r ∙ s) (rw (e, eq-eqb r start s)))
-            (λ d. shift d (rest r))
-          where
-            here : ¬ (r ≡ start) → followFrom verdict start (suc n) q .end ≡ followFrom verdict start n r .end
-            here d = rw (followFrom, e, ne-eqb r start d)
-
-            shift : ¬ (r ≡ start) → Trace n r → Trace (suc n) q
-            shift d (committed m l g w f) = committed (suc m) (omega arith) (goes-on-more q r m e g) (ap verdict (ahead-on q r m e) ∙ w) (here d ∙ f)
-            shift d (uncommitted m l g w f) = uncommitted (suc m) (omega arith) (goes-on-more q r m e g) (ap verdict (ahead-on q r m e) ∙ w) (here d ∙ f)
-            shift d (back m l g w f) = back (suc m) (omega arith) (goes-on-more q r (suc m) e g) (ahead-on q r (suc m) e ∙ w) (here d ∙ f)
-            shift d (astray g a) = astray (goes-on-more q r n e g) never
-              where
-                never : (i : ℕ) → i < suc n → ¬ (ahead q (suc i) ≡ start)
-                never zero l x = d (sym (ahead-on q r 0 e ∙ ahead-zero r) ∙ x)
-                never (suc i) l x = a i (omega arith) (sym (ahead-on q r (suc i) e) ∙ x)
+use Rattle.follow.specs.Follow.{follow}
+use Rattle.follow.specs.Course.{Leads, here, onward, EndsAt, committed, uncommitted, back, ended, astray, walk-ends, course}
+use Rattle.follow.specs.Astray.{RunsIntoRing, never-ends, ring-of}
 
 -- Green pages: a green page's verdict is committed, or on to a green page, and no two green pages go on to one.
 pub record Greens (P : ℕ) (verdict : ℕ → Verdict) (Green : ℕ → Type 0) : Type 0 where
@@ -101,96 +26,91 @@ pub record Reds (P : ℕ) (verdict : ℕ → Verdict) (Red : ℕ → ℕ → Typ
 module _ {P : ℕ} {verdict : ℕ → Verdict} {Green : ℕ → Type 0} (greens : Greens P verdict Green) where
   open Greens greens using (green-below, green-verdict, greens-apart)
 
-  stays-green : (p m : ℕ) → Green p → GoesOn verdict p m → (i : ℕ) → i ≤ m → Green (ahead verdict p i)
-  stays-green p m g on zero l = subst Green (sym (ahead-zero verdict p)) g
-  stays-green p m g on (suc i) l = go (green-verdict (ahead verdict p i) (stays-green p m g on i (omega arith)))
-    where
-      e : verdict (ahead verdict p i) ≡ says.On (ahead verdict p (suc i))
-      e = on i (omega arith)
+  -- a green page's link leads to a green page,
+  green-on : (q r : ℕ) → Green q → verdict q ≡ says.On r → Green r
+  green-on q r g e =
+      elim (green-verdict q g) [
+        | inl c ↦ absurd (let z : _≡_ {A = ℕ} 0 1 = cc in omega arith)
+        | inr w ↦ let s : w .0 ≡ r = cc (w .1) in subst Green s (w .2)
+      ]
 
-      go : (verdict (ahead verdict p i) ≡ says.Committed) ⊎ ((q : ℕ) × (verdict (ahead verdict p i) ≡ says.On q) × Green q) → Green (ahead verdict p (suc i))
-      go (inl c) = absurd (let z : _≡_ {A = ℕ} 0 1 = cc (e, c) in omega arith)
-      go (inr w) = let s : w .0 ≡ ahead verdict p (suc i) = cc (e, w .1) in subst Green s (w .2)
+  -- or ends the walk committed
+  green-ends : (start q : ℕ) {e : End} → Green q → EndsAt verdict start q e → e ≡ ends.Committed
+  green-ends start q g (committed f) = refl
+  green-ends start q g (back f) = refl
+  green-ends start q g (uncommitted f) = elim (green-verdict q g) [ inl c ↦ cc | inr w ↦ cc (w .1) ]
 
-  pub green-committed : (p : ℕ) → Green p → follow P verdict p .end ≡ ends.Committed
-  unfolding follow
-  green-committed p g = go (trace verdict p P p)
-    where
-      go : Trace verdict p P p → followFrom verdict p P p .end ≡ ends.Committed
-      go (committed m l on w f) = f
-      go (uncommitted m l on w f) = absurd (not-green (green-verdict (ahead verdict p m) (stays-green p m g on m (omega arith))))
-        where
-          not-green : (verdict (ahead verdict p m) ≡ says.Committed) ⊎ ((q : ℕ) × (verdict (ahead verdict p m) ≡ says.On q) × Green q) → ⊥
-          not-green (inl c) = let z : _≡_ {A = ℕ} 0 1 = cc in omega arith
-          not-green (inr x) = let z : _≡_ {A = ℕ} 0 1 = cc (x .1) in omega arith
-      go (back m l on w f) = f
-      go (astray on away) = absurd (returned (comes-back P (ahead verdict p) below merges))
-        where
-          green : (i : ℕ) → i ≤ P → Green (ahead verdict p i)
-          green = stays-green p P g on
+  module _ (p : ℕ) (g : Green p) where
+    stays-green : {k q : ℕ} → Leads verdict p k q → Green q
+    stays-green here = g
+    stays-green (onward {q = q} {r = r} l e d) = green-on q r (stays-green l) e
 
-          below : (i : ℕ) → i ≤ P → ahead verdict p i < P
-          below i l = green-below (ahead verdict p i) (green i l)
+    -- no green page is met twice: the pages before would be one too, back to the start
+    met-once : {i j q : ℕ} → Leads verdict p i q → Leads verdict p j q → i < j → ⊥
+    met-once here here h = omega arith
+    met-once here (onward m f d) h = d refl
+    met-once (onward l e d) here h = omega arith
+    met-once (onward {q = q} {r = r} l e d) (onward {k = j} {q = q′} m f c) h =
+        let s = greens-apart q′ q r (stays-green m) (stays-green l) f e in
+        met-once l (subst (λ (x : ℕ). Leads verdict p j x) s m) (omega arith)
 
-          merges : (i j : ℕ) → i < P → j < P → ahead verdict p (suc i) ≡ ahead verdict p (suc j) → ahead verdict p i ≡ ahead verdict p j
-          merges i j l h e =
-              greens-apart (ahead verdict p i) (ahead verdict p j) (ahead verdict p (suc j)) (green i (omega arith)) (green j (omega arith)) (on i l ∙ ap says.On e) (on j h)
+    green-no-ring : RunsIntoRing verdict p → ⊥
+    green-no-ring ring = let s = ring .some-way in met-once (ring .first) (ring .again) (omega arith)
 
-          returned : ((k : ℕ) × (1 ≤ k) × (k ≤ P) × (ahead verdict p k ≡ ahead verdict p 0)) → ⊥
-          returned (zero, l, h, e) = omega arith
-          returned (suc k, l, h, e) = away k (omega arith) (e ∙ ahead-zero verdict p)
+    pub green-committed : follow P verdict p .end ≡ ends.Committed
+    unfolding follow
+    green-committed =
+        elim (course verdict p P) [
+          | ended {q = q} l h x ↦ rw (walk-ends l h x) (green-ends p q (stays-green l) x)
+          | astray {q} l ↦ absurd (green-no-ring (ring-of verdict p P (λ k r m. green-below r (stays-green m)) q l))
+        ]
 
 module _ {P : ℕ} {verdict : ℕ → Verdict} {Red : ℕ → ℕ → Type 0} (reds : Reds P verdict Red) where
   open Reds reds using (red-below, red-verdict)
 
-  -- after m links the rank has fallen by m at least
-  falls : (p k m : ℕ) → Red k p → GoesOn verdict p m → (j : ℕ) × (j + m ≤ k) × Red j (ahead verdict p m)
-  falls p k zero r on = (k, omega arith, subst (λ (x : ℕ). Red k x) (sym (ahead-zero verdict p)) r)
-  falls p k (suc m) r on = go (falls p k m r (λ i l. on i (omega arith)))
-    where
-      e : verdict (ahead verdict p m) ≡ says.On (ahead verdict p (suc m))
-      e = on m (omega arith)
+  -- a red page's link leads to a red page of lower rank,
+  red-on : (k q r : ℕ) → Red k q → verdict q ≡ says.On r → (j : ℕ) × (j < k) × Red j r
+  red-on k q r d e =
+      elim (red-verdict k q d) [
+        | inl u ↦ absurd (let z : _≡_ {A = ℕ} 0 1 = cc in omega arith)
+        | inr w ↦ let s : w .0 ≡ r = cc (w .3) in (w .1, w .2, subst (λ (x : ℕ). Red (w .1) x) s (w .4))
+      ]
 
-      go : ((j : ℕ) × (j + m ≤ k) × Red j (ahead verdict p m)) → (j : ℕ) × (j + suc m ≤ k) × Red j (ahead verdict p (suc m))
-      go w = last (red-verdict (w .0) (ahead verdict p m) (w .2))
-        where
-          last :
-              (verdict (ahead verdict p m) ≡ says.Uncommitted) ⊎ ((q j : ℕ) × (j < w .0) × (verdict (ahead verdict p m) ≡ says.On q) × Red j q)
-              → (j : ℕ) × (j + suc m ≤ k) × Red j (ahead verdict p (suc m))
-          last (inl u) = absurd (let z : _≡_ {A = ℕ} 0 1 = cc (e, u) in omega arith)
-          last (inr x) =
-              let s : x .0 ≡ ahead verdict p (suc m) = cc (e, x .3) in
-              (x .1, (let a = w .1 in let b = x .2 in omega arith), subst (λ (y : ℕ). Red (x .1) y) s (x .4))
+  -- and no red page's verdict is committed
+  red-not-committed : (k q : ℕ) → Red k q → verdict q ≡ says.Committed → ⊥
+  red-not-committed k q d e =
+      let z : _≡_ {A = ℕ} 0 1 = elim (red-verdict k q d) [ inl u ↦ cc | inr w ↦ cc (w .3) ] in omega arith
 
-  -- a red page is not met again
-  no-return : (bound p k m : ℕ) → k < bound → Red k p → GoesOn verdict p (suc m) → ahead verdict p (suc m) ≡ p → ⊥
-  no-return zero p k m l r on e = omega arith
-  no-return (suc n) p k m l r on e =
-      let w = falls p k (suc m) r on in
-      no-return n p (w .0) m (let a = w .1 in omega arith) (subst (λ (x : ℕ). Red (w .0) x) e (w .2)) on e
+  module _ (p : ℕ) where
+    -- after m links the rank has fallen by m at least
+    falls : {m q : ℕ} (k : ℕ) → Red k p → Leads verdict p m q → (j : ℕ) × (j + m ≤ k) × Red j q
+    falls k d here = (k, omega arith, d)
+    falls k d (onward {q = q} {r = r} l e c) =
+        let w = falls k d l in
+        let x = red-on (w .0) q r (w .2) e in
+        (x .0, (let a = w .1 in let b = x .1 in omega arith), x .2)
 
-  pub red-uncommitted : (p k : ℕ) → Red k p → follow P verdict p .end ≡ ends.Uncommitted
-  unfolding follow
-  red-uncommitted p k r = go (trace verdict p P p)
-    where
-      go : Trace verdict p P p → followFrom verdict p P p .end ≡ ends.Uncommitted
-      go (committed m l on w f) = let x = falls p k m r on in absurd (not-red (x .0) (red-verdict (x .0) (ahead verdict p m) (x .2)))
-        where
-          not-red : (j : ℕ) → (verdict (ahead verdict p m) ≡ says.Uncommitted) ⊎ ((q i : ℕ) × (i < j) × (verdict (ahead verdict p m) ≡ says.On q) × Red i q) → ⊥
-          not-red j (inl u) = let z : _≡_ {A = ℕ} 0 1 = cc in omega arith
-          not-red j (inr x) = let z : _≡_ {A = ℕ} 0 1 = cc (x .3) in omega arith
-      go (uncommitted m l on w f) = f
-      go (back m l on w f) = absurd (no-return (suc k) p k m (omega arith) r on w)
-      go (astray on away) = absurd (met (pigeonhole P (ahead verdict p) below))
-        where
-          below : (i : ℕ) → i ≤ P → ahead verdict p i < P
-          below i l = let x = falls p k i r (λ j h. on j (omega arith)) in red-below (x .0) (ahead verdict p i) (x .2)
+    -- so no link is back at the start: its rank would fall for ever,
+    no-return : {m q : ℕ} (bound k : ℕ) → k < bound → Red k p → Leads verdict p m q → verdict q ≡ says.On p → ⊥
+    no-return zero k h d l e = omega arith
+    no-return {q = q} (suc n) k h d l e =
+        let w = falls k d l in
+        let x = red-on (w .0) q p (w .2) e in
+        no-return n (x .0) (let a = w .1 in let b = x .1 in omega arith) (x .2) l e
 
-          met : ((i j : ℕ) × (i < j) × (j ≤ P) × (ahead verdict p i ≡ ahead verdict p j)) → ⊥
-          met (i, j, l, h, e) =
-              let x = falls p k i r (λ a b. on a (omega arith)) in
-              let m : ℕ = j - suc i in
-              let s : j ≡ i + suc m = omega arith in
-              no-return (suc (x .0)) (ahead verdict p i) (x .0) m (omega arith) (x .2)
-              (λ a b. ap verdict (sym (ahead-add verdict p i a)) ∙ on (i + a) (omega arith) ∙ ap says.On (ap (ahead verdict p) (let q : suc (i + a) ≡ i + suc a = omega arith in q) ∙ ahead-add verdict p i (suc a)))
-              (sym (ahead-add verdict p i (suc m)) ∙ ap (ahead verdict p) (sym s) ∙ sym e)
+    -- and none leads into a ring
+    red-no-ring : (k : ℕ) → Red k p → RunsIntoRing verdict p → ⊥
+    red-no-ring k d ring = let w = falls k d (never-ends verdict p ring (suc k) .1) in let a = w .1 in omega arith
+
+    pub red-uncommitted : (k : ℕ) → Red k p → follow P verdict p .end ≡ ends.Uncommitted
+    unfolding follow
+    red-uncommitted k d =
+        elim (course verdict p P) [
+          | ended l h x ↦ rw (walk-ends l h x) (red-ends l x)
+          | astray {q} l ↦ absurd (red-no-ring k d (ring-of verdict p P (λ m r u. let w = falls k d u in red-below (w .0) r (w .2)) q l))
+        ]
+      where
+        red-ends : {m q : ℕ} {e : End} → Leads verdict p m q → EndsAt verdict p q e → e ≡ ends.Uncommitted
+        red-ends {q = q} l (committed f) = let w = falls k d l in absurd (red-not-committed (w .0) q (w .2) f)
+        red-ends l (uncommitted f) = refl
+        red-ends l (back f) = absurd (no-return (suc k) k (omega arith) d l f)

@@ -1,5 +1,6 @@
 -- Following verdicts from a start, over any table of verdicts: no record and no state is mentioned.
-use Prim.Native.Nat.{ℕ, zero, suc, _+_}
+use Prim.Native.Nat.{ℕ, zero, suc, _+_, _<_}
+use mathlib.Core.Path.{_≡_}
 use mathlib.Core.Bool.{Bool, true, false, cond}
 use lib.Dec.{eqb}
 use Rattle.follow.specs.declared.Verdict.{Verdict}
@@ -37,3 +38,7 @@ unfoldable pub isAstray : End → Bool
 isAstray ends.Committed = false
 isAstray ends.Uncommitted = false
 isAstray ends.Astray = true
+
+-- every verdict of a page below P that goes on goes on at a page below P
+abbrev pub StaysInside : ℕ → (ℕ → Verdict) → Type 0
+StaysInside P v = (q r : ℕ) → q < P → v q ≡ says.On r → r < P

@@ -1,5 +1,5 @@
 pub mod Follow
-pub mod FollowLaws
-pub mod WalkLaws
-pub mod Codes
+pub mod Course
+pub mod Astray
 pub mod Colours
+pub mod Codes

@@ -1,8 +1,8 @@
 // Following links over a table of verdicts: no record is mentioned. The definitions are in specs/.
 ghost use mathlib.Core.Path.{_≡_};
 ghost use Prim.Native.Nat.{_≤_, _<_};
-ghost use Rattle.follow.specs.Follow.{follow, isAstray};
-ghost use Rattle.follow.specs.Codes.{codeOf, ofCode, coded, StaysInside};
+ghost use Rattle.follow.specs.Follow.{follow, isAstray, StaysInside};
+ghost use Rattle.follow.specs.Codes.{codeOf, ofCode, coded};
 
 // What one link says: the start is committed, it is uncommitted, or go on at a page's highest record.
 pub enum Verdict {

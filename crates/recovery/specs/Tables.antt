@@ -29,10 +29,10 @@ use Rattle.follow.specs.declared.Verdict.the-variants.{Committed, Uncommitted, 
 use Rattle.follow.specs.declared.End.{End}
 use Rattle.follow.specs.declared.End.the-variants as ends
 use Rattle.rules.specs.Verdict.{isStraddled, linkVerdict, slotVerdict, verdict}
-use Rattle.follow.specs.Follow.{follow, isAstray}
+use Rattle.follow.specs.Follow.{follow, isAstray, StaysInside}
 use Rattle.rules.specs.Recover.{walkOf, backPointer, committedBy, committedOf, mentioned, usedOf, recovered, recoverAnswer}
 use Rattle.rules.specs.laws.Recover.{verdict-inside}
-use Rattle.follow.specs.Codes.{codeOf, coded, coded-back, StaysInside, follow-same}
+use Rattle.follow.specs.Codes.{codeOf, coded, coded-back, follow-same}
 
 -- a page without a record has committed version 0
 pub committed-blank : (e : End) → committedBy e Blank ≡ 0

@@ -1,21 +1,22 @@
 use borrow.Author.Needs.{needs}
 use native.Mathlib.Omega.{arith}
 use Prim.Native.Nat.{_≤_, _<_, _-_}
-use mathlib.Core.Path.{_≡_, sym, _∙_}
-use Rattle.follow.specs.Codes.{coded}
+use mathlib.Core.Path.{_≡_, sym, ap, _∙_}
+use Rattle.follow.specs.declared.Verdict.the-variants as says
 use Rattle.follow.specs.Follow.{follow}
-use Rattle.follow.specs.WalkLaws.{leftOf, left-at-start, left-committed, left-uncommitted, left-back, left-on, left-none}
+use Rattle.follow.specs.Course.{Leads, here, onward, committed, uncommitted, back, walk-ends, walk-astray, as-many}
+use Rattle.follow.specs.Codes.{coded}
 use Rattle.follow.proofs.follow_from.Statement.{statement}
 use Rattle.follow.proofs.follow_from.Tie as tie
 
 abbrev Inv-loop : tie.InvT-loop
-Inv-loop codes pages start page₀ links₀ page links = (links ≤ pages) × (page < pages) × (follow pages (coded codes) start ≡ leftOf pages (coded codes) start links page)
+Inv-loop codes pages start page₀ links₀ page links = (links ≤ pages) × (page < pages) × Leads (coded codes) start links page
 
 abbrev μ-loop : tie.MeasureT-loop
 μ-loop codes pages start page₀ links₀ page links = pages - links
 
 loop-holds : tie.Need-loop-holds Inv-loop μ-loop
-loop-holds c = (omega arith, c .pre .1 .0, left-at-start _ _ _)
+loop-holds c = (omega arith, c .pre .1 .0, here)
 
 cast-of-code : tie.Need-cast-of-code Inv-loop μ-loop
 cast-of-code c = omega arith
@@ -36,10 +37,10 @@ add-t15 : tie.Need-add-t15 Inv-loop μ-loop
 add-t15 c = omega arith
 
 returns : tie.Need-returns Inv-loop μ-loop
-unfolding coded
+unfolding follow coded
 returns c =
     let b = c .before .before .before .before in
-    sym (b .before .loop .inv .2 ∙ left-committed _ _ _ _ _ (b .loop-test .taken) (sym (c .before .before .of-code .ensures) ∙ c .enum-told .given .1))
+    sym (walk-ends (b .before .loop .inv .2) (b .loop-test .taken) (committed (sym (c .before .before .of-code .ensures) ∙ c .enum-told .given .1)))
 
 enum-told-2 : tie.Need-enum-told-2 Inv-loop μ-loop
 enum-told-2 c = search needs
@@ -48,10 +49,10 @@ add-t17 : tie.Need-add-t17 Inv-loop μ-loop
 add-t17 c = omega arith
 
 returns-2 : tie.Need-returns-2 Inv-loop μ-loop
-unfolding coded
+unfolding follow coded
 returns-2 c =
     let b = c .before .before .before .before in
-    sym (b .before .loop .inv .2 ∙ left-uncommitted _ _ _ _ _ (b .loop-test .taken) (sym (c .before .before .of-code .ensures) ∙ c .enum-told2 .given .1))
+    sym (walk-ends (b .before .loop .inv .2) (b .loop-test .taken) (uncommitted (sym (c .before .before .of-code .ensures) ∙ c .enum-told2 .given .1)))
 
 enum-known-next : tie.Need-enum-known-next Inv-loop μ-loop
 enum-known-next c = search needs
@@ -60,11 +61,12 @@ add-t20 : tie.Need-add-t20 Inv-loop μ-loop
 add-t20 c = omega arith
 
 returns-3 : tie.Need-returns-3 Inv-loop μ-loop
-unfolding coded
+unfolding follow coded
 returns-3 c =
     let n = c .before .before in
     let b = n .before .before .before .before in
-    sym (b .before .loop .inv .2 ∙ left-back _ _ _ _ _ _ (b .loop-test .taken) (sym (n .before .before .of-code .ensures) ∙ n .next .given .1) (c .if1 .taken))
+    let says-on = sym (n .before .before .of-code .ensures) ∙ n .next .given .1 ∙ ap says.On (c .if1 .taken) in
+    sym (walk-ends (b .before .loop .inv .2) (b .loop-test .taken) (back says-on))
 
 add-links : tie.Need-add-links Inv-loop μ-loop
 add-links c = omega arith
@@ -77,16 +79,18 @@ unfolding coded
 loop-again c =
     let n = c .before .before in
     let b = n .before .before .before .before in
-    let says = sym (n .before .before .of-code .ensures) ∙ n .next .given .1 in (
+    let says-on = sym (n .before .before .of-code .ensures) ∙ n .next .given .1 in (
       omega arith,
-      b .before .before .pre .1 .1 (b .before .loop .page) (n .next .given .0 .0) (b .before .loop .inv .1) says,
-      b .before .loop .inv .2 ∙ left-on _ _ _ _ _ _ (b .loop-test .taken) says (c .if1 .left),
+      b .before .before .pre .1 .1 (b .before .loop .page) (n .next .given .0 .0) (b .before .loop .inv .1) says-on,
+      as-many (onward (b .before .loop .inv .2) says-on (c .if1 .left)) (omega arith),
     )
 
 returns-4 : tie.Need-returns-4 Inv-loop μ-loop
+unfolding follow
 returns-4 c =
     let l = c .before .loop in
-    sym (l .inv .2 ∙ left-none _ _ _ _ _ (omega arith))
+    let e : c .before .before .args .pages ≡ l .links = omega arith in
+    rw e (sym (walk-astray (l .inv .2)))
 
 pub follow-from-spec : {M : Type 1} → statement M
 follow-from-spec =

@@ -25,7 +25,7 @@ use Rattle.follow.specs.declared.Verdict.the-variants as says
 use Rattle.follow.specs.declared.End.{End}
 use Rattle.follow.specs.declared.End.the-variants as ends
 use Rattle.rules.specs.Verdict.{isStraddled, linkVerdict, slotVerdict, verdict}
-use Rattle.follow.specs.FollowLaws.{RunsIntoRing, astray-exactly}
+use Rattle.follow.specs.Astray.{RunsIntoRing, astray-exactly}
 use Rattle.rules.specs.Recover.{walkOf, mentioned, usedOf, recovered, recoverAnswer, recoverOutcome}
 use Rattle.follow.specs.Follow.{isAstray}
 use Rattle.bounded.specs.Limits.{highestVersion}
