@@ -16,15 +16,16 @@ use Rattle.rules.specs.laws.Sizes.{Sizes, Fits, fits-facts}
 use Rattle.rules.specs.Format.{formatted, formatAnswer, formatOutcome}
 use Rattle.rules.specs.laws.Outcomes.{format-done}
 use Rattle.rules.specs.laws.Recover.{recover-fills}
-use Rattle.atomicity.specs.Call.{Call, withState, perform, plannedSteps}
+use Rattle.atomicity.specs.Call.{Call, withState, perform, plannedStages}
 use Rattle.atomicity.specs.Run.{Event, World, isRecover, stillLost, happens, started, after, keepsTo, keepsPremises}
 use Rattle.atomicity.specs.Model.{Told, Model, freshModel, accept, closeAll, learns}
 use Rattle.atomicity.specs.Promise.{toldOfCrash, told, modelAfter, Recovers, Premises, Promise3, OwnState}
+use Rattle.atomicity.specs.Stages.{answer-is, performs, refused-leaves}
 use Rattle.atomicity.specs.Invariant.{Lost, Holding, known, unknown}
 use Rattle.atomicity.specs.RecoverStep.{accepts, recovers, found-fits, found-again}
-use Rattle.atomicity.specs.CallStep.{answer-is, performs, refused-leaves, Known, accepted}
+use Rattle.atomicity.specs.CallStep.{Known, accepted}
 use Rattle.atomicity.specs.FormatStart.{formatted-fits, formatted-live}
-use Rattle.atomicity.specs.CrashStep.{Crashed, crashFlash, crash-known, crash-lost, crash-in, no-steps}
+use Rattle.atomicity.specs.CrashStep.{Crashed, crashFlash, crash-known, crash-lost, crash-in, no-stages}
 
 -- ---- what the model learns
 
@@ -87,18 +88,18 @@ module _ (w P S : ℕ) where
       (known (rw (k .1)) (k .0 .fits) (k .0 .live))
 
   lost-crashes :
-      (v : Volume) (m : Model) (call : Call) (done : ℕ → Bool)
+      (v : Volume) (m : Model) (call : Call) (stage : ℕ) (done : ℕ → Bool)
       → Sized w S (v .flash)
       → Lost w P S (v .flash) m
       → isRecover call ≡ true
-      → Crashed w P S (crashFlash w P S v call done) (learns m (toldOfCrash call (perform w P S v call .answer) done))
-  unfolding isRecover learns toldOfCrash plannedSteps
-  lost-crashes v m (Call.Launch pages) done size l e = absurd (never refl (sym e))
-  lost-crashes v m (Call.Write page slot bytes) done size l e = absurd (never refl (sym e))
-  lost-crashes v m (Call.Withdraw page) done size l e = absurd (never refl (sym e))
-  lost-crashes v m (Call.Erase slots) done size l e = absurd (never refl (sym e))
-  lost-crashes v m Call.Recover done size l e =
-      subst (λ (x : Flash). Crashed w P S x (closeAll m)) (sym (no-steps w P S v Call.Recover done refl)) (crash-lost w P S (v .flash) m (record { sized = size; lost = l }))
+      → Crashed w P S (crashFlash w P S v call stage done) (learns m (toldOfCrash call (perform w P S v call .answer) stage done))
+  unfolding isRecover learns toldOfCrash plannedStages
+  lost-crashes v m (Call.Launch pages) stage done size l e = absurd (never refl (sym e))
+  lost-crashes v m (Call.Write page slot bytes) stage done size l e = absurd (never refl (sym e))
+  lost-crashes v m (Call.Withdraw page) stage done size l e = absurd (never refl (sym e))
+  lost-crashes v m (Call.Erase slots) stage done size l e = absurd (never refl (sym e))
+  lost-crashes v m Call.Recover stage done size l e =
+      subst (λ (x : Flash). Crashed w P S x (closeAll m)) (sym (no-stages w P S v Call.Recover stage done refl)) (crash-lost w P S (v .flash) m (record { sized = size; lost = l }))
 
   -- a call that comes while the state is lost is a recover
   lost-recover : (lost : Bool) (call : Call) → lost ≡ true → cond lost (isRecover call) true ≡ true → isRecover call ≡ true
@@ -113,14 +114,14 @@ module _ (w P S : ℕ) where
   event-keeps x m (Event.Returns call) (unknown lost fits l) keeps =
       subst (λ (b : Bool). Holding w P S (record { volume = perform w P S (x .volume) call .left; lost = stillLost b call (perform w P S (x .volume) call .answer) }) (learns m (Told.Answered call (perform w P S (x .volume) call .answer)))) (sym lost)
       (lost-returns (x .volume) m call fits l (lost-recover (x .lost) call lost keeps))
-  event-keeps x m (Event.CrashIn call done state) (known found fits live) keeps =
-      crashed-holds (crashFlash w P S (x .volume) call done) state (learns m (toldOfCrash call (perform w P S (x .volume) call .answer) done)) (fits .sizes)
+  event-keeps x m (Event.CrashIn call stage done state) (known found fits live) keeps =
+      crashed-holds (crashFlash w P S (x .volume) call stage done) state (learns m (toldOfCrash call (perform w P S (x .volume) call .answer) stage done)) (fits .sizes)
       (eqb-true (length state) (4 * P) (both-right (cond (x .lost) (isRecover call) true) (eqb (length state) (4 * P)) keeps))
-      (crash-in w P S (x .volume) m call done (record { fits = fits; live = live }))
-  event-keeps x m (Event.CrashIn call done state) (unknown lost fits l) keeps =
-      crashed-holds (crashFlash w P S (x .volume) call done) state (learns m (toldOfCrash call (perform w P S (x .volume) call .answer) done)) (fits .sizes)
+      (crash-in w P S (x .volume) m call stage done (record { fits = fits; live = live }))
+  event-keeps x m (Event.CrashIn call stage done state) (unknown lost fits l) keeps =
+      crashed-holds (crashFlash w P S (x .volume) call stage done) state (learns m (toldOfCrash call (perform w P S (x .volume) call .answer) stage done)) (fits .sizes)
       (eqb-true (length state) (4 * P) (both-right (cond (x .lost) (isRecover call) true) (eqb (length state) (4 * P)) keeps))
-      (lost-crashes (x .volume) m call done (fits .flash-sized) l
+      (lost-crashes (x .volume) m call stage done (fits .flash-sized) l
       (lost-recover (x .lost) call lost (both-left (cond (x .lost) (isRecover call) true) (eqb (length state) (4 * P)) keeps)))
   event-keeps x m (Event.Crash state) (known found fits live) keeps =
       crashed-holds (x .volume .flash) state (closeAll m) (fits .sizes) (eqb-true (length state) (4 * P) keeps) (crash-known w P S (x .volume) m (record { fits = fits; live = live }))

@@ -36,14 +36,15 @@ perform w P S v (Withdraw page) = withState v (withdrawOutcome P S (v .state) pa
 perform w P S v (Erase slots) = withFlash v (eraseOutcome w P S v slots)
 perform w P S v Recover = withState v (recoverOutcome P S (v .flash .words) (v .state))
 
--- the single flash steps of the call, were it accepted
-unfoldable pub plannedSteps : Volume → Call → List Step
-plannedSteps v (Launch pages) = []
-plannedSteps v (Write page slot bytes) = writeStep (stateAt (v .state)) page slot bytes ∷ []
-plannedSteps v (Withdraw page) = []
-plannedSteps v (Erase slots) = eraseSteps slots
-plannedSteps v Recover = []
+-- What the call does to the flash, were it accepted: stages, one after the other, each of single steps. They are fixed before the call.
+-- A write is one stage with its one step, an erase one stage with a step for each listed slot; every other call alters no flash.
+unfoldable pub plannedStages : Volume → Call → List (List Step)
+plannedStages v (Launch pages) = []
+plannedStages v (Write page slot bytes) = (writeStep (stateAt (v .state)) page slot bytes ∷ []) ∷ []
+plannedStages v (Withdraw page) = []
+plannedStages v (Erase slots) = eraseSteps slots ∷ []
+plannedStages v Recover = []
 
--- the flash steps that the call does: none where it is refused
-unfoldable pub flashSteps : (w P S : ℕ) → Volume → Call → List Step
-flashSteps w P S v call = cond (eqb (perform w P S v call .answer) 0) (plannedSteps v call) []
+-- the stages that the call does: none where it is refused
+unfoldable pub flashStages : (w P S : ℕ) → Volume → Call → List (List Step)
+flashStages w P S v call = cond (eqb (perform w P S v call .answer) 0) (plannedStages v call) []

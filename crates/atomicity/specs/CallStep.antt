@@ -1,13 +1,13 @@
--- A call that returns keeps the invariant: refused it changes nothing, accepted it is its step.
+-- An accepted call keeps the invariant: it is its step.
 use Prim.Native.Nat.{ℕ, _≤_, _<_}
 use native.Mathlib.Omega.{arith}
-use mathlib.Core.Path.{_≡_, refl, sym, ap, subst}
+use mathlib.Core.Path.{_≡_, refl, sym, subst}
 use mathlib.Core.List.{List}
 use mathlib.Core.Bool.{true}
 use lib.ListN.{length}
 use Rattle.bounded.specs.Limits.{noNumber}
 use Rattle.bounded.specs.Choice.{never}
-use Rattle.outcome.specs.Outcome.{Outcome, settled-answer}
+use Rattle.outcome.specs.Outcome.{Outcome}
 use Rattle.record.specs.declared.Slot.{Slot}
 use Rattle.record.specs.declared.Slot.the-variants.{Blank, Holds}
 use Rattle.record.specs.Slot.{slotAt, isBlank}
@@ -19,16 +19,17 @@ use Rattle.state.specs.Change.{launched, withdrawn, afterWrite}
 use Rattle.state.specs.CycleLaws.{Flies}
 use Rattle.rules.specs.Volume.{Volume}
 use Rattle.rules.specs.laws.Sizes.{Fits}
-use Rattle.rules.specs.Launch.{launchAnswer, launchOutcome}
-use Rattle.rules.specs.Write.{planOf, writeAnswer, writeStep, writeChange, writeOutcome}
-use Rattle.rules.specs.Withdraw.{withdrawAnswer, withdrawOutcome}
-use Rattle.rules.specs.laws.Outcomes.{launch-refused, launch-done, write-refused, write-done, withdraw-refused, withdraw-done, erase-refused, erase-done}
-use Rattle.rules.specs.Erase.{eraseAnswer, eraseOutcome, eraseSteps}
-use Rattle.rules.specs.Recover.{recoverAnswer, recoverOutcome}
-use Rattle.rules.specs.laws.Recover.{recover-refused, recover-fills}
+use Rattle.rules.specs.Launch.{launchAnswer}
+use Rattle.rules.specs.Write.{planOf, writeAnswer, writeStep, writeChange}
+use Rattle.rules.specs.Withdraw.{withdrawAnswer}
+use Rattle.rules.specs.laws.Outcomes.{launch-done, write-done, withdraw-done, erase-done}
+use Rattle.rules.specs.Erase.{eraseAnswer, eraseSteps}
+use Rattle.rules.specs.Recover.{recoverAnswer}
+use Rattle.rules.specs.laws.Recover.{recover-fills}
 use Rattle.rules.specs.laws.Accepted.{launch-tests, withdraw-tests, write-tests, erase-tests}
 use Rattle.atomicity.specs.Call.{Call, withState, withFlash, perform}
 use Rattle.atomicity.specs.Model.{Model, accept, closeAll, enter}
+use Rattle.atomicity.specs.Stages.{answer-is}
 use Rattle.atomicity.specs.RingLaunch.{listed-some, listed-launchable}
 use Rattle.atomicity.specs.Invariant.{Live}
 use Rattle.atomicity.specs.StateWords.{live-words}
@@ -37,32 +38,6 @@ use Rattle.atomicity.specs.WithdrawStep.{withdrawn-live}
 use Rattle.atomicity.specs.EraseStep.{erasable-free, erased-sized, erased-live}
 use Rattle.atomicity.specs.RecoverStep.{accepts, found-fits, found-again}
 use Rattle.atomicity.specs.WriteStep.{written-live}
-
-module _ (w P S : ℕ) (v : Volume) where
-  -- a call's answer in a run is the call's own
-  unfoldable pub answer-is : (call : Call) → ℕ
-  answer-is (Call.Launch pages) = launchAnswer P S (v .state) pages
-  answer-is (Call.Write page slot bytes) = writeAnswer w P S v page slot bytes
-  answer-is (Call.Withdraw page) = withdrawAnswer P S (v .state) page
-  answer-is (Call.Erase slots) = eraseAnswer w P S v slots
-  answer-is Call.Recover = recoverAnswer P S (v .flash .words) (v .state)
-
-  pub performs : (call : Call) → perform w P S v call .answer ≡ answer-is call
-  unfolding perform withState withFlash answer-is launchOutcome writeOutcome withdrawOutcome eraseOutcome recoverOutcome
-  performs (Call.Launch pages) = settled-answer (launchAnswer P S (v .state) pages) _ _ _ _
-  performs (Call.Write page slot bytes) = settled-answer (writeAnswer w P S v page slot bytes) _ _ _ _
-  performs (Call.Withdraw page) = settled-answer (withdrawAnswer P S (v .state) page) _ _ _ _
-  performs (Call.Erase slots) = settled-answer (eraseAnswer w P S v slots) _ _ _ _
-  performs Call.Recover = settled-answer (recoverAnswer P S (v .flash .words) (v .state)) _ _ _ _
-
-  -- a refused call leaves the volume as it was
-  pub refused-leaves : (call : Call) → ¬ (answer-is call ≡ 0) → perform w P S v call .left ≡ v
-  unfolding perform withState withFlash answer-is
-  refused-leaves (Call.Launch pages) n = ap (λ (o : Outcome (List ℕ)). record { flash = v .flash; state = o .left }) (launch-refused P S (v .state) pages n)
-  refused-leaves (Call.Write page slot bytes) n = ap (λ (o : Outcome Volume). o .left) (write-refused w P S v page slot bytes n)
-  refused-leaves (Call.Withdraw page) n = ap (λ (o : Outcome (List ℕ)). record { flash = v .flash; state = o .left }) (withdraw-refused P S (v .state) page n)
-  refused-leaves (Call.Erase slots) n = ap (λ (o : Outcome Flash). record { flash = o .left; state = v .state }) (erase-refused w P S v slots n)
-  refused-leaves Call.Recover n = ap (λ (o : Outcome (List ℕ)). record { flash = v .flash; state = o .left }) (recover-refused P S (v .flash .words) (v .state) n)
 
 -- the invariant of a volume whose state is known
 pub record Known (w P S : ℕ) (v : Volume) (m : Model) : Type 0 where

@@ -2,6 +2,7 @@ pub mod Call
 pub mod Run
 pub mod Model
 pub mod Promise
+pub mod Stages
 pub mod Computing
 pub mod Runs
 pub mod Rings

@@ -33,11 +33,11 @@ pub record PremisesMet : Type 0 where
   pub recover : (w P S : ℕ) (v : Volume) (events : List Event) → Premises w P S v events → MayFollow w P S v events (Event.Returns Call.Recover)
   pub crashed-recover :
       (w P S : ℕ) (v : Volume) (events : List Event) → Premises w P S v events
-      → (done : ℕ → Bool) (state : List ℕ) → length state ≡ 4 * P → MayFollow w P S v events (Event.CrashIn Call.Recover done state)
+      → (stage : ℕ) (done : ℕ → Bool) (state : List ℕ) → length state ≡ 4 * P → MayFollow w P S v events (Event.CrashIn Call.Recover stage done state)
   pub call : (w P S : ℕ) (v : Volume) (events : List Event) → Premises w P S v events → StateKnown w P S v events → (c : Call) → MayFollow w P S v events (Event.Returns c)
   pub crashed-call :
       (w P S : ℕ) (v : Volume) (events : List Event) → Premises w P S v events → StateKnown w P S v events
-      → (c : Call) (done : ℕ → Bool) (state : List ℕ) → length state ≡ 4 * P → MayFollow w P S v events (Event.CrashIn c done state)
+      → (c : Call) (stage : ℕ) (done : ℕ → Bool) (state : List ℕ) → length state ≡ 4 * P → MayFollow w P S v events (Event.CrashIn c stage done state)
   -- and behind a recover the state is known
   pub recover-finds : (w P S : ℕ) (v : Volume) (events : List Event) → Premises w P S v events → StateKnown w P S v (events ++ Event.Returns Call.Recover ∷ [])
 
@@ -103,10 +103,10 @@ premises-met =
       calls = λ w P S v f list. record { formatted = formats w P S v f; keeps = calls-keep w P S (started w P S v) list refl };
       crash = λ w P S v events p state e. follows w P S v events (Event.Crash state) p (eq-eqb (length state) (4 * P) e);
       recover = λ w P S v events p. follows w P S v events (Event.Returns Call.Recover) p (recover-kept w P S (after w P S (started w P S v) events .lost));
-      crashed-recover = λ w P S v events p done state e. follows w P S v events (Event.CrashIn Call.Recover done state) p
+      crashed-recover = λ w P S v events p stage done state e. follows w P S v events (Event.CrashIn Call.Recover stage done state) p
           (both (recover-kept w P S (after w P S (started w P S v) events .lost)) (eq-eqb (length state) (4 * P) e));
       call = λ w P S v events p k c. follows w P S v events (Event.Returns c) p (call-kept w P S (after w P S (started w P S v) events .lost) c k);
-      crashed-call = λ w P S v events p k c done state e. follows w P S v events (Event.CrashIn c done state) p
+      crashed-call = λ w P S v events p k c stage done state e. follows w P S v events (Event.CrashIn c stage done state) p
           (both (call-kept w P S (after w P S (started w P S v) events .lost) c k) (eq-eqb (length state) (4 * P) e));
       recover-finds = λ w P S v events p. finds w P S v events p;
     }

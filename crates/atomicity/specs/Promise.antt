@@ -11,21 +11,21 @@ use Rattle.rules.specs.Format.{formatOutcome}
 use Rattle.rules.specs.Read.{readOutcome}
 use Rattle.rules.specs.Recover.{recoverOutcome}
 use Rattle.atomicity.specs.Call.{Call, perform}
-use Rattle.atomicity.specs.Run.{Event, World, happens, started, after, keepsPremises}
+use Rattle.atomicity.specs.Run.{Event, World, wasDone, happens, started, after, keepsPremises}
 use Rattle.atomicity.specs.Model.{Told, Model, freshModel, learns}
 
 -- what the model is told of a crash in a call: of a write, whether its slot was stored (it would be accepted, and its one step was done)
-unfoldable pub toldOfCrash : Call → (answer : ℕ) → (ℕ → Bool) → Told
-toldOfCrash (Call.Launch pages) answer done = Told.Crashed
-toldOfCrash (Call.Write page slot bytes) answer done = Told.CrashedWrite page bytes (eqb answer 0 && done 0)
-toldOfCrash (Call.Withdraw page) answer done = Told.Crashed
-toldOfCrash (Call.Erase slots) answer done = Told.Crashed
-toldOfCrash Call.Recover answer done = Told.Crashed
+unfoldable pub toldOfCrash : Call → (answer stage : ℕ) (done : ℕ → Bool) → Told
+toldOfCrash (Call.Launch pages) answer stage done = Told.Crashed
+toldOfCrash (Call.Write page slot bytes) answer stage done = Told.CrashedWrite page bytes (eqb answer 0 && wasDone stage done 0 0)
+toldOfCrash (Call.Withdraw page) answer stage done = Told.Crashed
+toldOfCrash (Call.Erase slots) answer stage done = Told.Crashed
+toldOfCrash Call.Recover answer stage done = Told.Crashed
 
 -- what the model is told of an event
 unfoldable pub told : (w P S : ℕ) → World → Event → Told
 told w P S x (Event.Returns call) = Told.Answered call (perform w P S (x .volume) call .answer)
-told w P S x (Event.CrashIn call done state) = toldOfCrash call (perform w P S (x .volume) call .answer) done
+told w P S x (Event.CrashIn call stage done state) = toldOfCrash call (perform w P S (x .volume) call .answer) stage done
 told w P S x (Event.Crash state) = Told.Crashed
 
 -- the model after a list of events

@@ -1,25 +1,35 @@
 -- Runs with crashes: document 01, "Runs, cuts and the ledger".
-use Prim.Native.Nat.{ℕ, suc, _*_}
-use mathlib.Core.List.{List, [], _∷_}
-use mathlib.Core.Bool.{Bool, true, false, cond, not, _&&_}
-use lib.Dec.{eqb}
+use Prim.Native.Nat.{ℕ, zero, suc, _*_}
+use mathlib.Core.List.{List, [], _∷_, _++_}
+use mathlib.Core.Bool.{Bool, true, false, cond, not, _&&_, _||_}
+use lib.Dec.{ltb, eqb}
 use lib.ListN.{length}
 use Rattle.record.specs.Flash.{Step, applyAll}
 use Rattle.rules.specs.Volume.{Volume}
 use Rattle.rules.specs.Format.{formatOutcome}
-use Rattle.atomicity.specs.Call.{Call, perform, flashSteps}
+use Rattle.atomicity.specs.Call.{Call, perform, flashStages}
 
--- "A cut falls between two calls or in one." A crash in a call carries one choice: for each flash step of the call, whether it was done.
--- After a crash "the sheet then holds any words".
+-- "A cut falls between two calls or in one." A crash in a call carries the number of the stage in which it fell and, for each step of that stage,
+-- whether it was done; a number past the call's last stage means that all were. After a crash "the sheet then holds any words".
 pub data Event : Type 0 where
   Returns : Call → Event
-  CrashIn : Call → (done : ℕ → Bool) → (state : List ℕ) → Event
+  CrashIn : Call → (stage : ℕ) (done : ℕ → Bool) → (state : List ℕ) → Event
   Crash : (state : List ℕ) → Event
 
 -- the steps of a list that were done; the first of them has number i
 unfoldable pub doneOf : (ℕ → Bool) → ℕ → List Step → List Step
 doneOf done i [] = []
 doneOf done i (s ∷ steps) = cond (done i) (s ∷ doneOf done (suc i) steps) (doneOf done (suc i) steps)
+
+-- The steps that a crash leaves done: the stages before its own whole, any part of its own, and nothing of those behind it.
+unfoldable pub cutShort : (stage : ℕ) (done : ℕ → Bool) → List (List Step) → List Step
+cutShort stage done [] = []
+cutShort zero done (first ∷ rest) = doneOf done 0 first
+cutShort (suc stage) done (first ∷ rest) = first ++ cutShort stage done rest
+
+-- step i of stage k was done: its stage is before the crash's, or is the crash's and the step is among those done
+unfoldable pub wasDone : (stage : ℕ) (done : ℕ → Bool) → (k i : ℕ) → Bool
+wasDone stage done k i = ltb k stage || (eqb k stage && done i)
 
 -- a volume, and whether its state is lost: there was a crash, and no recover has answered 0 since
 pub record World : Type 0 where
@@ -37,16 +47,16 @@ isRecover Call.Recover = true
 unfoldable pub stillLost : Bool → Call → ℕ → Bool
 stillLost lost call answer = lost && not (isRecover call && eqb answer 0)
 
--- One event. A crash has one clause for the flash: those of the call's steps that were done. "A cut write leaves its slot as it was, or stored
+-- One event. A crash has one clause for the flash, whatever the call: its stages, cut short. "A cut write leaves its slot as it was, or stored
 -- whole, words and bytes. A cut erasure leaves each listed slot as it was or blanked, in any mixture. A cut launch, withdrawal or recovery, or a
 -- cut call that would be refused, leaves the flash as it was. No other slot changes."
 unfoldable pub happens : (w P S : ℕ) → World → Event → World
 happens w P S x (Event.Returns call) =
     let o = perform w P S (x .volume) call in
     record { volume = o .left; lost = stillLost (x .lost) call (o .answer) }
-happens w P S x (Event.CrashIn call done state) =
+happens w P S x (Event.CrashIn call stage done state) =
     record {
-      volume = record { flash = applyAll w (x .volume .flash) (doneOf done 0 (flashSteps w P S (x .volume) call)); state = state };
+      volume = record { flash = applyAll w (x .volume .flash) (cutShort stage done (flashStages w P S (x .volume) call)); state = state };
       lost = true;
     }
 happens w P S x (Event.Crash state) = record { volume = record { flash = x .volume .flash; state = state }; lost = true }
@@ -64,7 +74,7 @@ after w P S x (e ∷ events) = after w P S (happens w P S x e) events
 -- "no call but recover follows until one has answered 0" after a crash; and the state, after a crash, "holds any words", as many as before, 4×P.
 unfoldable pub keepsTo : ℕ → World → Event → Bool
 keepsTo P x (Event.Returns call) = cond (x .lost) (isRecover call) true
-keepsTo P x (Event.CrashIn call done state) = cond (x .lost) (isRecover call) true && eqb (length state) (4 * P)
+keepsTo P x (Event.CrashIn call stage done state) = cond (x .lost) (isRecover call) true && eqb (length state) (4 * P)
 keepsTo P x (Event.Crash state) = eqb (length state) (4 * P)
 
 unfoldable pub keepsPremises : (w P S : ℕ) → World → List Event → Bool

@@ -1,4 +1,4 @@
--- Runs that meet the premises, computed: two end in contents that are not the formatted zeros; in the third a ring that a recover closed stays closed.
+-- Runs that meet the premises, computed: three end in contents that are not the formatted zeros; in the fourth a ring that a recover closed stays closed.
 use Prim.Native.Nat.{ℕ}
 use mathlib.Core.Path.{_≡_, refl}
 use mathlib.Core.List.{List, [], _∷_}
@@ -34,9 +34,9 @@ runCompleted =
     Event.Returns (Call.Launch (7 ∷ []))
     ∷ Event.Returns (Call.Launch (0 ∷ 1 ∷ []))
     ∷ Event.Returns (Call.Write 0 2 (5 ∷ []))
-    ∷ Event.CrashIn (Call.Write 1 3 (6 ∷ [])) every lostState
+    ∷ Event.CrashIn (Call.Write 1 3 (6 ∷ [])) 0 every lostState
     ∷ Event.Crash lostState
-    ∷ Event.CrashIn Call.Recover none lostState
+    ∷ Event.CrashIn Call.Recover 0 none lostState
     ∷ Event.Returns Call.Recover
     ∷ []
 
@@ -48,15 +48,23 @@ runErased =
     ∷ Event.Returns (Call.Write 0 2 (5 ∷ []))
     ∷ Event.Returns (Call.Launch (0 ∷ []))
     ∷ Event.Returns (Call.Write 0 3 (6 ∷ []))
-    ∷ Event.CrashIn (Call.Erase (0 ∷ 2 ∷ [])) (eqb 1) lostState
+    ∷ Event.CrashIn (Call.Erase (0 ∷ 2 ∷ [])) 0 (eqb 1) lostState
     ∷ Event.Returns Call.Recover
     ∷ Event.Returns (Call.Launch (1 ∷ []))
-    ∷ Event.CrashIn (Call.Write 1 3 (8 ∷ [])) every lostState
+    ∷ Event.CrashIn (Call.Write 1 3 (8 ∷ [])) 0 every lostState
     ∷ Event.Returns Call.Recover
     ∷ Event.Returns (Call.Launch (1 ∷ []))
     ∷ Event.Returns (Call.Withdraw 1)
     ∷ Event.Returns (Call.Launch (1 ∷ []))
-    ∷ Event.CrashIn (Call.Write 1 4 (8 ∷ [])) none lostState
+    ∷ Event.CrashIn (Call.Write 1 4 (8 ∷ [])) 0 none lostState
+    ∷ Event.Returns Call.Recover
+    ∷ []
+
+-- a write that a crash finds past its last stage: stored, whatever is said of the steps
+unfoldable pub runPast : List Event
+runPast =
+    Event.Returns (Call.Launch (0 ∷ []))
+    ∷ Event.CrashIn (Call.Write 0 2 (5 ∷ [])) 1 none lostState
     ∷ Event.Returns Call.Recover
     ∷ []
 
@@ -84,11 +92,13 @@ pub record RunsComputed : Type 0 where
   pub erased-meets : Premises 1 2 5 blankBuffers runErased
   pub erased-keeps : keptAfter runErased ≡ (6 ∷ []) ∷ (0 ∷ []) ∷ []
   pub erased-leaves : wordsAfter runErased ≡ tableOf 5 (given 0 0 0 0 0 ∷ given 1 0 0 1 0 ∷ blankRecord ∷ given 0 2 1 0 2 ∷ [])
+  pub past-meets : Premises 1 2 5 blankBuffers runPast
+  pub past-keeps : keptAfter runPast ≡ (5 ∷ []) ∷ (0 ∷ []) ∷ []
   pub closed-meets : Premises 1 2 5 blankBuffers runClosed
   pub closed-keeps : keptAfter runClosed ≡ (0 ∷ []) ∷ (0 ∷ []) ∷ []
 
 pub runs-computed : RunsComputed
-unfolding keptAfter wordsAfter blankBuffers runCompleted runErased runClosed lostState every none computing
+unfolding keptAfter wordsAfter blankBuffers runCompleted runErased runPast runClosed lostState every none computing
 runs-computed =
     record {
       completed-meets = record { formatted = refl; keeps = refl };
@@ -96,6 +106,8 @@ runs-computed =
       erased-meets = record { formatted = refl; keeps = refl };
       erased-keeps = refl;
       erased-leaves = refl;
+      past-meets = record { formatted = refl; keeps = refl };
+      past-keeps = refl;
       closed-meets = record { formatted = refl; keeps = refl };
       closed-keeps = refl;
     }

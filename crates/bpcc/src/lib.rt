@@ -19,6 +19,7 @@ ghost use Rattle.rules.specs.cases.Star.{starTable};
 ghost use Rattle.atomicity.specs.Promise.{Promise3, OwnState};
 ghost use Rattle.atomicity.specs.NotEmpty.{PremisesMet};
 ghost use Rattle.atomicity.specs.StateAgrees.{StatesAgree};
+ghost use Rattle.atomicity.specs.Stages.{StagesInOrder};
 ghost use Rattle.atomicity.specs.Runs.{RunsComputed};
 
 // Format a volume.
@@ -134,11 +135,13 @@ pub fn star_cases()
 {}
 
 // Promise 3, whole: one theorem over all lists of calls and crashes; that it holds of the volume's own state; the paper's two invariants; that its
-// premises are met by every volume that formats, and what may follow a list; and two runs, computed.
+// premises are met by every volume that formats, and what may follow a list; what ties a call's stages to what it leaves and to a crash in it; and four
+// runs, computed.
 pub fn promise_3()
     ensures whole { λ _. ⌜ Promise3 ⌝ }
     ensures own { λ _. ⌜ OwnState ⌝ }
     ensures invariants { λ _. ⌜ StatesAgree ⌝ }
     ensures premises { λ _. ⌜ PremisesMet ⌝ }
+    ensures stages { λ _. ⌜ StagesInOrder ⌝ }
     ensures runs { λ _. ⌜ RunsComputed ⌝ }
 {}

@@ -3,11 +3,12 @@ use Rattle.atomicity.specs.Runs.{runs-computed}
 use Rattle.atomicity.specs.Atomicity.{promise-3, own-state}
 use Rattle.atomicity.specs.NotEmpty.{premises-met}
 use Rattle.atomicity.specs.StateAgrees.{state-agrees}
+use Rattle.atomicity.specs.Stages.{stages-in-order}
 use Rattle.bpcc.proofs.promise_3.Statement.{statement}
 use Rattle.bpcc.proofs.promise_3.Tie as tie
 
 returns : tie.Need-returns
-returns c = (promise-3, (own-state, (state-agrees, (premises-met, runs-computed))))
+returns c = (promise-3, (own-state, (state-agrees, (premises-met, (stages-in-order, runs-computed)))))
 
 pub promise-3-spec : {M : Type 1} → statement M
 promise-3-spec = tie.close (tie.spec returns)

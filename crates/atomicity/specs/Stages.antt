@@ -1,0 +1,163 @@
+-- Stages: a call that returns has done all of its own, and a crash leaves done every stage before its own, a part of that one and nothing behind it.
+use Prim.Native.Nat.{ℕ, zero, suc, _+_, _≤_, _<_}
+use native.Mathlib.Omega.{arith}
+use mathlib.Core.Path.{_≡_, refl, sym, ap, ap₂, _∙_, fun-ext}
+use mathlib.Core.List.{List, [], _∷_, _++_, append-nil, flatten}
+use mathlib.Core.Bool.{Bool, true, false, _&&_}
+use lib.Dec.{eqb}
+use lib.ListN.{length}
+use borrow.Author.Tests.{eq-eqb, ne-eqb, lt-ltb, le-ltb}
+use Rattle.bounded.specs.Choice.{on-eq, on-lt, never, either-left}
+use Rattle.outcome.specs.Outcome.{Outcome, settled-answer}
+use Rattle.record.specs.Flash.{Flash, Step, applyAll}
+use Rattle.rules.specs.Volume.{Volume}
+use Rattle.rules.specs.Launch.{launchAnswer, launchOutcome}
+use Rattle.rules.specs.Write.{writeAnswer, writeChange, writeOutcome}
+use Rattle.rules.specs.Withdraw.{withdrawAnswer, withdrawOutcome}
+use Rattle.rules.specs.Erase.{eraseAnswer, eraseSteps, eraseOutcome}
+use Rattle.rules.specs.Recover.{recoverAnswer, recoverOutcome}
+use Rattle.rules.specs.laws.Outcomes.{launch-refused, write-refused, write-done, withdraw-refused, erase-refused, erase-done}
+use Rattle.rules.specs.laws.Recover.{recover-refused}
+use Rattle.atomicity.specs.Call.{Call, withState, withFlash, perform, plannedStages, flashStages}
+use Rattle.atomicity.specs.Run.{doneOf, cutShort, wasDone}
+
+-- the steps of which the test says that they were done, by the numbers of stage and step; the first of the stages has number k
+unfoldable pub doneIn : (ℕ → ℕ → Bool) → ℕ → List (List Step) → List Step
+doneIn test k [] = []
+doneIn test k (first ∷ rest) = doneOf (test k) 0 first ++ doneIn test (suc k) rest
+
+-- What ties a call's stages to what it leaves, and a crash to the stages.
+pub record StagesInOrder : Type 0 where
+  -- a call that returns leaves the flash that all its stages leave, done one after the other
+  pub performed : (w P S : ℕ) (v : Volume) (call : Call) → perform w P S v call .left .flash ≡ applyAll w (v .flash) (flatten (flashStages w P S v call))
+  -- a crash past the last stage leaves all done
+  pub past-last : (stage : ℕ) (done : ℕ → Bool) (stages : List (List Step)) → length stages ≤ stage → cutShort stage done stages ≡ flatten stages
+  -- any crash leaves done exactly the steps that `wasDone` names
+  pub exactly : (stage : ℕ) (done : ℕ → Bool) (stages : List (List Step)) → cutShort stage done stages ≡ doneIn (wasDone stage done) 0 stages
+  -- where a step of a stage was done, every step of each stage before it was
+  pub in-order : (stage : ℕ) (done : ℕ → Bool) (k i j n : ℕ) → wasDone stage done k i ≡ true → j < k → wasDone stage done j n ≡ true
+
+-- ---- a call in a run
+
+module _ (w P S : ℕ) (v : Volume) where
+  -- a call's answer in a run is the call's own
+  unfoldable pub answer-is : (call : Call) → ℕ
+  answer-is (Call.Launch pages) = launchAnswer P S (v .state) pages
+  answer-is (Call.Write page slot bytes) = writeAnswer w P S v page slot bytes
+  answer-is (Call.Withdraw page) = withdrawAnswer P S (v .state) page
+  answer-is (Call.Erase slots) = eraseAnswer w P S v slots
+  answer-is Call.Recover = recoverAnswer P S (v .flash .words) (v .state)
+
+  pub performs : (call : Call) → perform w P S v call .answer ≡ answer-is call
+  unfolding perform withState withFlash answer-is launchOutcome writeOutcome withdrawOutcome eraseOutcome recoverOutcome
+  performs (Call.Launch pages) = settled-answer (launchAnswer P S (v .state) pages) _ _ _ _
+  performs (Call.Write page slot bytes) = settled-answer (writeAnswer w P S v page slot bytes) _ _ _ _
+  performs (Call.Withdraw page) = settled-answer (withdrawAnswer P S (v .state) page) _ _ _ _
+  performs (Call.Erase slots) = settled-answer (eraseAnswer w P S v slots) _ _ _ _
+  performs Call.Recover = settled-answer (recoverAnswer P S (v .flash .words) (v .state)) _ _ _ _
+
+  -- a refused call leaves the volume as it was
+  pub refused-leaves : (call : Call) → ¬ (answer-is call ≡ 0) → perform w P S v call .left ≡ v
+  unfolding perform withState withFlash answer-is
+  refused-leaves (Call.Launch pages) n = ap (λ (o : Outcome (List ℕ)). record { flash = v .flash; state = o .left }) (launch-refused P S (v .state) pages n)
+  refused-leaves (Call.Write page slot bytes) n = ap (λ (o : Outcome Volume). o .left) (write-refused w P S v page slot bytes n)
+  refused-leaves (Call.Withdraw page) n = ap (λ (o : Outcome (List ℕ)). record { flash = v .flash; state = o .left }) (withdraw-refused P S (v .state) page n)
+  refused-leaves (Call.Erase slots) n = ap (λ (o : Outcome Flash). record { flash = o .left; state = v .state }) (erase-refused w P S v slots n)
+  refused-leaves Call.Recover n = ap (λ (o : Outcome (List ℕ)). record { flash = v .flash; state = o .left }) (recover-refused P S (v .flash .words) (v .state) n)
+
+  -- it has no stages, and an accepted one those planned
+  pub refused-stages : (call : Call) → ¬ (answer-is call ≡ 0) → flashStages w P S v call ≡ []
+  unfolding flashStages
+  refused-stages call n = rw (ne-eqb (perform w P S v call .answer) 0 (λ e. n (sym (performs call) ∙ e)))
+
+  pub accepted-stages : (call : Call) → answer-is call ≡ 0 → flashStages w P S v call ≡ plannedStages v call
+  unfolding flashStages
+  accepted-stages call e = rw (eq-eqb (perform w P S v call .answer) 0 (performs call ∙ e))
+
+  -- the flash that an accepted call leaves
+  planned-left : (call : Call) → answer-is call ≡ 0 → perform w P S v call .left .flash ≡ applyAll w (v .flash) (flatten (plannedStages v call))
+  unfolding perform withState withFlash answer-is plannedStages flatten applyAll writeChange
+  planned-left (Call.Launch pages) e = refl
+  planned-left (Call.Write page slot bytes) e = ap (λ (o : Outcome Volume). o .left .flash) (write-done w P S v page slot bytes e)
+  planned-left (Call.Withdraw page) e = refl
+  planned-left (Call.Erase slots) e = ap (λ (o : Outcome Flash). o .left) (erase-done w P S v slots e) ∙ ap (applyAll w (v .flash)) (sym (append-nil (eraseSteps slots)))
+  planned-left Call.Recover e = refl
+
+  pub performs-stages : (call : Call) → perform w P S v call .left .flash ≡ applyAll w (v .flash) (flatten (flashStages w P S v call))
+  unfolding flatten applyAll
+  performs-stages call =
+      on-eq (answer-is call) 0
+      (λ e. planned-left call e ∙ ap (λ (l : List (List Step)). applyAll w (v .flash) (flatten l)) (sym (accepted-stages call e)))
+      (λ n. ap (λ (x : Volume). x .flash) (refused-leaves call n) ∙ ap (λ (l : List (List Step)). applyAll w (v .flash) (flatten l)) (sym (refused-stages call n)))
+
+-- ---- steps done
+
+done-all : (i : ℕ) (steps : List Step) → doneOf (λ i. true) i steps ≡ steps
+unfolding doneOf
+done-all i [] = refl
+done-all i (s ∷ steps) = ap (λ (l : List Step). s ∷ l) (done-all (suc i) steps)
+
+done-none : (i : ℕ) (steps : List Step) → doneOf (λ i. false) i steps ≡ []
+unfolding doneOf
+done-none i [] = refl
+done-none i (s ∷ steps) = done-none (suc i) steps
+
+-- ---- stages cut short
+
+module _ (stage : ℕ) (done : ℕ → Bool) where
+  -- of a stage before the crash's, of the crash's, and of one behind it
+  done-before : (k : ℕ) → k < stage → wasDone stage done k ≡ (λ i. true)
+  unfolding wasDone
+  done-before k h = fun-ext (λ i. either-left (eqb k stage && done i) (lt-ltb k stage h))
+
+  done-here : (k : ℕ) → k ≡ stage → wasDone stage done k ≡ done
+  unfolding wasDone
+  done-here k e = fun-ext (λ i. rw (le-ltb k stage (omega arith), eq-eqb k stage e))
+
+  done-behind : (k : ℕ) → stage < k → wasDone stage done k ≡ (λ i. false)
+  unfolding wasDone
+  done-behind k h = fun-ext (λ i. rw (le-ltb k stage (omega arith), ne-eqb k stage (λ e. omega arith)))
+
+  none-behind : (k : ℕ) (stages : List (List Step)) → stage < k → doneIn (wasDone stage done) k stages ≡ []
+  unfolding doneIn
+  none-behind k [] h = refl
+  none-behind k (first ∷ rest) h =
+      ap₂ {C = List Step} _++_ (ap (λ (f : ℕ → Bool). doneOf f 0 first) (done-behind k h) ∙ done-none 0 first) (none-behind (suc k) rest (omega arith))
+
+  -- from stage k on, the crash being n stages further
+  exactly-from : (n k : ℕ) (stages : List (List Step)) → k + n ≡ stage → cutShort n done stages ≡ doneIn (wasDone stage done) k stages
+  unfolding cutShort doneIn
+  exactly-from n k [] e = refl
+  exactly-from zero k (first ∷ rest) e =
+      sym (ap₂ {C = List Step} _++_ (ap (λ (f : ℕ → Bool). doneOf f 0 first) (done-here k (omega arith))) (none-behind (suc k) rest (omega arith)) ∙ append-nil (doneOf done 0 first))
+  exactly-from (suc n) k (first ∷ rest) e =
+      sym (ap₂ {C = List Step} _++_ (ap (λ (f : ℕ → Bool). doneOf f 0 first) (done-before k (omega arith)) ∙ done-all 0 first) (sym (exactly-from n (suc k) rest (omega arith))))
+
+  cut-exactly : (stages : List (List Step)) → cutShort stage done stages ≡ doneIn (wasDone stage done) 0 stages
+  cut-exactly stages = exactly-from stage 0 stages (omega arith)
+
+  -- of one stage alone
+  pub cut-one : (steps : List Step) → cutShort stage done (steps ∷ []) ≡ doneOf (wasDone stage done 0) 0 steps
+  unfolding doneIn
+  cut-one steps = cut-exactly (steps ∷ []) ∙ append-nil (doneOf (wasDone stage done 0) 0 steps)
+
+  cut-in-order : (k i j n : ℕ) → wasDone stage done k i ≡ true → j < k → wasDone stage done j n ≡ true
+  cut-in-order k i j n e h =
+      on-lt stage k
+      (λ l. absurd (never e (ap (λ (f : ℕ → Bool). f i) (done-behind k l))))
+      (λ l. ap (λ (f : ℕ → Bool). f n) (done-before j (omega arith)))
+
+cut-past-last : (stage : ℕ) (done : ℕ → Bool) (stages : List (List Step)) → length stages ≤ stage → cutShort stage done stages ≡ flatten stages
+unfolding cutShort flatten
+cut-past-last stage done [] h = refl
+cut-past-last zero done (first ∷ rest) h = absurd (omega arith)
+cut-past-last (suc stage) done (first ∷ rest) h = ap (λ (l : List Step). first ++ l) (cut-past-last stage done rest (omega arith))
+
+pub stages-in-order : StagesInOrder
+stages-in-order =
+    record {
+      performed = performs-stages;
+      past-last = cut-past-last;
+      exactly = cut-exactly;
+      in-order = cut-in-order;
+    }
