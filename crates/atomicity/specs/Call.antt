@@ -1,4 +1,4 @@
--- A call of a run with its arguments, and what it gives and leaves: by the outcome definitions that the calls' contracts cite.
+-- A call of a run with its arguments; what it gives and leaves, by the outcome definitions that the calls' contracts cite; and its stages on the flash.
 use Prim.Native.Nat.{ℕ}
 use mathlib.Core.List.{List, [], _∷_}
 use mathlib.Core.Bool.{cond}

@@ -25,9 +25,9 @@ pub record Model : Type 0 where
 unfoldable pub freshModel : ℕ → Model
 freshModel w = record { kept = λ p. replicate w 0; rings = [] }
 
-unfoldable pub pageOf : Entry → ℕ
-pageOf (Empty page) = page
-pageOf (Entered page bytes) = page
+unfoldable pub entryPage : Entry → ℕ
+entryPage (Empty page) = page
+entryPage (Entered page bytes) = page
 
 unfoldable pub hasBytes : Entry → Bool
 hasBytes (Empty page) = false
@@ -36,7 +36,7 @@ hasBytes (Entered page bytes) = true
 -- the page stands in the ring
 unfoldable pub inRing : ℕ → List Entry → Bool
 inRing page [] = false
-inRing page (e ∷ ring) = eqb (pageOf e) page || inRing page ring
+inRing page (e ∷ ring) = eqb (entryPage e) page || inRing page ring
 
 -- "all pages of that ring now have bytes"
 unfoldable pub allEntered : List Entry → Bool
@@ -51,7 +51,7 @@ newRing (p ∷ pages) = Empty p ∷ newRing pages
 -- the ring with the bytes entered for the page
 unfoldable pub enterIn : ℕ → List ℕ → List Entry → List Entry
 enterIn page bytes [] = []
-enterIn page bytes (e ∷ ring) = cond (eqb (pageOf e) page) (Entered page bytes) e ∷ enterIn page bytes ring
+enterIn page bytes (e ∷ ring) = cond (eqb (entryPage e) page) (Entered page bytes) e ∷ enterIn page bytes ring
 
 -- "they become the kept contents of its pages"
 unfoldable pub keep : List Entry → (ℕ → List ℕ) → ℕ → List ℕ

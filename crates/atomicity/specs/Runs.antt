@@ -1,6 +1,6 @@
 -- Runs that meet the premises, computed: three end in contents that are not the formatted zeros; in the fourth a ring that a recover closed stays closed.
 use Prim.Native.Nat.{ℕ}
-use mathlib.Core.Path.{_≡_, refl}
+use mathlib.Core.Path.{_≡_}
 use mathlib.Core.List.{List, [], _∷_}
 use mathlib.Core.Bool.{Bool, true, false}
 use lib.Dec.{eqb}
@@ -12,7 +12,6 @@ use Rattle.atomicity.specs.Call.{Call}
 use Rattle.atomicity.specs.Run.{Event, started, after}
 use Rattle.atomicity.specs.Model.{freshModel}
 use Rattle.atomicity.specs.Promise.{Premises, modelAfter}
-use Rattle.atomicity.specs.Computing.{computing}
 
 -- buffers for 2 pages and 5 slots of 1 byte
 unfoldable pub blankBuffers : Volume
@@ -96,18 +95,3 @@ pub record RunsComputed : Type 0 where
   pub past-keeps : keptAfter runPast ≡ (5 ∷ []) ∷ (0 ∷ []) ∷ []
   pub closed-meets : Premises 1 2 5 blankBuffers runClosed
   pub closed-keeps : keptAfter runClosed ≡ (0 ∷ []) ∷ (0 ∷ []) ∷ []
-
-pub runs-computed : RunsComputed
-unfolding keptAfter wordsAfter blankBuffers runCompleted runErased runPast runClosed lostState every none computing
-runs-computed =
-    record {
-      completed-meets = record { formatted = refl; keeps = refl };
-      completed-keeps = refl;
-      erased-meets = record { formatted = refl; keeps = refl };
-      erased-keeps = refl;
-      erased-leaves = refl;
-      past-meets = record { formatted = refl; keeps = refl };
-      past-keeps = refl;
-      closed-meets = record { formatted = refl; keeps = refl };
-      closed-keeps = refl;
-    }

@@ -1,1 +1,1 @@
-// No code: the ★ cases as one table (specs/).
+// No code: promise 3, stated and proved (specs/).

@@ -17,9 +17,7 @@ ghost use Rattle.rules.specs.Suggest.{SuggestOutcome};
 ghost use Rattle.rules.specs.Recover.{recoverOutcome};
 ghost use Rattle.rules.specs.cases.Star.{starTable};
 ghost use Rattle.atomicity.specs.Promise.{Promise3, OwnState};
-ghost use Rattle.atomicity.specs.NotEmpty.{PremisesMet};
-ghost use Rattle.atomicity.specs.StateAgrees.{StatesAgree};
-ghost use Rattle.atomicity.specs.Stages.{StagesInOrder};
+ghost use Rattle.atomicity.specs.Companions.{StatesAgree, PremisesMet, StagesInOrder};
 ghost use Rattle.atomicity.specs.Runs.{RunsComputed};
 
 // Format a volume.

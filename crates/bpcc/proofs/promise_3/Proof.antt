@@ -1,9 +1,9 @@
 -- `bpcc::promise_3` meets its contract: the theorems are cited. Assumes nothing.
-use Rattle.atomicity.specs.Runs.{runs-computed}
-use Rattle.atomicity.specs.Atomicity.{promise-3, own-state}
-use Rattle.atomicity.specs.NotEmpty.{premises-met}
-use Rattle.atomicity.specs.StateAgrees.{state-agrees}
-use Rattle.atomicity.specs.Stages.{stages-in-order}
+use Rattle.atomicity.specs.theorems.Promise.{promise-3, own-state}
+use Rattle.atomicity.specs.theorems.StatesAgree.{state-agrees}
+use Rattle.atomicity.specs.theorems.PremisesMet.{premises-met}
+use Rattle.atomicity.specs.theorems.StagesInOrder.{stages-in-order}
+use Rattle.atomicity.specs.theorems.RunsComputed.{runs-computed}
 use Rattle.bpcc.proofs.promise_3.Statement.{statement}
 use Rattle.bpcc.proofs.promise_3.Tie as tie
 

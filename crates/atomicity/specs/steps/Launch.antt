@@ -4,24 +4,69 @@ use native.Mathlib.Omega.{arith}
 use mathlib.Core.Path.{_≡_, refl, sym, ap, _∙_, subst}
 use mathlib.Core.List.{List, [], _∷_, _++_}
 use mathlib.Core.Logic.{inl, inr}
-use mathlib.Core.Bool.{true}
+use mathlib.Core.Bool.{true, false, not, _&&_}
+use lib.Dec.{ltb, leb, eqb}
 use lib.ListN.{length, getD}
-use Rattle.bounded.specs.Limits.{noNumber}
-use Rattle.bounded.specs.Choice.{never}
+use borrow.Author.Tests.{ltb-true, leb-true, eqb-false, not-true}
+use Rattle.bounded.specs.Limits.{noNumber, highestVersion}
+use Rattle.bounded.specs.Choice.{never, both-left, both-right}
+use Rattle.bounded.specs.Below.{allBelow}
+use Rattle.bounded.specs.BelowLaws.{all-at, some-not-at}
 use Rattle.record.specs.Flash.{Flash}
 use Rattle.state.specs.declared.PageState.{PageState}
 use Rattle.state.specs.State.{inFlight, isWritten}
+use Rattle.state.specs.StateLaws.{StateFacts}
 use Rattle.state.specs.Change.{following, launchedPage, launched}
 use Rattle.state.specs.Walk.{Launchable}
 use Rattle.state.specs.LaunchLaws.{launched-sound}
+use Rattle.rules.specs.Volume.{noRepeats, inRange, listOk}
+use Rattle.rules.specs.Launch.{somePage, usedUp}
 use Rattle.protocol.specs.View.{recordView}
 use Rattle.protocol.specs.SameSet.{core-same, StateChanges, live-changes}
 use Rattle.atomicity.specs.Call.{Call}
 use Rattle.atomicity.specs.Model.{Model, newRing, accept}
-use Rattle.atomicity.specs.Rings.{IsEntered}
-use Rattle.atomicity.specs.RingCycle.{entered-flies}
-use Rattle.atomicity.specs.RingLaunch.{launched-listed, launched-cases, launched-flying, launch-match, launch-entered}
-use Rattle.atomicity.specs.Invariant.{Live}
+use Rattle.atomicity.specs.rings.Match.{IsEntered}
+use Rattle.atomicity.specs.rings.Cycle.{entered-flies}
+use Rattle.atomicity.specs.rings.Launch.{launched-listed, launched-cases, launched-flying, launch-match, launch-entered}
+use Rattle.atomicity.specs.steps.Invariant.{Live}
+
+-- ---- a launch that is accepted
+
+pub listed-some : (P : ℕ) (pages : List ℕ) → listOk P pages ≡ true → 1 ≤ length pages
+unfolding listOk
+listed-some P pages e = leb-true 1 (length pages) (both-left (leb 1 (length pages)) (inRange P pages && noRepeats pages) e)
+
+-- what the tests of the launch say of the listed pages
+pub listed-launchable :
+    (P : ℕ) (st : ℕ → PageState) (pages : List ℕ)
+    → StateFacts P st
+    → listOk P pages ≡ true
+    → somePage pages st inFlight ≡ false
+    → somePage pages st usedUp ≡ false
+    → Launchable P st pages
+unfolding listOk inRange noRepeats somePage usedUp
+listed-launchable P st pages sound ok rest left = record {
+  in-range = within;
+  no-repeats = λ i j l m. eqb-false (page i) (page j) (not-true (eqb (page i) (page j)) (all-at (λ k. not (eqb (page k) (page j))) j i (all-at (λ k. allBelow k (λ n. not (eqb (page n) (page k)))) (length pages) j unlike m) l));
+  resting = λ i l. some-not-at (λ k. inFlight (st (page k))) (length pages) i rest l;
+  version-left = λ i l. let h = sound .page (page i) (within i l) .used-highest in
+      let n = eqb-false (st (page i) .used) highestVersion (some-not-at (λ k. eqb (st (page k) .used) highestVersion) (length pages) i left l) in
+      omega arith;
+}
+  where
+    page : ℕ → ℕ
+    page i = getD pages i 0
+
+    lists : (inRange P pages && noRepeats pages) ≡ true
+    lists = both-right (leb 1 (length pages)) (inRange P pages && noRepeats pages) ok
+
+    unlike : noRepeats pages ≡ true
+    unlike = both-right (inRange P pages) (noRepeats pages) lists
+
+    within : (i : ℕ) → i < length pages → page i < P
+    within i l = ltb-true (page i) P (all-at (λ k. ltb (page k) P) (length pages) i (both-left (inRange P pages) (noRepeats pages) lists) l)
+
+-- ---- the step
 
 module _ (w P S : ℕ) (fits : P ≤ noNumber) (f : Flash) (st : ℕ → PageState) (m : Model) (l : Live w P S f st m)
     (pages : List ℕ) (some : 1 ≤ length pages) (ok : Launchable P st pages) where

@@ -19,10 +19,10 @@ use Rattle.protocol.specs.View.{NoTwins, finds-in-slots}
 use Rattle.protocol.specs.Permitted.{may-erase-permitted}
 use Rattle.protocol.specs.Fewer.{Erased}
 use Rattle.atomicity.specs.Run.{doneOf}
-use Rattle.atomicity.specs.Invariant.{Held}
+use Rattle.atomicity.specs.steps.Invariant.{Held}
 
 -- a number stands in a list, or not
-pub listed? : (k : ℕ) (l : List ℕ) → List·Memᴰ k l ⊎ ¬ (List·Memᴰ k l)
+listed? : (k : ℕ) (l : List ℕ) → List·Memᴰ k l ⊎ ¬ (List·Memᴰ k l)
 listed? k [] = inr List·Memᴰ·not-nil
 listed? k (x ∷ l) = on-eq k x (λ e. inl (List·Memᴰ·head e)) (λ d. by d (listed? k l))
   where
@@ -78,7 +78,7 @@ module _ (w S : ℕ) (f : Flash) (size : Sized w S f) (slots : List ℕ) (inside
       (λ n. let s = blanks-unlisted w S slots f k size inside n in (sym (s .same-slot) ∙ e, s .same-bytes))
       (listed? k slots)
 
-  pub blanking-fewer : (r : Record) (b : List ℕ) → Held w S blanked r b → Held w S f r b
+  blanking-fewer : (r : Record) (b : List ℕ) → Held w S blanked r b → Held w S f r b
   blanking-fewer r b h = let u = held-before (h .0) r (h .2) in (h .0, h .1, u .0, sym (u .1) ∙ h .3)
 
   pub blanking-apart : NoTwins S (slotAt (f .words)) → NoTwins S (slotAt (blanked .words))

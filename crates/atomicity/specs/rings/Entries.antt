@@ -7,28 +7,28 @@ use mathlib.Core.Bool.{true, false, cond, _||_}
 use lib.Dec.{eqb}
 use borrow.Author.Tests.{eq-eqb, ne-eqb}
 use Rattle.bounded.specs.Choice.{on-eq, on-test, never, neither-left, neither-right}
-use Rattle.atomicity.specs.Model.{Entry, pageOf, inRing, allEntered, enterIn, keep, withRing, settleRing, enter, closeRing}
-use Rattle.atomicity.specs.Rings.{pagesOf, inRings, ringOf, IsEntered, NoRepeats, Apart}
-use Rattle.atomicity.specs.RingLaws.{in-ring-cases, in-ring-behind, entry-in-ring, no-repeats-tail, no-repeats-first, ring-of-page}
+use Rattle.atomicity.specs.Model.{Entry, entryPage, inRing, allEntered, enterIn, keep, withRing, settleRing, enter, closeRing}
+use Rattle.atomicity.specs.rings.Match.{pagesOf, inRings, ringOf, IsEntered, NoRepeats, Apart}
+use Rattle.atomicity.specs.rings.Laws.{in-ring-cases, in-ring-behind, entry-in-ring, no-repeats-tail, no-repeats-first, ring-of-page}
 
 -- ---- in a ring
 
 module _ (p : ℕ) (b : List ℕ) where
   -- an entry is p's, and the bytes are entered, or stays
-  unfoldable pub entryAfter : Entry → Entry
-  entryAfter e = cond (eqb (pageOf e) p) (Entry.Entered p b) e
+  unfoldable entryAfter : Entry → Entry
+  entryAfter e = cond (eqb (entryPage e) p) (Entry.Entered p b) e
 
-  own-entry : (e : Entry) → pageOf e ≡ p → entryAfter e ≡ Entry.Entered p b
+  own-entry : (e : Entry) → entryPage e ≡ p → entryAfter e ≡ Entry.Entered p b
   unfolding entryAfter
-  own-entry e h = rw (eq-eqb (pageOf e) p h)
+  own-entry e h = rw (eq-eqb (entryPage e) p h)
 
-  other-entry : (e : Entry) → ¬ (pageOf e ≡ p) → entryAfter e ≡ e
+  other-entry : (e : Entry) → ¬ (entryPage e ≡ p) → entryAfter e ≡ e
   unfolding entryAfter
-  other-entry e h = rw (ne-eqb (pageOf e) p h)
+  other-entry e h = rw (ne-eqb (entryPage e) p h)
 
-  page-after : (e : Entry) → pageOf (entryAfter e) ≡ pageOf e
-  unfolding pageOf
-  page-after e = on-eq (pageOf e) p (λ h. ap pageOf (own-entry e h) ∙ sym h) (λ h. ap pageOf (other-entry e h))
+  page-after : (e : Entry) → entryPage (entryAfter e) ≡ entryPage e
+  unfolding entryPage
+  page-after e = on-eq (entryPage e) p (λ h. ap entryPage (own-entry e h) ∙ sym h) (λ h. ap entryPage (other-entry e h))
 
   pub pages-enter : (ring : List Entry) → pagesOf (enterIn p b ring) ≡ pagesOf ring
   unfolding enterIn pagesOf entryAfter
@@ -40,11 +40,11 @@ module _ (p : ℕ) (b : List ℕ) where
   in-ring-enter q [] = refl
   in-ring-enter q (e ∷ ring) = ap₂ _||_ (ap (λ (x : ℕ). eqb x q) (page-after e)) (in-ring-enter q ring)
 
-  pub enter-absent : (ring : List Entry) → inRing p ring ≡ false → enterIn p b ring ≡ ring
+  enter-absent : (ring : List Entry) → inRing p ring ≡ false → enterIn p b ring ≡ ring
   unfolding enterIn inRing
   enter-absent [] h = refl
   enter-absent (e ∷ ring) h =
-      rw (neither-left (eqb (pageOf e) p) (inRing p ring) h, enter-absent ring (neither-right (eqb (pageOf e) p) (inRing p ring) h))
+      rw (neither-left (eqb (entryPage e) p) (inRing p ring) h, enter-absent ring (neither-right (eqb (entryPage e) p) (inRing p ring) h))
 
   pub enter-own : (ring : List Entry) → inRing p ring ≡ true → List·Memᴰ (Entry.Entered p b) (enterIn p b ring)
   unfolding enterIn inRing entryAfter
@@ -54,24 +54,24 @@ module _ (p : ℕ) (b : List ℕ) where
       (λ q. List·Memᴰ·head (sym (own-entry e q)))
       (λ t. List·Memᴰ·tail (enter-own ring t))
 
-  pub enter-other : (e : Entry) (ring : List Entry) → List·Memᴰ e ring → ¬ (pageOf e ≡ p) → List·Memᴰ e (enterIn p b ring)
+  pub enter-other : (e : Entry) (ring : List Entry) → List·Memᴰ e ring → ¬ (entryPage e ≡ p) → List·Memᴰ e (enterIn p b ring)
   unfolding enterIn entryAfter
   enter-other e ring (List·Memᴰ·head {x = x} {xs = xs} h) n =
-      List·Memᴰ·head (h ∙ sym (other-entry x (λ q. n (ap pageOf h ∙ q))))
+      List·Memᴰ·head (h ∙ sym (other-entry x (λ q. n (ap entryPage h ∙ q))))
   enter-other e ring (List·Memᴰ·tail {x = x} {xs = xs} m) n = List·Memᴰ·tail (enter-other e xs m n)
 
   -- an entry of the ring after: the page's, with the bytes, or an entry of another page as before
   pub enter-cases :
       (e : Entry) (ring : List Entry)
       → List·Memᴰ e (enterIn p b ring)
-      → ((e ≡ Entry.Entered p b) × (inRing p ring ≡ true)) ⊎ ((¬ (pageOf e ≡ p)) × List·Memᴰ e ring)
+      → ((e ≡ Entry.Entered p b) × (inRing p ring ≡ true)) ⊎ ((¬ (entryPage e ≡ p)) × List·Memᴰ e ring)
   unfolding enterIn entryAfter inRing
   enter-cases e [] m = absurd (List·Memᴰ·not-nil m)
   enter-cases e (x ∷ ring) m =
       elim (List·Memᴰ·cases-cons m) [
-        | inl h ↦ on-eq (pageOf x) p
-            (λ q. inl (h ∙ own-entry x q, rw (eq-eqb (pageOf x) p q)))
-            (λ q. let s = h ∙ other-entry x q in inr (λ r. q (ap pageOf (sym s) ∙ r), List·Memᴰ·head s))
+        | inl h ↦ on-eq (entryPage x) p
+            (λ q. inl (h ∙ own-entry x q, rw (eq-eqb (entryPage x) p q)))
+            (λ q. let s = h ∙ other-entry x q in inr (λ r. q (ap entryPage (sym s) ∙ r), List·Memᴰ·head s))
         | inr t ↦ elim (enter-cases e ring t) [
           | inl w ↦ inl (w .0, in-ring-behind p x ring (w .1))
           | inr w ↦ inr (w .0, List·Memᴰ·tail (w .1))
@@ -134,7 +134,7 @@ module _ (p : ℕ) (b : List ℕ) where
       → inRings p rings ≡ true
       → (q : ℕ) (d : List ℕ)
       → IsEntered (map (enterIn p b) rings) q d ↔ (((q ≡ p) × (d ≡ b)) ⊎ ((¬ (q ≡ p)) × IsEntered rings q d))
-  unfolding pageOf
+  unfolding entryPage
   enter-entered rings i q d = (there, back)
     where
       there : IsEntered (map (enterIn p b) rings) q d → ((q ≡ p) × (d ≡ b)) ⊎ ((¬ (q ≡ p)) × IsEntered rings q d)
@@ -156,13 +156,13 @@ module _ (p : ℕ) (b : List ℕ) where
 
 module _ (kept : ℕ → List ℕ) (q : ℕ) where
   pub keep-other : (ring : List Entry) → inRing q ring ≡ false → keep ring kept q ≡ kept q
-  unfolding keep inRing pageOf
+  unfolding keep inRing entryPage
   keep-other [] h = refl
   keep-other (Entry.Empty p ∷ ring) h = keep-other ring (neither-right (eqb p q) (inRing q ring) h)
   keep-other (Entry.Entered p b ∷ ring) h = rw (neither-left (eqb p q) (inRing q ring) h) (keep-other ring (neither-right (eqb p q) (inRing q ring) h))
 
   pub keep-entered : (d : List ℕ) (ring : List Entry) → NoRepeats (pagesOf ring) → List·Memᴰ (Entry.Entered q d) ring → keep ring kept q ≡ d
-  unfolding keep pagesOf pageOf
+  unfolding keep pagesOf entryPage
   keep-entered d [] n m = absurd (List·Memᴰ·not-nil m)
   keep-entered d (Entry.Empty p ∷ ring) n m =
       elim (List·Memᴰ·cases-cons m) [

@@ -9,8 +9,8 @@ use lib.Dec.{eqb}
 use lib.ListN.{length, getD}
 use borrow.Author.Tests.{eqb-true, eq-eqb}
 use Rattle.bounded.specs.Choice.{on-test, never, both, both-left, both-right, either, either-left, either-right, neither-left, neither-right}
-use Rattle.atomicity.specs.Model.{Entry, pageOf, hasBytes, inRing, allEntered, closeRing}
-use Rattle.atomicity.specs.Rings.{pagesOf, inRings, ringOf, IsEntered, NoRepeats, Apart}
+use Rattle.atomicity.specs.Model.{Entry, entryPage, hasBytes, inRing, allEntered, closeRing}
+use Rattle.atomicity.specs.rings.Match.{pagesOf, inRings, ringOf, IsEntered, NoRepeats, Apart}
 
 -- ---- a page in a ring
 
@@ -18,20 +18,20 @@ use Rattle.atomicity.specs.Rings.{pagesOf, inRings, ringOf, IsEntered, N
 pub in-ring-cases {ℓ} :
     {C : Type ℓ} (p : ℕ) (x : Entry) (ring : List Entry)
     → inRing p (x ∷ ring) ≡ true
-    → (pageOf x ≡ p → C)
+    → (entryPage x ≡ p → C)
     → (inRing p ring ≡ true → C)
     → C
 unfolding inRing
 in-ring-cases p x ring e f g =
-    elim (either (eqb (pageOf x) p) (inRing p ring) e) [ inl h ↦ f (eqb-true (pageOf x) p h) | inr h ↦ g h ]
+    elim (either (eqb (entryPage x) p) (inRing p ring) e) [ inl h ↦ f (eqb-true (entryPage x) p h) | inr h ↦ g h ]
 
-pub in-ring-first : (p : ℕ) (x : Entry) (ring : List Entry) → pageOf x ≡ p → inRing p (x ∷ ring) ≡ true
+in-ring-first : (p : ℕ) (x : Entry) (ring : List Entry) → entryPage x ≡ p → inRing p (x ∷ ring) ≡ true
 unfolding inRing
-in-ring-first p x ring e = either-left (inRing p ring) (eq-eqb (pageOf x) p e)
+in-ring-first p x ring e = either-left (inRing p ring) (eq-eqb (entryPage x) p e)
 
 pub in-ring-behind : (p : ℕ) (x : Entry) (ring : List Entry) → inRing p ring ≡ true → inRing p (x ∷ ring) ≡ true
 unfolding inRing
-in-ring-behind p x ring e = either-right (eqb (pageOf x) p) e
+in-ring-behind p x ring e = either-right (eqb (entryPage x) p) e
 
 pub in-ring-place : (p : ℕ) (ring : List Entry) → inRing p ring ≡ true → (i : ℕ) × (i < length (pagesOf ring)) × (getD (pagesOf ring) i 0 ≡ p)
 unfolding inRing pagesOf
@@ -47,7 +47,7 @@ place-in-ring p [] i l e = absurd (omega arith)
 place-in-ring p (x ∷ ring) zero l e = in-ring-first p x ring e
 place-in-ring p (x ∷ ring) (suc i) l e = in-ring-behind p x ring (place-in-ring p ring i (omega arith) e)
 
-pub in-ring-entry : (p : ℕ) (ring : List Entry) → inRing p ring ≡ true → (e : Entry) × List·Memᴰ e ring × (pageOf e ≡ p)
+pub in-ring-entry : (p : ℕ) (ring : List Entry) → inRing p ring ≡ true → (e : Entry) × List·Memᴰ e ring × (entryPage e ≡ p)
 unfolding inRing
 in-ring-entry p [] h = absurd (never h refl)
 in-ring-entry p (x ∷ ring) h =
@@ -55,32 +55,22 @@ in-ring-entry p (x ∷ ring) h =
     (λ e. (x, List·Memᴰ·head refl, e))
     (λ t. let w = in-ring-entry p ring t in (w .0, List·Memᴰ·tail (w .1), w .2))
 
-pub entry-in-ring : (e : Entry) (ring : List Entry) → List·Memᴰ e ring → inRing (pageOf e) ring ≡ true
-entry-in-ring e ring (List·Memᴰ·head {x = x} {xs = xs} h) = in-ring-first (pageOf e) x xs (ap pageOf (sym h))
-entry-in-ring e ring (List·Memᴰ·tail {x = x} {xs = xs} m) = in-ring-behind (pageOf e) x xs (entry-in-ring e xs m)
+pub entry-in-ring : (e : Entry) (ring : List Entry) → List·Memᴰ e ring → inRing (entryPage e) ring ≡ true
+entry-in-ring e ring (List·Memᴰ·head {x = x} {xs = xs} h) = in-ring-first (entryPage e) x xs (ap entryPage (sym h))
+entry-in-ring e ring (List·Memᴰ·tail {x = x} {xs = xs} m) = in-ring-behind (entryPage e) x xs (entry-in-ring e xs m)
 
 -- ---- a ring without repeats
 
 pub no-repeats-tail : (p : ℕ) (pages : List ℕ) → NoRepeats (p ∷ pages) → NoRepeats pages
 no-repeats-tail p pages n i j l h = n (suc i) (suc j) (omega arith) (omega arith)
 
-pub no-repeats-first : (x : Entry) (ring : List Entry) → NoRepeats (pagesOf (x ∷ ring)) → inRing (pageOf x) ring ≡ false
+pub no-repeats-first : (x : Entry) (ring : List Entry) → NoRepeats (pagesOf (x ∷ ring)) → inRing (entryPage x) ring ≡ false
 unfolding pagesOf
 no-repeats-first x ring n =
-    on-test (inRing (pageOf x) ring)
-    (λ e. let w = in-ring-place (pageOf x) ring e in
+    on-test (inRing (entryPage x) ring)
+    (λ e. let w = in-ring-place (entryPage x) ring e in
     absurd (n 0 (suc (w .0)) (omega arith) (let l = w .1 in omega arith) (sym (w .2))))
     (λ e. e)
-
--- a page has one entry
-pub one-entry : (e x : Entry) (ring : List Entry) → NoRepeats (pagesOf ring) → List·Memᴰ e ring → List·Memᴰ x ring → pageOf e ≡ pageOf x → e ≡ x
-unfolding pagesOf
-one-entry e x ring n (List·Memᴰ·head h) (List·Memᴰ·head t) q = h ∙ sym t
-one-entry e x ring n (List·Memᴰ·head {x = y} {xs = ys} h) (List·Memᴰ·tail t) q =
-    absurd (never (ap (λ (r : ℕ). inRing r ys) (ap pageOf (sym h) ∙ q) ∙ entry-in-ring x ys t) (no-repeats-first y ys n))
-one-entry e x ring n (List·Memᴰ·tail {x = y} {xs = ys} h) (List·Memᴰ·head t) q =
-    absurd (never (ap (λ (r : ℕ). inRing r ys) (ap pageOf (sym t) ∙ sym q) ∙ entry-in-ring e ys h) (no-repeats-first y ys n))
-one-entry e x ring n (List·Memᴰ·tail {x = y} {xs = ys} h) (List·Memᴰ·tail t) q = one-entry e x ys (no-repeats-tail (pageOf y) (pagesOf ys) n) h t q
 
 -- ---- allEntered is "each entry has bytes"
 
@@ -178,7 +168,7 @@ pub entered-in-ring :
     → inRing q (ringOf p rings) ≡ true
     → IsEntered rings q d
     → List·Memᴰ (Entry.Entered q d) (ringOf p rings)
-unfolding pageOf
+unfolding entryPage
 entered-in-ring p q d rings a e h w =
     let own = ring-of-only q (w .0) rings a (w .1) (entry-in-ring (Entry.Entered q d) (w .0) (w .2)) in
     let same = ring-of-only q (ringOf p rings) rings a (ring-of-page p rings e .0) h in
@@ -208,7 +198,7 @@ close-keeps p ring rings (List·Memᴰ·tail {x = r} {xs = rs} m) e =
     (λ h. rw h m)
     (λ h. rw h (List·Memᴰ·tail (close-keeps p ring rs m e)))
 
-pub in-rings-close : (q p : ℕ) (rings : List (List Entry)) → inRings q rings ≡ false → inRings q (closeRing p rings) ≡ false
+in-rings-close : (q p : ℕ) (rings : List (List Entry)) → inRings q rings ≡ false → inRings q (closeRing p rings) ≡ false
 in-rings-close q p rings e =
     on-test (inRings q (closeRing p rings))
     (λ h. let w = ring-of-page q (closeRing p rings) h in

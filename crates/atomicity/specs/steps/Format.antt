@@ -26,10 +26,10 @@ use Rattle.protocol.specs.View.{NoTwins, recordView}
 use Rattle.protocol.specs.Shared.{SharedLive, commOf}
 use Rattle.protocol.specs.BackPointer.{Core}
 use Rattle.atomicity.specs.Model.{freshModel}
-use Rattle.atomicity.specs.Rings.{IsEntered}
-use Rattle.atomicity.specs.RingClose.{no-rings-match}
-use Rattle.atomicity.specs.Invariant.{Held, Live}
-use Rattle.atomicity.specs.StateWords.{live-words}
+use Rattle.atomicity.specs.rings.Match.{IsEntered}
+use Rattle.atomicity.specs.rings.Close.{no-rings-match}
+use Rattle.atomicity.specs.steps.Invariant.{Held, Live}
+use Rattle.atomicity.specs.steps.StateWords.{live-words}
 
 module _ (w P S : ℕ) (sizes : Sizes P S) where
   abbrev words : List ℕ

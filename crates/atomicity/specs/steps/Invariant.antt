@@ -9,13 +9,14 @@ use Rattle.record.specs.Flash.{Flash}
 use Rattle.state.specs.declared.PageState.{PageState}
 use Rattle.state.specs.State.{stateAt}
 use Rattle.state.specs.StateLaws.{StateFacts}
+use Rattle.rules.specs.Volume.{Volume}
 use Rattle.rules.specs.laws.Sizes.{Fits}
 use Rattle.protocol.specs.View.{InSlots, NoTwins, recordView}
 use Rattle.protocol.specs.Shared.{SharedLive, commOf}
 use Rattle.protocol.specs.BackPointer.{Core}
 use Rattle.atomicity.specs.Run.{World}
 use Rattle.atomicity.specs.Model.{Model}
-use Rattle.atomicity.specs.Rings.{IsEntered, RingsMatch}
+use Rattle.atomicity.specs.rings.Match.{IsEntered, RingsMatch}
 
 -- the (record, contents) pairs that the slots of a flash hold
 abbrev pub Held : (w S : ℕ) → Flash → Record → List ℕ → Type 0
@@ -37,6 +38,12 @@ module _ (w P S : ℕ) where
     pub core : Core (Held w S f) comm P (m .kept)
     pub closed : m .rings ≡ []
 
+  -- the invariant of a volume whose state is known
+  pub record Known (v : Volume) (m : Model) : Type 0 where
+    pub fits : Fits w P S v
+    pub live : Live (v .flash) (stateAt (v .state)) m
+
+  -- the invariant of a run
   pub data Holding (x : World) (m : Model) : Type 0 where
     known : x .lost ≡ false → Fits w P S (x .volume) → Live (x .volume .flash) (stateAt (x .volume .state)) m → Holding x m
     unknown : x .lost ≡ true → Fits w P S (x .volume) → Lost (x .volume .flash) m → Holding x m

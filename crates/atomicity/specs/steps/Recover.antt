@@ -27,9 +27,9 @@ use Rattle.protocol.specs.RecoverAnswers.{recover-accepts, found-within-used}
 use Rattle.protocol.specs.ReadsKept.{filled-page, filled-sound, read-outcome-kept}
 use Rattle.atomicity.specs.Model.{Model, closeAll}
 use Rattle.atomicity.specs.Promise.{Recovers}
-use Rattle.atomicity.specs.Rings.{IsEntered}
-use Rattle.atomicity.specs.RingClose.{no-rings-match}
-use Rattle.atomicity.specs.Invariant.{Held, Live}
+use Rattle.atomicity.specs.rings.Match.{IsEntered}
+use Rattle.atomicity.specs.rings.Close.{no-rings-match}
+use Rattle.atomicity.specs.steps.Invariant.{Held, Live}
 
 module _ (w P S : ℕ) (f : Flash) (sizes : Sizes P S) (size : Sized w S f) (apart : NoTwins S (slotAt (f .words)))
     {comm : ℕ → ℕ} {kept : ℕ → List ℕ} (core : Core (Held w S f) comm P kept) (state : List ℕ) (long : length state ≡ 4 * P) where

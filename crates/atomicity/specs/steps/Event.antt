@@ -1,40 +1,37 @@
--- Promise 3: the invariant holds after every list of events, and under it recovery answers 0 and each page holds what the model keeps.
+-- One event keeps the invariant: a call that returns, a crash in a call, a crash between two.
 use Prim.Native.Nat.{ℕ, zero, suc, _*_}
 use native.Mathlib.Omega.{arith}
 use mathlib.Core.Path.{_≡_, refl, sym, ap, _∙_, subst}
-use mathlib.Core.List.{List, [], _∷_}
-use mathlib.Core.Bool.{Bool, true, false, cond, not}
+use mathlib.Core.List.{List}
+use mathlib.Core.Bool.{Bool, true, false, cond}
 use lib.Dec.{eqb}
 use lib.ListN.{length}
-use borrow.Author.Tests.{eqb-true, not-false}
+use borrow.Author.Tests.{eqb-true}
 use Rattle.bounded.specs.Choice.{on-eq, never, both-left, both-right}
-use Rattle.outcome.specs.Outcome.{Outcome, passed, settled-answer}
+use Rattle.outcome.specs.Outcome.{Outcome}
 use Rattle.record.specs.Flash.{Flash}
 use Rattle.record.specs.FlashLaws.{Sized}
-use Rattle.rules.specs.Volume.{Volume, volumeFits}
-use Rattle.rules.specs.laws.Sizes.{Sizes, Fits, fits-facts}
-use Rattle.rules.specs.Format.{formatted, formatAnswer, formatOutcome}
-use Rattle.rules.specs.laws.Outcomes.{format-done}
+use Rattle.rules.specs.Volume.{Volume}
+use Rattle.rules.specs.laws.Sizes.{Sizes, Fits}
 use Rattle.rules.specs.laws.Recover.{recover-fills}
 use Rattle.atomicity.specs.Call.{Call, withState, perform, plannedStages}
-use Rattle.atomicity.specs.Run.{Event, World, isRecover, stillLost, happens, started, after, keepsTo, keepsPremises}
-use Rattle.atomicity.specs.Model.{Told, Model, freshModel, accept, closeAll, learns}
-use Rattle.atomicity.specs.Promise.{toldOfCrash, told, modelAfter, Recovers, Premises, Promise3, OwnState}
-use Rattle.atomicity.specs.Stages.{answer-is, performs, refused-leaves}
-use Rattle.atomicity.specs.Invariant.{Lost, Holding, known, unknown}
-use Rattle.atomicity.specs.RecoverStep.{accepts, recovers, found-fits, found-again}
-use Rattle.atomicity.specs.CallStep.{Known, accepted}
-use Rattle.atomicity.specs.FormatStart.{formatted-fits, formatted-live}
-use Rattle.atomicity.specs.CrashStep.{Crashed, crashFlash, crash-known, crash-lost, crash-in, no-stages}
+use Rattle.atomicity.specs.Run.{Event, World, isRecover, stillLost, happens, keepsTo}
+use Rattle.atomicity.specs.Model.{Told, Model, accept, closeAll, learns}
+use Rattle.atomicity.specs.Promise.{toldOfCrash, told}
+use Rattle.atomicity.specs.steps.Invariant.{Lost, Known, Holding, known, unknown}
+use Rattle.atomicity.specs.steps.Recover.{accepts, found-fits, found-again}
+use Rattle.atomicity.specs.steps.Calls.{accepted}
+use Rattle.atomicity.specs.steps.Stages.{answer-is, performs, refused-leaves}
+use Rattle.atomicity.specs.steps.Crash.{Crashed, crashFlash, crash-known, crash-lost, crash-in, no-stages}
 
 -- ---- what the model learns
 
-pub learns-accepted : (m : Model) (call : Call) (a : ℕ) → a ≡ 0 → learns m (Told.Answered call a) ≡ accept m call
+learns-accepted : (m : Model) (call : Call) (a : ℕ) → a ≡ 0 → learns m (Told.Answered call a) ≡ accept m call
 unfolding learns
 learns-accepted m call zero e = refl
 learns-accepted m call (suc a) e = absurd (omega arith)
 
-pub learns-refused : (m : Model) (call : Call) (a : ℕ) → ¬ (a ≡ 0) → learns m (Told.Answered call a) ≡ m
+learns-refused : (m : Model) (call : Call) (a : ℕ) → ¬ (a ≡ 0) → learns m (Told.Answered call a) ≡ m
 unfolding learns
 learns-refused m call zero n = absurd (n refl)
 learns-refused m call (suc a) n = refl
@@ -106,7 +103,7 @@ module _ (w P S : ℕ) where
   lost-recover true call e k = k
   lost-recover false call e k = absurd (never e refl)
 
-  event-keeps : (x : World) (m : Model) (e : Event) → Holding w P S x m → keepsTo P x e ≡ true → Holding w P S (happens w P S x e) (learns m (told w P S x e))
+  pub event-keeps : (x : World) (m : Model) (e : Event) → Holding w P S x m → keepsTo P x e ≡ true → Holding w P S (happens w P S x e) (learns m (told w P S x e))
   unfolding happens told stillLost keepsTo learns
   event-keeps x m (Event.Returns call) (known found fits live) keeps =
       let k = call-known (x .volume) m call (record { fits = fits; live = live }) in
@@ -127,47 +124,3 @@ module _ (w P S : ℕ) where
       crashed-holds (x .volume .flash) state (closeAll m) (fits .sizes) (eqb-true (length state) (4 * P) keeps) (crash-known w P S (x .volume) m (record { fits = fits; live = live }))
   event-keeps x m (Event.Crash state) (unknown lost fits l) keeps =
       crashed-holds (x .volume .flash) state (closeAll m) (fits .sizes) (eqb-true (length state) (4 * P) keeps) (crash-lost w P S (x .volume .flash) m (record { sized = fits .flash-sized; lost = l }))
-
-  -- ---- every list
-
-  list-keeps : (x : World) (m : Model) (events : List Event) → Holding w P S x m → keepsPremises w P S x events ≡ true → Holding w P S (after w P S x events) (modelAfter w P S x m events)
-  unfolding after modelAfter keepsPremises
-  list-keeps x m [] h k = h
-  list-keeps x m (e ∷ events) h k =
-      list-keeps (happens w P S x e) (learns m (told w P S x e)) events
-      (event-keeps x m e h (both-left (keepsTo P x e) (keepsPremises w P S (happens w P S x e) events) k))
-      (both-right (keepsTo P x e) (keepsPremises w P S (happens w P S x e) events) k)
-
-  -- under the invariant promise 3's conclusion holds
-  holding-recovers : (x : World) (m : Model) → Holding w P S x m → (state : List ℕ) → length state ≡ 4 * P → Recovers w P S (x .volume .flash) (m .kept) state
-  holding-recovers x m (known found fits live) state long = recovers w P S (x .volume .flash) (fits .sizes) (fits .flash-sized) (live .no-twins) (live .core) state long
-  holding-recovers x m (unknown lost fits l) state long = recovers w P S (x .volume .flash) (fits .sizes) (fits .flash-sized) (l .no-twins) (l .core) state long
-
-  -- the start
-  starts : (v : Volume) → formatOutcome w P S v .answer ≡ 0 → Holding w P S (started w P S v) (freshModel w)
-  unfolding started formatAnswer formatOutcome
-  starts v e =
-      let a : formatAnswer w P S v ≡ 0 = sym (settled-answer (formatAnswer w P S v) 0 0 v (formatted w P S)) ∙ e in
-      let sizes = fits-facts w P S v (not-false (volumeFits w P S v) (passed (not (volumeFits w P S v)) _ _ a .0)) .sizes in
-      subst (λ (o : Outcome Volume). Holding w P S (record { volume = o .left; lost = false }) (freshModel w)) (sym (format-done w P S v a))
-      (known refl (formatted-fits w P S sizes) (formatted-live w P S sizes))
-
--- The invariant holds after every list of events under the premises.
-pub reached : (w P S : ℕ) (v : Volume) (events : List Event) → Premises w P S v events → Holding w P S (after w P S (started w P S v) events) (modelAfter w P S (started w P S v) (freshModel w) events)
-reached w P S v events p = list-keeps w P S (started w P S v) (freshModel w) events (starts w P S v (p .formatted)) (p .keeps)
-
--- the state has its 4×P words after every list
-holding-sized : (w P S : ℕ) (x : World) (m : Model) → Holding w P S x m → length (x .volume .state) ≡ 4 * P
-holding-sized w P S x m (known found fits live) = fits .state-sized
-holding-sized w P S x m (unknown lost fits l) = fits .state-sized
-
--- Promise 3, whole.
-pub promise-3 : Promise3
-promise-3 w P S v events p state long =
-    holding-recovers w P S (after w P S (started w P S v) events) (modelAfter w P S (started w P S v) (freshModel w) events) (reached w P S v events p) state long
-
--- … and on the volume's own state.
-pub own-state : OwnState
-own-state w P S v events p =
-    promise-3 w P S v events p (after w P S (started w P S v) events .volume .state)
-    (holding-sized w P S (after w P S (started w P S v) events) (modelAfter w P S (started w P S v) (freshModel w) events) (reached w P S v events p))

@@ -15,12 +15,12 @@ use Rattle.state.specs.Cycle.{onCycle}
 use Rattle.state.specs.Change.{atRest, writtenPage, marked, completes, committedPage, completed, afterWrite}
 use Rattle.state.specs.CycleLaws.{Flies, marked-next}
 use Rattle.state.specs.CompletionLaws.{completes-of, completes-at, after-write-done, after-write-not}
-use Rattle.atomicity.specs.Model.{Model, Entry, pageOf, hasBytes, inRing, allEntered, enterIn, keep, enter, closeRing}
-use Rattle.atomicity.specs.Rings.{pagesOf, ringOf, IsEntered, NoRepeats, RunsRound, RingMatches, RingsMatch}
-use Rattle.atomicity.specs.RingLaws.{in-ring-entry, entry-in-ring, all-entered-at, all-entered-of, entered-in-ring}
-use Rattle.atomicity.specs.EntryLaws.{pages-enter, in-ring-enter, enter-own, enter-other, enter-cases, enter-apart, in-rings-enter, enter-entered, enter-open, enter-closes, keep-other, keep-entered}
-use Rattle.atomicity.specs.RingCycle.{runs-same, ring-of-matches, ring-of-has, ring-of-cycle}
-use Rattle.atomicity.specs.RingClose.{close-match, close-entered}
+use Rattle.atomicity.specs.Model.{Model, Entry, entryPage, hasBytes, inRing, allEntered, enterIn, keep, enter, closeRing}
+use Rattle.atomicity.specs.rings.Match.{pagesOf, ringOf, IsEntered, NoRepeats, RunsRound, RingMatches, RingsMatch}
+use Rattle.atomicity.specs.rings.Laws.{in-ring-entry, entry-in-ring, all-entered-at, all-entered-of, entered-in-ring}
+use Rattle.atomicity.specs.rings.Entries.{pages-enter, in-ring-enter, enter-own, enter-other, enter-cases, enter-apart, in-rings-enter, enter-entered, enter-open, enter-closes, keep-other, keep-entered}
+use Rattle.atomicity.specs.rings.Cycle.{runs-same, ring-of-matches, ring-of-has, ring-of-cycle}
+use Rattle.atomicity.specs.rings.Close.{close-match, close-entered}
 
 module _ (P : ℕ) (st : ℕ → PageState) (p : ℕ) (b : List ℕ) where
   marked-own : isWritten (marked st p p) ≡ true
@@ -32,17 +32,17 @@ module _ (P : ℕ) (st : ℕ → PageState) (p : ℕ) (b : List ℕ) where
   marked-other q n = update-other st p (writtenPage (st p)) q n
 
   -- the bytes entered and the page marked written, each ring still matches
-  pub enter-ring-matches : (ring : List Entry) → RingMatches P st ring → RingMatches P (marked st p) (enterIn p b ring)
-  unfolding pageOf hasBytes
+  enter-ring-matches : (ring : List Entry) → RingMatches P st ring → RingMatches P (marked st p) (enterIn p b ring)
+  unfolding entryPage hasBytes
   enter-ring-matches ring m = record {
     runs = subst (λ (l : List ℕ). RunsRound P (marked st p) l) (sym (pages-enter p b ring)) (runs-same P st (marked st p) (pagesOf ring) (λ i l. marked-next st p _) (m .runs));
     written = λ e s. elim (enter-cases p b e ring s) [
-      | inl w ↦ ap (λ (x : Entry). isWritten (marked st p (pageOf x))) (w .0) ∙ marked-own ∙ ap hasBytes (sym (w .0))
-      | inr w ↦ ap isWritten (marked-other (pageOf e) (w .0)) ∙ m .written e (w .1)
+      | inl w ↦ ap (λ (x : Entry). isWritten (marked st p (entryPage x))) (w .0) ∙ marked-own ∙ ap hasBytes (sym (w .0))
+      | inr w ↦ ap isWritten (marked-other (entryPage e) (w .0)) ∙ m .written e (w .1)
     ];
   }
 
-  pub enter-rings-match : (rings : List (List Entry)) → RingsMatch P st rings → RingsMatch P (marked st p) (map (enterIn p b) rings)
+  enter-rings-match : (rings : List (List Entry)) → RingsMatch P st rings → RingsMatch P (marked st p) (map (enterIn p b) rings)
   unfolding inFlight
   enter-rings-match rings match = record {
     each = λ ring s. let w = Memᴰ·of-map (enterIn p b) rings s in
@@ -54,7 +54,7 @@ module _ (P : ℕ) (st : ℕ → PageState) (p : ℕ) (b : List ℕ) where
 
 module _ (P : ℕ) (st : ℕ → PageState) (rings : List (List Entry)) (sound : StateFacts P st) (match : RingsMatch P st rings) (p : ℕ) (f : Flies P st p) (b : List ℕ) where
   -- "all pages of that ring now have bytes" exactly where "its whole ring is then written"
-  pub all-entered-completes : allEntered (enterIn p b (ringOf p rings)) ≡ completes P st p
+  all-entered-completes : allEntered (enterIn p b (ringOf p rings)) ≡ completes P st p
   unfolding hasBytes
   all-entered-completes =
       same-test (allEntered (enterIn p b ring)) (completes P st p)
@@ -66,7 +66,7 @@ module _ (P : ℕ) (st : ℕ → PageState) (rings : List (List Entry)) (sound :
       (λ c. all-entered-of (enterIn p b ring)
       (λ e s. elim (enter-cases p b e ring s) [
         | inl w ↦ ap hasBytes (w .0)
-        | inr w ↦ sym (matches .written e (w .1)) ∙ completes-at P st sound p f c (pageOf e) (sym (cycle (pageOf e)) ∙ entry-in-ring e ring (w .1)) (w .0)
+        | inr w ↦ sym (matches .written e (w .1)) ∙ completes-at P st sound p f c (entryPage e) (sym (cycle (entryPage e)) ∙ entry-in-ring e ring (w .1)) (w .0)
       ]))
     where
       ring : List Entry
@@ -118,7 +118,7 @@ module _ (P : ℕ) (st : ℕ → PageState) (rings : List (List Entry)) (sound :
 
       -- kept for the other pages on p's cycle: what is entered
       pub write-done-cycle : (q : ℕ) → ¬ (q ≡ p) → onCycle P st p q ≡ true → (d : List ℕ) → IsEntered rings q d → enter p b kept rings .kept q ≡ d
-      unfolding pageOf
+      unfolding entryPage
       write-done-cycle q n on d w =
           ap (λ (m : Model). m .kept q) ring-closes
           ∙ keep-entered kept q d (enterIn p b (ringOf p rings)) no-repeats

@@ -16,9 +16,9 @@ use Rattle.protocol.specs.View.{recordView}
 use Rattle.protocol.specs.SameSet.{core-same, StateChanges, live-changes}
 use Rattle.atomicity.specs.Call.{Call}
 use Rattle.atomicity.specs.Model.{Model, closeRing, accept}
-use Rattle.atomicity.specs.Rings.{IsEntered}
-use Rattle.atomicity.specs.RingClose.{close-entered, withdraw-match}
-use Rattle.atomicity.specs.Invariant.{Live}
+use Rattle.atomicity.specs.rings.Match.{IsEntered}
+use Rattle.atomicity.specs.rings.Close.{close-entered, withdraw-match}
+use Rattle.atomicity.specs.steps.Invariant.{Live}
 
 module _ (w P S : ℕ) (f : Flash) (st : ℕ → PageState) (m : Model) (l : Live w P S f st m) (page : ℕ) (y : Flies P st page) where
   on-it : (q : ℕ) → onCycle P st page q ≡ true → withdrawn P st page q ≡ withdrawnPage (st q)

@@ -8,12 +8,12 @@ use Rattle.state.specs.declared.PageState.{PageState}
 use Rattle.state.specs.State.{isWritten}
 use Rattle.state.specs.Change.{following}
 use Rattle.state.specs.CycleLaws.{Flies}
-use Rattle.atomicity.specs.Model.{Entry, pageOf, hasBytes, inRing}
+use Rattle.atomicity.specs.Model.{Entry, entryPage, hasBytes, inRing}
 
 -- the pages of a ring, in their order
 unfoldable pub pagesOf : List Entry → List ℕ
 pagesOf [] = []
-pagesOf (e ∷ ring) = pageOf e ∷ pagesOf ring
+pagesOf (e ∷ ring) = entryPage e ∷ pagesOf ring
 
 -- the page stands in some open ring
 unfoldable pub inRings : ℕ → List (List Entry) → Bool
@@ -43,7 +43,7 @@ pub record RunsRound (P : ℕ) (st : ℕ → PageState) (pages : List ℕ) : Typ
 -- next runs round the ring's pages, and of these exactly the written ones have bytes entered
 pub record RingMatches (P : ℕ) (st : ℕ → PageState) (ring : List Entry) : Type 0 where
   pub runs : RunsRound P st (pagesOf ring)
-  pub written : (e : Entry) → List·Memᴰ e ring → isWritten (st (pageOf e)) ≡ hasBytes e
+  pub written : (e : Entry) → List·Memᴰ e ring → isWritten (st (entryPage e)) ≡ hasBytes e
 
 -- no page stands in two rings of the list
 pub data Apart : List (List Entry) → Type 0 where

@@ -1,4 +1,4 @@
--- An accepted call keeps the invariant: it is its step.
+-- Every accepted call keeps the invariant, by its step.
 use Prim.Native.Nat.{ℕ, _≤_, _<_}
 use native.Mathlib.Omega.{arith}
 use mathlib.Core.Path.{_≡_, refl, sym, subst}
@@ -18,7 +18,6 @@ use Rattle.state.specs.StateLaws.{length-stateWords}
 use Rattle.state.specs.Change.{launched, withdrawn, afterWrite}
 use Rattle.state.specs.CycleLaws.{Flies}
 use Rattle.rules.specs.Volume.{Volume}
-use Rattle.rules.specs.laws.Sizes.{Fits}
 use Rattle.rules.specs.Launch.{launchAnswer}
 use Rattle.rules.specs.Write.{planOf, writeAnswer, writeStep, writeChange}
 use Rattle.rules.specs.Withdraw.{withdrawAnswer}
@@ -29,20 +28,14 @@ use Rattle.rules.specs.laws.Recover.{recover-fills}
 use Rattle.rules.specs.laws.Accepted.{launch-tests, withdraw-tests, write-tests, erase-tests}
 use Rattle.atomicity.specs.Call.{Call, withState, withFlash, perform}
 use Rattle.atomicity.specs.Model.{Model, accept, closeAll, enter}
-use Rattle.atomicity.specs.Stages.{answer-is}
-use Rattle.atomicity.specs.RingLaunch.{listed-some, listed-launchable}
-use Rattle.atomicity.specs.Invariant.{Live}
-use Rattle.atomicity.specs.StateWords.{live-words}
-use Rattle.atomicity.specs.LaunchStep.{launched-live}
-use Rattle.atomicity.specs.WithdrawStep.{withdrawn-live}
-use Rattle.atomicity.specs.EraseStep.{erasable-free, erased-sized, erased-live}
-use Rattle.atomicity.specs.RecoverStep.{accepts, found-fits, found-again}
-use Rattle.atomicity.specs.WriteStep.{written-live}
-
--- the invariant of a volume whose state is known
-pub record Known (w P S : ℕ) (v : Volume) (m : Model) : Type 0 where
-  pub fits : Fits w P S v
-  pub live : Live w P S (v .flash) (stateAt (v .state)) m
+use Rattle.atomicity.specs.steps.Stages.{answer-is}
+use Rattle.atomicity.specs.steps.Invariant.{Known}
+use Rattle.atomicity.specs.steps.StateWords.{live-words}
+use Rattle.atomicity.specs.steps.Launch.{listed-some, listed-launchable, launched-live}
+use Rattle.atomicity.specs.steps.Withdraw.{withdrawn-live}
+use Rattle.atomicity.specs.steps.Erase.{erasable-free, erased-sized, erased-live}
+use Rattle.atomicity.specs.steps.Recover.{accepts, found-fits, found-again}
+use Rattle.atomicity.specs.steps.Write.{written-live}
 
 module _ (w P S : ℕ) (v : Volume) (m : Model) (k : Known w P S v m) where
   small : P ≤ noNumber

@@ -17,8 +17,8 @@ use Rattle.protocol.specs.BackPointer.{Core}
 use Rattle.protocol.specs.Fewer.{core-fewer, live-erased}
 use Rattle.rules.specs.laws.Accepted.{EraseTests}
 use Rattle.atomicity.specs.Model.{Model}
-use Rattle.atomicity.specs.Invariant.{Held, Live}
-use Rattle.atomicity.specs.Blanking.{member-at, blanking-apart, blanking-erases}
+use Rattle.atomicity.specs.steps.Invariant.{Held, Live}
+use Rattle.atomicity.specs.steps.Blanking.{member-at, blanking-apart, blanking-erases}
 
 -- slots in range that may be erased
 pub record Free (S : ℕ) (v : Volume) (slots : List ℕ) : Type 0 where

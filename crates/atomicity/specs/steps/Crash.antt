@@ -20,11 +20,11 @@ use Rattle.atomicity.specs.Call.{Call, perform, plannedStages, flashStag
 use Rattle.atomicity.specs.Run.{doneOf, cutShort, wasDone}
 use Rattle.atomicity.specs.Model.{Told, Model, accept, closeAll, enter, learns}
 use Rattle.atomicity.specs.Promise.{toldOfCrash}
-use Rattle.atomicity.specs.Stages.{answer-is, performs, refused-stages, accepted-stages, cut-one}
-use Rattle.atomicity.specs.Invariant.{Lost}
-use Rattle.atomicity.specs.Blanking.{chosen, done-blanks, chosen-listed}
-use Rattle.atomicity.specs.EraseStep.{Free, erasable-free, erased-sized, erased-core, erased-apart}
-use Rattle.atomicity.specs.CallStep.{Known, accepted}
+use Rattle.atomicity.specs.steps.Stages.{answer-is, performs, refused-stages, accepted-stages, cut-one}
+use Rattle.atomicity.specs.steps.Invariant.{Lost, Known}
+use Rattle.atomicity.specs.steps.Blanking.{chosen, done-blanks, chosen-listed}
+use Rattle.atomicity.specs.steps.Erase.{Free, erasable-free, erased-sized, erased-core, erased-apart}
+use Rattle.atomicity.specs.steps.Calls.{accepted}
 
 module _ (w P S : ℕ) where
   -- what is left of a volume by a crash: its flash

@@ -11,9 +11,9 @@ use Rattle.state.specs.StateLaws.{StateFacts, facts-cong, stateAt-words}
 use Rattle.protocol.specs.View.{recordView}
 use Rattle.protocol.specs.SameSet.{core-same, StateChanges, live-changes}
 use Rattle.atomicity.specs.Model.{Model}
-use Rattle.atomicity.specs.Rings.{IsEntered}
-use Rattle.atomicity.specs.RingCycle.{rings-match-cong}
-use Rattle.atomicity.specs.Invariant.{Live}
+use Rattle.atomicity.specs.rings.Match.{IsEntered}
+use Rattle.atomicity.specs.rings.Cycle.{rings-match-cong}
+use Rattle.atomicity.specs.steps.Invariant.{Live}
 
 module _ (P : ℕ) (st st′ : ℕ → PageState) (same : (p : ℕ) → p < P → st′ p ≡ st p) where
   goes-on : StateFacts P st → (E : ℕ → List ℕ → Type 0) → StateChanges P st st′ E E
@@ -31,7 +31,7 @@ module _ (P : ℕ) (st st′ : ℕ → PageState) (same : (p : ℕ) → p < P �
             });
       }
 
-  pub live-below : (w S : ℕ) (f : Flash) (m : Model) → Live w P S f st m → Live w P S f st′ m
+  live-below : (w S : ℕ) (f : Flash) (m : Model) → Live w P S f st m → Live w P S f st′ m
   live-below w S f m l =
       record {
         sound = facts-cong P st st′ (λ p h. sym (same p h)) (l .sound);

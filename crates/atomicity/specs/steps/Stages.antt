@@ -1,41 +1,25 @@
--- Stages: a call that returns has done all of its own, and a crash leaves done every stage before its own, a part of that one and nothing behind it.
-use Prim.Native.Nat.{ℕ, zero, suc, _+_, _≤_, _<_}
+-- A call in a run, its own answer and its stages; and stages cut short: which steps a crash leaves done.
+use Prim.Native.Nat.{ℕ, zero, suc, _+_, _<_}
 use native.Mathlib.Omega.{arith}
 use mathlib.Core.Path.{_≡_, refl, sym, ap, ap₂, _∙_, fun-ext}
-use mathlib.Core.List.{List, [], _∷_, _++_, append-nil, flatten}
+use mathlib.Core.List.{List, [], _∷_, _++_, append-nil}
 use mathlib.Core.Bool.{Bool, true, false, _&&_}
 use lib.Dec.{eqb}
-use lib.ListN.{length}
 use borrow.Author.Tests.{eq-eqb, ne-eqb, lt-ltb, le-ltb}
-use Rattle.bounded.specs.Choice.{on-eq, on-lt, never, either-left}
+use Rattle.bounded.specs.Choice.{either-left}
 use Rattle.outcome.specs.Outcome.{Outcome, settled-answer}
-use Rattle.record.specs.Flash.{Flash, Step, applyAll}
+use Rattle.record.specs.Flash.{Flash, Step}
 use Rattle.rules.specs.Volume.{Volume}
 use Rattle.rules.specs.Launch.{launchAnswer, launchOutcome}
-use Rattle.rules.specs.Write.{writeAnswer, writeChange, writeOutcome}
+use Rattle.rules.specs.Write.{writeAnswer, writeOutcome}
 use Rattle.rules.specs.Withdraw.{withdrawAnswer, withdrawOutcome}
-use Rattle.rules.specs.Erase.{eraseAnswer, eraseSteps, eraseOutcome}
+use Rattle.rules.specs.Erase.{eraseAnswer, eraseOutcome}
 use Rattle.rules.specs.Recover.{recoverAnswer, recoverOutcome}
-use Rattle.rules.specs.laws.Outcomes.{launch-refused, write-refused, write-done, withdraw-refused, erase-refused, erase-done}
+use Rattle.rules.specs.laws.Outcomes.{launch-refused, write-refused, withdraw-refused, erase-refused}
 use Rattle.rules.specs.laws.Recover.{recover-refused}
 use Rattle.atomicity.specs.Call.{Call, withState, withFlash, perform, plannedStages, flashStages}
 use Rattle.atomicity.specs.Run.{doneOf, cutShort, wasDone}
-
--- the steps of which the test says that they were done, by the numbers of stage and step; the first of the stages has number k
-unfoldable pub doneIn : (ℕ → ℕ → Bool) → ℕ → List (List Step) → List Step
-doneIn test k [] = []
-doneIn test k (first ∷ rest) = doneOf (test k) 0 first ++ doneIn test (suc k) rest
-
--- What ties a call's stages to what it leaves, and a crash to the stages.
-pub record StagesInOrder : Type 0 where
-  -- a call that returns leaves the flash that all its stages leave, done one after the other
-  pub performed : (w P S : ℕ) (v : Volume) (call : Call) → perform w P S v call .left .flash ≡ applyAll w (v .flash) (flatten (flashStages w P S v call))
-  -- a crash past the last stage leaves all done
-  pub past-last : (stage : ℕ) (done : ℕ → Bool) (stages : List (List Step)) → length stages ≤ stage → cutShort stage done stages ≡ flatten stages
-  -- any crash leaves done exactly the steps that `wasDone` names
-  pub exactly : (stage : ℕ) (done : ℕ → Bool) (stages : List (List Step)) → cutShort stage done stages ≡ doneIn (wasDone stage done) 0 stages
-  -- where a step of a stage was done, every step of each stage before it was
-  pub in-order : (stage : ℕ) (done : ℕ → Bool) (k i j n : ℕ) → wasDone stage done k i ≡ true → j < k → wasDone stage done j n ≡ true
+use Rattle.atomicity.specs.Companions.{doneIn}
 
 -- ---- a call in a run
 
@@ -74,22 +58,6 @@ module _ (w P S : ℕ) (v : Volume) where
   unfolding flashStages
   accepted-stages call e = rw (eq-eqb (perform w P S v call .answer) 0 (performs call ∙ e))
 
-  -- the flash that an accepted call leaves
-  planned-left : (call : Call) → answer-is call ≡ 0 → perform w P S v call .left .flash ≡ applyAll w (v .flash) (flatten (plannedStages v call))
-  unfolding perform withState withFlash answer-is plannedStages flatten applyAll writeChange
-  planned-left (Call.Launch pages) e = refl
-  planned-left (Call.Write page slot bytes) e = ap (λ (o : Outcome Volume). o .left .flash) (write-done w P S v page slot bytes e)
-  planned-left (Call.Withdraw page) e = refl
-  planned-left (Call.Erase slots) e = ap (λ (o : Outcome Flash). o .left) (erase-done w P S v slots e) ∙ ap (applyAll w (v .flash)) (sym (append-nil (eraseSteps slots)))
-  planned-left Call.Recover e = refl
-
-  pub performs-stages : (call : Call) → perform w P S v call .left .flash ≡ applyAll w (v .flash) (flatten (flashStages w P S v call))
-  unfolding flatten applyAll
-  performs-stages call =
-      on-eq (answer-is call) 0
-      (λ e. planned-left call e ∙ ap (λ (l : List (List Step)). applyAll w (v .flash) (flatten l)) (sym (accepted-stages call e)))
-      (λ n. ap (λ (x : Volume). x .flash) (refused-leaves call n) ∙ ap (λ (l : List (List Step)). applyAll w (v .flash) (flatten l)) (sym (refused-stages call n)))
-
 -- ---- steps done
 
 done-all : (i : ℕ) (steps : List Step) → doneOf (λ i. true) i steps ≡ steps
@@ -106,7 +74,7 @@ done-none i (s ∷ steps) = done-none (suc i) steps
 
 module _ (stage : ℕ) (done : ℕ → Bool) where
   -- of a stage before the crash's, of the crash's, and of one behind it
-  done-before : (k : ℕ) → k < stage → wasDone stage done k ≡ (λ i. true)
+  pub done-before : (k : ℕ) → k < stage → wasDone stage done k ≡ (λ i. true)
   unfolding wasDone
   done-before k h = fun-ext (λ i. either-left (eqb k stage && done i) (lt-ltb k stage h))
 
@@ -114,7 +82,7 @@ module _ (stage : ℕ) (done : ℕ → Bool) where
   unfolding wasDone
   done-here k e = fun-ext (λ i. rw (le-ltb k stage (omega arith), eq-eqb k stage e))
 
-  done-behind : (k : ℕ) → stage < k → wasDone stage done k ≡ (λ i. false)
+  pub done-behind : (k : ℕ) → stage < k → wasDone stage done k ≡ (λ i. false)
   unfolding wasDone
   done-behind k h = fun-ext (λ i. rw (le-ltb k stage (omega arith), ne-eqb k stage (λ e. omega arith)))
 
@@ -133,31 +101,10 @@ module _ (stage : ℕ) (done : ℕ → Bool) where
   exactly-from (suc n) k (first ∷ rest) e =
       sym (ap₂ {C = List Step} _++_ (ap (λ (f : ℕ → Bool). doneOf f 0 first) (done-before k (omega arith)) ∙ done-all 0 first) (sym (exactly-from n (suc k) rest (omega arith))))
 
-  cut-exactly : (stages : List (List Step)) → cutShort stage done stages ≡ doneIn (wasDone stage done) 0 stages
+  pub cut-exactly : (stages : List (List Step)) → cutShort stage done stages ≡ doneIn (wasDone stage done) 0 stages
   cut-exactly stages = exactly-from stage 0 stages (omega arith)
 
   -- of one stage alone
   pub cut-one : (steps : List Step) → cutShort stage done (steps ∷ []) ≡ doneOf (wasDone stage done 0) 0 steps
   unfolding doneIn
   cut-one steps = cut-exactly (steps ∷ []) ∙ append-nil (doneOf (wasDone stage done 0) 0 steps)
-
-  cut-in-order : (k i j n : ℕ) → wasDone stage done k i ≡ true → j < k → wasDone stage done j n ≡ true
-  cut-in-order k i j n e h =
-      on-lt stage k
-      (λ l. absurd (never e (ap (λ (f : ℕ → Bool). f i) (done-behind k l))))
-      (λ l. ap (λ (f : ℕ → Bool). f n) (done-before j (omega arith)))
-
-cut-past-last : (stage : ℕ) (done : ℕ → Bool) (stages : List (List Step)) → length stages ≤ stage → cutShort stage done stages ≡ flatten stages
-unfolding cutShort flatten
-cut-past-last stage done [] h = refl
-cut-past-last zero done (first ∷ rest) h = absurd (omega arith)
-cut-past-last (suc stage) done (first ∷ rest) h = ap (λ (l : List Step). first ++ l) (cut-past-last stage done rest (omega arith))
-
-pub stages-in-order : StagesInOrder
-stages-in-order =
-    record {
-      performed = performs-stages;
-      past-last = cut-past-last;
-      exactly = cut-exactly;
-      in-order = cut-in-order;
-    }

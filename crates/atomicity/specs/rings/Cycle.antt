@@ -3,26 +3,26 @@ use Prim.Native.Nat.{ℕ, zero, suc, _+_, _<_}
 use native.Mathlib.Omega.{arith}
 use native.Mathlib.Numerals.{add-one}
 use mathlib.Core.Path.{_≡_, refl, sym, ap, _∙_, subst}
-use mathlib.Core.List.{List, List·Memᴰ}
-use mathlib.Core.Bool.{true, false, not}
+use mathlib.Core.List.{List}
+use mathlib.Core.Bool.{true, not}
 use lib.Dec.{eqb}
 use lib.ListN.{length, getD}
 use borrow.Author.Tests.{lt-ltb, le-ltb}
 use Rattle.bounded.specs.Limits.{noNumber}
-use Rattle.bounded.specs.Choice.{on-lt, never, same-test}
+use Rattle.bounded.specs.Choice.{on-lt, same-test}
 use Rattle.state.specs.declared.PageState.{PageState}
 use Rattle.state.specs.State.{inFlight, isWritten}
 use Rattle.state.specs.StateLaws.{StateFacts}
 use Rattle.state.specs.Cycle.{along, onCycle}
 use Rattle.state.specs.Change.{following}
 use Rattle.state.specs.CycleLaws.{Flies, on-cycle-of, on-cycle-at, on-cycle-sym, on-cycle-trans}
-use Rattle.atomicity.specs.Model.{Entry, pageOf, hasBytes, inRing}
-use Rattle.atomicity.specs.Rings.{pagesOf, inRings, ringOf, IsEntered, RunsRound, RingMatches, RingsMatch}
-use Rattle.atomicity.specs.RingLaws.{in-ring-place, place-in-ring, in-ring-entry, entry-in-ring, one-entry, ring-in-rings, ring-of-page, entered-in-ring}
+use Rattle.atomicity.specs.Model.{Entry, entryPage, inRing}
+use Rattle.atomicity.specs.rings.Match.{pagesOf, inRings, ringOf, IsEntered, RunsRound, RingMatches, RingsMatch}
+use Rattle.atomicity.specs.rings.Laws.{in-ring-place, place-in-ring, entry-in-ring, ring-in-rings, ring-of-page}
 
 -- ---- the following page of a list
 
-pub following-inner : (pages : List ℕ) (i : ℕ) → suc i < length pages → following pages i ≡ getD pages (suc i) 0
+following-inner : (pages : List ℕ) (i : ℕ) → suc i < length pages → following pages i ≡ getD pages (suc i) 0
 unfolding following
 following-inner pages i l = rw (add-one, lt-ltb (suc i) (length pages) l)
 
@@ -43,20 +43,20 @@ module _ (P : ℕ) (st : ℕ → PageState) (ring : List Entry) (runs : RunsRoun
       subst (λ (x : ℕ). Flies P st x) (w .2) (runs .flying (w .0) (w .1))
 
   -- closed under next
-  pub ring-next : (p : ℕ) → inRing p ring ≡ true → inRing (st p .next) ring ≡ true
+  ring-next : (p : ℕ) → inRing p ring ≡ true → inRing (st p .next) ring ≡ true
   ring-next p e =
       let w = in-ring-place p ring e in
       let f = following-place (pagesOf ring) (w .0) (w .1) in
       place-in-ring (st p .next) ring (f .0) (f .1)
       (f .2 ∙ sym (runs .linked (w .0) (w .1)) ∙ ap (λ (x : ℕ). st x .next) (w .2))
 
-  pub ring-along : (p k : ℕ) → inRing p ring ≡ true → inRing (along st p k) ring ≡ true
+  ring-along : (p k : ℕ) → inRing p ring ≡ true → inRing (along st p k) ring ≡ true
   unfolding along
   ring-along p zero e = e
   ring-along p (suc k) e = ring-next (along st p k) (ring-along p k e)
 
   -- the first page's walk is the list
-  pub along-list : (i : ℕ) → i < length (pagesOf ring) → along st (getD (pagesOf ring) 0 0) i ≡ getD (pagesOf ring) i 0
+  along-list : (i : ℕ) → i < length (pagesOf ring) → along st (getD (pagesOf ring) 0 0) i ≡ getD (pagesOf ring) i 0
   unfolding along
   along-list zero l = refl
   along-list (suc i) l =
@@ -64,7 +64,7 @@ module _ (P : ℕ) (st : ℕ → PageState) (ring : List Entry) (runs : RunsRoun
       ∙ runs .linked i (omega arith)
       ∙ following-inner (pagesOf ring) i l
 
-  pub ring-cycle : StateFacts P st → (p : ℕ) → inRing p ring ≡ true → (q : ℕ) → inRing q ring ≡ onCycle P st p q
+  ring-cycle : StateFacts P st → (p : ℕ) → inRing p ring ≡ true → (q : ℕ) → inRing q ring ≡ onCycle P st p q
   ring-cycle sound p e q =
       same-test (inRing q ring) (onCycle P st p q)
       (λ h. on-cycle-trans P st sound p first q (ring-flies p e) (on-cycle-sym P st sound first p flies (from-first p e)) (from-first q h))
@@ -105,7 +105,7 @@ pub ring-same :
     → RingMatches P st′ ring
 ring-same P st st′ ring h m = record {
   runs = runs-same P st st′ (pagesOf ring) (λ i l. ap (λ (s : PageState). s .next) (h (getD (pagesOf ring) i 0) (place-in-ring (getD (pagesOf ring) i 0) ring i l refl))) (m .runs);
-  written = λ e s. ap isWritten (h (pageOf e) (entry-in-ring e ring s)) ∙ m .written e s;
+  written = λ e s. ap isWritten (h (entryPage e) (entry-in-ring e ring s)) ∙ m .written e s;
 }
 
 -- ---- the open rings
@@ -137,41 +137,9 @@ module _ (P : ℕ) (st : ℕ → PageState) (rings : List (List Entry)) (match :
 
   -- ---- what is entered for a page
 
-  pub entered-in-rings : (p : ℕ) (b : List ℕ) → IsEntered rings p b → inRings p rings ≡ true
-  unfolding pageOf
+  entered-in-rings : (p : ℕ) (b : List ℕ) → IsEntered rings p b → inRings p rings ≡ true
+  unfolding entryPage
   entered-in-rings p b w = ring-in-rings p (w .0) rings (w .1) (entry-in-ring (Entry.Entered p b) (w .0) (w .2))
 
   pub entered-flies : (p : ℕ) (b : List ℕ) → IsEntered rings p b → Flies P st p
   entered-flies p b w = rings-fly p (entered-in-rings p b w)
-
-  pub entered-written : (p : ℕ) (b : List ℕ) → IsEntered rings p b → isWritten (st p) ≡ true
-  unfolding pageOf hasBytes
-  entered-written p b w = match .each (w .0) (w .1) .written (Entry.Entered p b) (w .2)
-
-  pub unwritten-not-entered : (p : ℕ) → isWritten (st p) ≡ false → (b : List ℕ) → ¬ IsEntered rings p b
-  unwritten-not-entered p e b w = never (entered-written p b w) e
-
-  pub written-entered : (p : ℕ) → Flies P st p → isWritten (st p) ≡ true → (b : List ℕ) × IsEntered rings p b
-  unfolding pageOf hasBytes
-  written-entered p f e =
-      let r = ring-of-page p rings (match .covered p f) in
-      let w = in-ring-entry p (ringOf p rings) (r .1) in
-      go (w .0) (w .1) (w .2)
-    where
-      go : (x : Entry) → List·Memᴰ x (ringOf p rings) → pageOf x ≡ p → (b : List ℕ) × IsEntered rings p b
-      go (Entry.Empty q) m h =
-          absurd (never (ap (λ (x : ℕ). isWritten (st x)) h ∙ e) (ring-of-matches p f .written (Entry.Empty q) m))
-      go (Entry.Entered q b) m h =
-          (b, (ringOf p rings, ring-of-page p rings (match .covered p f) .0, subst (λ (x : ℕ). List·Memᴰ (Entry.Entered x b) (ringOf p rings)) h m))
-
-  -- one entry at most
-  pub entered-once : (p : ℕ) (b d : List ℕ) → IsEntered rings p b → IsEntered rings p d → b ≡ d
-  unfolding pageOf
-  entered-once p b d v w =
-      let f = entered-flies p b v in
-      let i = match .covered p f in
-      let e : Entry.Entered p b ≡ Entry.Entered p d = one-entry (Entry.Entered p b) (Entry.Entered p d) (ringOf p rings) (ring-of-matches p f .runs .no-repeats)
-      (entered-in-ring p p b rings (match .apart) i (ring-of-has p f) v)
-      (entered-in-ring p p d rings (match .apart) i (ring-of-has p f) w)
-      refl in
-      cc

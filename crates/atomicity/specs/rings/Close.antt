@@ -11,14 +11,14 @@ use Rattle.state.specs.StateLaws.{none-rests, StateFacts}
 use Rattle.state.specs.Cycle.{onCycle}
 use Rattle.state.specs.Change.{atRest, withdrawnPage, withdrawn}
 use Rattle.state.specs.CycleLaws.{Flies}
-use Rattle.atomicity.specs.Model.{Entry, pageOf, inRing, closeRing}
-use Rattle.atomicity.specs.Rings.{ringOf, IsEntered, Apart, RingsMatch}
-use Rattle.atomicity.specs.RingLaws.{entry-in-ring, ring-in-rings, ring-of-page, ring-of-only, close-among, close-keeps, close-clears, close-apart}
-use Rattle.atomicity.specs.RingCycle.{ring-same, ring-of-cycle}
+use Rattle.atomicity.specs.Model.{Entry, entryPage, inRing, closeRing}
+use Rattle.atomicity.specs.rings.Match.{ringOf, IsEntered, Apart, RingsMatch}
+use Rattle.atomicity.specs.rings.Laws.{entry-in-ring, ring-in-rings, ring-of-page, ring-of-only, close-among, close-keeps, close-clears, close-apart}
+use Rattle.atomicity.specs.rings.Cycle.{ring-same, ring-of-cycle}
 
 module _ (P : ℕ) (st : ℕ → PageState) (rings : List (List Entry)) (sound : StateFacts P st) (match : RingsMatch P st rings) (p : ℕ) (f : Flies P st p) where
   -- the rings that stay open have no page of p's cycle
-  pub close-off-cycle : (ring : List Entry) → List·Memᴰ ring (closeRing p rings) → (q : ℕ) → inRing q ring ≡ true → onCycle P st p q ≡ false
+  close-off-cycle : (ring : List Entry) → List·Memᴰ ring (closeRing p rings) → (q : ℕ) → inRing q ring ≡ true → onCycle P st p q ≡ false
   close-off-cycle ring m q e =
       on-test (onCycle P st p q)
       (λ on. absurd (never (ring-in-rings q ring (closeRing p rings) m e)
@@ -26,7 +26,7 @@ module _ (P : ℕ) (st : ℕ → PageState) (rings : List (List Entry)) (sound :
       (λ off. off)
 
   -- a ring with a page off p's cycle stays open
-  pub close-keeps-off :
+  close-keeps-off :
       (ring : List Entry)
       → List·Memᴰ ring rings
       → (q : ℕ)
@@ -52,7 +52,7 @@ module _ (P : ℕ) (st : ℕ → PageState) (rings : List (List Entry)) (sound :
 
   -- what is entered for pages off p's cycle stays
   pub close-entered : (q : ℕ) → onCycle P st p q ≡ false → (d : List ℕ) → IsEntered (closeRing p rings) q d ↔ IsEntered rings q d
-  unfolding pageOf
+  unfolding entryPage
   close-entered q off d = (
     λ w. (w .0, close-among p (w .0) rings (w .1), w .2),
     λ w. (w .0, close-keeps-off (w .0) (w .1) q (entry-in-ring (Entry.Entered q d) (w .0) (w .2)) off, w .2),

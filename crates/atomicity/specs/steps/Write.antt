@@ -28,9 +28,9 @@ use Rattle.protocol.specs.CompletedCore.{core-completed}
 use Rattle.protocol.specs.SameSet.{core-same}
 use Rattle.protocol.specs.WriteSteps.{planned-sound, missing-page, marks-of, completes-with}
 use Rattle.atomicity.specs.Model.{Model, enter}
-use Rattle.atomicity.specs.RingWrite.{write-open-kept, write-open-match, write-open-entered, write-done-own, write-done-cycle, write-done-other, write-done-match, write-done-entered}
-use Rattle.atomicity.specs.Invariant.{Held, Live}
-use Rattle.atomicity.specs.Storing.{store-adds, store-apart}
+use Rattle.atomicity.specs.rings.Write.{write-open-kept, write-open-match, write-open-entered, write-done-own, write-done-cycle, write-done-other, write-done-match, write-done-entered}
+use Rattle.atomicity.specs.steps.Invariant.{Held, Live}
+use Rattle.atomicity.specs.steps.Storing.{store-adds, store-apart}
 
 module _ (w P S : ℕ) (f : Flash) (size : Sized w S f) (st : ℕ → PageState) (m : Model) (l : Live w P S f st m)
     (page slot : ℕ) (bytes : List ℕ) (y : Flies P st page) (unwritten : isWritten (st page) ≡ false)

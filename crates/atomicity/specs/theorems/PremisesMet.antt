@@ -1,45 +1,20 @@
 -- Promise 3 is not empty: every volume that can be formatted has runs, and what may follow a run.
 use Prim.Native.Nat.{ℕ, _*_}
-use mathlib.Core.Path.{_≡_, refl, sym, _∙_}
+use mathlib.Core.Path.{_≡_, refl, _∙_}
 use mathlib.Core.List.{List, [], _∷_, _++_, map}
-use mathlib.Core.Bool.{Bool, true, false, cond, not, _&&_}
-use lib.Dec.{eqb}
+use mathlib.Core.Bool.{Bool, true, false, cond}
 use lib.ListN.{length}
 use borrow.Author.Tests.{eq-eqb}
 use Rattle.bounded.specs.Choice.{both, both-left, both-right, not-yes}
 use Rattle.outcome.specs.Outcome.{settled-answer}
-use Rattle.rules.specs.Volume.{Volume, volumeFits}
+use Rattle.rules.specs.Volume.{Volume}
 use Rattle.rules.specs.laws.Sizes.{Fits, fits-test}
 use Rattle.rules.specs.Format.{formatted, formatAnswer, formatOutcome}
 use Rattle.atomicity.specs.Call.{Call, withState, perform}
 use Rattle.atomicity.specs.Run.{Event, World, isRecover, stillLost, happens, started, after, keepsTo, keepsPremises}
 use Rattle.atomicity.specs.Promise.{Premises}
-use Rattle.atomicity.specs.Atomicity.{own-state}
-
--- a list of events under the premises, with one more event behind it
-abbrev pub MayFollow : (w P S : ℕ) → Volume → List Event → Event → Type 0
-MayFollow w P S v events e = Premises w P S v (events ++ e ∷ [])
-
--- the state is known after the list
-abbrev pub StateKnown : (w P S : ℕ) → Volume → List Event → Type 0
-StateKnown w P S v events = after w P S (started w P S v) events .lost ≡ false
-
--- The premises are met: by every volume whose P, S and lengths are right, before any event; by every list of calls that return; and a list that meets them
--- still does with a crash behind it, with a recover, returned or crashed, and, where the state is known, with any call, returned or crashed.
-pub record PremisesMet : Type 0 where
-  pub at-first : (w P S : ℕ) (v : Volume) → Fits w P S v → Premises w P S v []
-  pub calls : (w P S : ℕ) (v : Volume) → Fits w P S v → (list : List Call) → Premises w P S v (map Event.Returns list)
-  pub crash : (w P S : ℕ) (v : Volume) (events : List Event) → Premises w P S v events → (state : List ℕ) → length state ≡ 4 * P → MayFollow w P S v events (Event.Crash state)
-  pub recover : (w P S : ℕ) (v : Volume) (events : List Event) → Premises w P S v events → MayFollow w P S v events (Event.Returns Call.Recover)
-  pub crashed-recover :
-      (w P S : ℕ) (v : Volume) (events : List Event) → Premises w P S v events
-      → (stage : ℕ) (done : ℕ → Bool) (state : List ℕ) → length state ≡ 4 * P → MayFollow w P S v events (Event.CrashIn Call.Recover stage done state)
-  pub call : (w P S : ℕ) (v : Volume) (events : List Event) → Premises w P S v events → StateKnown w P S v events → (c : Call) → MayFollow w P S v events (Event.Returns c)
-  pub crashed-call :
-      (w P S : ℕ) (v : Volume) (events : List Event) → Premises w P S v events → StateKnown w P S v events
-      → (c : Call) (stage : ℕ) (done : ℕ → Bool) (state : List ℕ) → length state ≡ 4 * P → MayFollow w P S v events (Event.CrashIn c stage done state)
-  -- and behind a recover the state is known
-  pub recover-finds : (w P S : ℕ) (v : Volume) (events : List Event) → Premises w P S v events → StateKnown w P S v (events ++ Event.Returns Call.Recover ∷ [])
+use Rattle.atomicity.specs.Companions.{MayFollow, StateKnown, PremisesMet}
+use Rattle.atomicity.specs.theorems.Promise.{own-state}
 
 module _ (w P S : ℕ) where
   -- ---- event by event

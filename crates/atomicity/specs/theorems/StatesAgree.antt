@@ -1,9 +1,7 @@
--- The paper's InvComm and InvUsed: after every list whose state is known, recovery's committed versions are the state's, and no version that a written
--- or planned record mentions is above the state's used one.
+-- The paper's InvComm and InvUsed hold after every list whose state is known.
 use Prim.Native.Nat.{ℕ, _≤_, _<_}
 use native.Mathlib.Omega.{arith}
 use mathlib.Core.Path.{_≡_, refl, subst}
-use mathlib.Core.List.{List}
 use mathlib.Core.Bool.{Bool, true, false, cond}
 use lib.Dec.{eqb}
 use borrow.Author.Tests.{eqb-true}
@@ -14,32 +12,17 @@ use Rattle.record.specs.declared.Slot.{Slot}
 use Rattle.record.specs.declared.Slot.the-variants.{Blank, Holds}
 use Rattle.record.specs.Slot.{slotAt, bytesAt}
 use Rattle.state.specs.declared.PageState.{PageState}
-use Rattle.state.specs.State.{stateAt, inFlight}
+use Rattle.state.specs.State.{stateAt}
 use Rattle.rules.specs.Volume.{Volume}
 use Rattle.rules.specs.Write.{planOf}
-use Rattle.rules.specs.Recover.{committedOf, mentioned, usedOf}
+use Rattle.rules.specs.Recover.{mentioned, usedOf}
 use Rattle.protocol.specs.Recovers.{committed-found}
-use Rattle.atomicity.specs.Run.{Event, started, after}
+use Rattle.atomicity.specs.Run.{started, after}
 use Rattle.atomicity.specs.Model.{Model, freshModel}
-use Rattle.atomicity.specs.Promise.{modelAfter, Premises}
-use Rattle.atomicity.specs.Invariant.{Live, Holding, known, unknown}
-use Rattle.atomicity.specs.Atomicity.{reached}
-
--- recovery on the flash of this volume would find the state's committed versions, and used versions not above the state's
-pub record Agrees (P S : ℕ) (v : Volume) : Type 0 where
-  pub same-committed : (p : ℕ) → p < P → committedOf P S (slotAt (v .flash .words)) p ≡ stateAt (v .state) p .committed
-  pub used-covers : (p : ℕ) → p < P → usedOf S (slotAt (v .flash .words)) p ≤ stateAt (v .state) p .used
-  -- … nor does the record planned for a page q in flight mention one above them
-  pub planned-covers :
-      (q : ℕ) → q < P → inFlight (stateAt (v .state) q) ≡ true → (p : ℕ) → p < P → mentioned p (Holds (planOf (stateAt (v .state)) q)) ≤ stateAt (v .state) p .used
-
--- after every list under the premises that leaves the state known
-abbrev pub StatesAgree : Type 0
-StatesAgree =
-    (w P S : ℕ) (v : Volume) (events : List Event)
-    → Premises w P S v events
-    → after w P S (started w P S v) events .lost ≡ false
-    → Agrees P S (after w P S (started w P S v) events .volume)
+use Rattle.atomicity.specs.Promise.{modelAfter}
+use Rattle.atomicity.specs.Companions.{Agrees, StatesAgree}
+use Rattle.atomicity.specs.steps.Invariant.{Live, Holding, known, unknown}
+use Rattle.atomicity.specs.theorems.Promise.{reached}
 
 live-agrees : (w P S : ℕ) (v : Volume) (m : Model) → Live w P S (v .flash) (stateAt (v .state)) m → Agrees P S v
 unfolding usedOf mentioned planOf

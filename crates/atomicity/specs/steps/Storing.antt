@@ -16,7 +16,7 @@ use Rattle.record.specs.FlashLaws.{Sized, store-slots, store-bytes}
 use Rattle.table.specs.TableLaws.{blank-holds}
 use Rattle.protocol.specs.View.{NoTwins}
 use Rattle.protocol.specs.Stored.{Adds}
-use Rattle.atomicity.specs.Invariant.{Held}
+use Rattle.atomicity.specs.steps.Invariant.{Held}
 
 -- one slot holds one record
 holds-one : {s : Slot} {a b : Record} → s ≡ Holds a → s ≡ Holds b → a ≡ b

@@ -1,0 +1,6 @@
+-- Promise 3 and its companions, proved.
+pub mod Promise
+pub mod StatesAgree
+pub mod PremisesMet
+pub mod StagesInOrder
+pub mod RunsComputed

@@ -1,0 +1,28 @@
+-- The runs, computed.
+use mathlib.Core.Path.{refl}
+use Rattle.rules.specs.cases.Computing.{computing as rules-computing}
+use Rattle.atomicity.specs.Call.{withState, withFlash, perform, plannedStages, flashStages}
+use Rattle.atomicity.specs.Run.{doneOf, cutShort, wasDone, isRecover, stillLost, happens, started, after, keepsTo, keepsPremises}
+use Rattle.atomicity.specs.Model.{freshModel, entryPage, hasBytes, inRing, allEntered, newRing, enterIn, keep, withRing, settleRing, enter, closeRing, closeAll, accept, learns}
+use Rattle.atomicity.specs.Promise.{toldOfCrash, told, modelAfter}
+use Rattle.atomicity.specs.Runs.{blankBuffers, lostState, every, none, runCompleted, runErased, runPast, runClosed, keptAfter, wordsAfter, RunsComputed}
+
+-- A name for "these definitions compute": a declaration that unfolds it unfolds them all.
+unfoldable computing : Unit {0}
+unfolding rules-computing withState withFlash perform plannedStages flashStages doneOf cutShort wasDone isRecover stillLost happens started after keepsTo keepsPremises freshModel entryPage hasBytes inRing allEntered newRing enterIn keep withRing settleRing enter closeRing closeAll accept learns toldOfCrash told modelAfter
+computing = tt
+
+pub runs-computed : RunsComputed
+unfolding keptAfter wordsAfter blankBuffers runCompleted runErased runPast runClosed lostState every none computing
+runs-computed =
+    record {
+      completed-meets = record { formatted = refl; keeps = refl };
+      completed-keeps = refl;
+      erased-meets = record { formatted = refl; keeps = refl };
+      erased-keeps = refl;
+      erased-leaves = refl;
+      past-meets = record { formatted = refl; keeps = refl };
+      past-keeps = refl;
+      closed-meets = record { formatted = refl; keeps = refl };
+      closed-keeps = refl;
+    }

@@ -1,0 +1,57 @@
+-- A call that returns has done all its stages, and a crash does none of a later stage unless every step of the earlier ones.
+use Prim.Native.Nat.{ℕ, zero, suc, _≤_, _<_}
+use native.Mathlib.Omega.{arith}
+use mathlib.Core.Path.{_≡_, refl, sym, ap, _∙_}
+use mathlib.Core.List.{List, [], _∷_, _++_, append-nil, flatten}
+use mathlib.Core.Bool.{Bool, true}
+use lib.ListN.{length}
+use Rattle.bounded.specs.Choice.{on-eq, on-lt, never}
+use Rattle.outcome.specs.Outcome.{Outcome}
+use Rattle.record.specs.Flash.{Flash, Step, applyAll}
+use Rattle.rules.specs.Volume.{Volume}
+use Rattle.rules.specs.Write.{writeChange}
+use Rattle.rules.specs.Erase.{eraseSteps}
+use Rattle.rules.specs.laws.Outcomes.{write-done, erase-done}
+use Rattle.atomicity.specs.Call.{Call, withState, withFlash, perform, plannedStages, flashStages}
+use Rattle.atomicity.specs.Run.{cutShort, wasDone}
+use Rattle.atomicity.specs.Companions.{StagesInOrder}
+use Rattle.atomicity.specs.steps.Stages.{answer-is, refused-leaves, refused-stages, accepted-stages, done-before, done-behind, cut-exactly}
+
+module _ (w P S : ℕ) (v : Volume) where
+  -- the flash that an accepted call leaves
+  planned-left : (call : Call) → answer-is w P S v call ≡ 0 → perform w P S v call .left .flash ≡ applyAll w (v .flash) (flatten (plannedStages v call))
+  unfolding perform withState withFlash answer-is plannedStages flatten applyAll writeChange
+  planned-left (Call.Launch pages) e = refl
+  planned-left (Call.Write page slot bytes) e = ap (λ (o : Outcome Volume). o .left .flash) (write-done w P S v page slot bytes e)
+  planned-left (Call.Withdraw page) e = refl
+  planned-left (Call.Erase slots) e = ap (λ (o : Outcome Flash). o .left) (erase-done w P S v slots e) ∙ ap (applyAll w (v .flash)) (sym (append-nil (eraseSteps slots)))
+  planned-left Call.Recover e = refl
+
+  -- what any call leaves
+  pub performs-stages : (call : Call) → perform w P S v call .left .flash ≡ applyAll w (v .flash) (flatten (flashStages w P S v call))
+  unfolding flatten applyAll
+  performs-stages call =
+      on-eq (answer-is w P S v call) 0
+      (λ e. planned-left call e ∙ ap (λ (l : List (List Step)). applyAll w (v .flash) (flatten l)) (sym (accepted-stages w P S v call e)))
+      (λ n. ap (λ (x : Volume). x .flash) (refused-leaves w P S v call n) ∙ ap (λ (l : List (List Step)). applyAll w (v .flash) (flatten l)) (sym (refused-stages w P S v call n)))
+
+cut-in-order : (stage : ℕ) (done : ℕ → Bool) (k i j n : ℕ) → wasDone stage done k i ≡ true → j < k → wasDone stage done j n ≡ true
+cut-in-order stage done k i j n e h =
+    on-lt stage k
+    (λ l. absurd (never e (ap (λ (f : ℕ → Bool). f i) (done-behind stage done k l))))
+    (λ l. ap (λ (f : ℕ → Bool). f n) (done-before stage done j (omega arith)))
+
+cut-past-last : (stage : ℕ) (done : ℕ → Bool) (stages : List (List Step)) → length stages ≤ stage → cutShort stage done stages ≡ flatten stages
+unfolding cutShort flatten
+cut-past-last stage done [] h = refl
+cut-past-last zero done (first ∷ rest) h = absurd (omega arith)
+cut-past-last (suc stage) done (first ∷ rest) h = ap (λ (l : List Step). first ++ l) (cut-past-last stage done rest (omega arith))
+
+pub stages-in-order : StagesInOrder
+stages-in-order =
+    record {
+      performed = performs-stages;
+      past-last = cut-past-last;
+      exactly = cut-exactly;
+      in-order = cut-in-order;
+    }
