@@ -14,15 +14,8 @@ impl Group {
     /// Runs a test, which fails by panicking and otherwise says what it saw.
     pub fn test(&mut self, name: &str, body: impl FnOnce() -> String) {
         let start = Instant::now();
-        match catch_unwind(AssertUnwindSafe(body)) {
-            Ok(saw) => {
-                self.passed += 1;
-                println!("ok      {name} ({saw}{}{:.1} s)", if saw.is_empty() { "" } else { "; " }, start.elapsed().as_secs_f32());
-            }
-            Err(panic) => {
-                self.failed += 1;
-                println!("FAILED  {name}: {}", said(&*panic));
-            }
+        if let Some(saw) = self.count(name, body) {
+            println!("ok      {name} ({saw}{}{:.1} s)", if saw.is_empty() { "" } else { "; " }, start.elapsed().as_secs_f32());
         }
     }
 
@@ -32,6 +25,26 @@ impl Group {
             body();
             String::new()
         });
+    }
+
+    /// Runs a test that is told only where it fails.
+    pub fn quiet(&mut self, name: &str, body: impl FnOnce()) {
+        self.count(name, body);
+    }
+
+    /// Counts a test, tells of it where it fails, and gives what it saw where it passes.
+    fn count<T>(&mut self, name: &str, body: impl FnOnce() -> T) -> Option<T> {
+        match catch_unwind(AssertUnwindSafe(body)) {
+            Ok(saw) => {
+                self.passed += 1;
+                Some(saw)
+            }
+            Err(panic) => {
+                self.failed += 1;
+                println!("FAILED  {name}: {}", said(&*panic));
+                None
+            }
+        }
     }
 }
 

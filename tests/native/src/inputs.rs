@@ -1,8 +1,8 @@
 //! Volumes, states and arguments for the calls: reachable, sound, damaged and sheer garbage.
 
-use crate::calls::{NONE, SLOT_WORDS, WIDTH};
+use crate::implementations::reference::Reference;
+use crate::interface::{NONE, SLOT_WORDS, WIDTH};
 use crate::random::Random;
-use crate::reference::Reference;
 use crate::rules::{entry, may_erase, records, set_entry, slot, state_sound, Entry, Record, LAST_VERSION};
 use crate::volume::{Call, Volume};
 

@@ -1,6 +1,6 @@
 //! Document 01's ledger: told the calls, their answers and the crashes, it keeps what each page holds.
 
-use crate::calls::WIDTH;
+use crate::interface::WIDTH;
 use crate::volume::Call;
 
 type Bytes = [u8; WIDTH];

@@ -1,6 +1,6 @@
 //! Document 01's definitions on plain slices: records, the state, what may be erased, how recovery follows links.
 
-use crate::calls::{NONE, PAGE_WORDS, SLOT_WORDS, WIDTH};
+use crate::interface::{NONE, PAGE_WORDS, SLOT_WORDS, WIDTH};
 
 /// The highest version there is.
 pub const LAST_VERSION: u32 = 4_294_967_294;

@@ -1,6 +1,6 @@
 //! A volume with its state, and the calls that a run makes on it.
 
-use crate::calls::{Calls, Reply, NONE, PAGE_WORDS, SLOT_WORDS, WIDTH};
+use crate::interface::{Calls, Reply, NONE, PAGE_WORDS, SLOT_WORDS, WIDTH};
 use crate::rules::slot;
 
 /// A call of a run, with its arguments.

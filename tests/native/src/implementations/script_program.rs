@@ -1,6 +1,6 @@
 //! Document 01's script program over the calls: one call a line, decimal numbers, what each prints.
 
-use crate::calls::{Calls, NONE, WIDTH};
+use crate::interface::{Calls, NONE, WIDTH};
 use crate::rules::{entry, lowest_slot};
 use crate::volume::{Call, Volume};
 use std::io::{BufRead, Read, Write};

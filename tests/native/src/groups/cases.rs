@@ -1,8 +1,27 @@
-//! Document 01's table of cases, by the calls.
+//! Document 01's table of cases, by the implementation under test and by the second one.
 
-use crate::calls::{Calls, Reply, SLOT_WORDS, WIDTH};
+use crate::harness::Group;
+use crate::implementations::reference::Reference;
+use crate::implementations::TESTED;
+use crate::interface::{Calls, Reply, SLOT_WORDS, WIDTH};
 use crate::rules::{entry, records, set_entry, Entry};
 use crate::volume::{Call, Volume};
+
+pub fn tests(group: &mut Group) {
+    type Case = (&'static str, fn(&dyn Calls));
+    let all: [Case; 6] = [
+        ("cases 1 to 5 and 11: what recovery finds", recoveries),
+        ("cases 9 and 10: what recovery refuses", refused_recoveries),
+        ("cases 6 to 8: needed straddlers", needed_straddlers),
+        ("case 12: the last version", last_version),
+        ("sizes", sizes),
+        ("a transaction all written", all_written),
+    ];
+    for (name, case) in all {
+        group.plain(name, || case(TESTED));
+        group.plain(&format!("{name}, second implementation"), || case(&Reference));
+    }
+}
 
 type Five = [u32; SLOT_WORDS];
 
@@ -25,7 +44,7 @@ fn case_4() -> Vec<Five> {
 }
 
 /// Cases 1 to 5 and 11: what recovery finds.
-pub fn recoveries(calls: &dyn Calls) {
+fn recoveries(calls: &dyn Calls) {
     let two = [[0, 1, 0, 1, 1]];
     let three = [two[0], [1, 1, 0, 0, 1]];
     let five = [[0, 1, 0, 1, 1], [1, 2, 1, 2, 1], [2, 1, 0, 1, 2]];
@@ -40,7 +59,7 @@ pub fn recoveries(calls: &dyn Calls) {
 }
 
 /// Cases 9 and 10: what recovery refuses, its state untouched.
-pub fn refused_recoveries(calls: &dyn Calls) {
+fn refused_recoveries(calls: &dyn Calls) {
     let nine = [[0, 1, 0, 1, 1], [1, 1, 0, 2, 1], [2, 1, 0, 1, 1]];
     let ten = [[0, 2, 1, 1, 5], [1, 0, 0, 1, 0]];
     for (name, pages, held, answer) in [("case 9", 3, &nine[..], 4), ("case 10", 2, &ten[..], 14)] {
@@ -67,7 +86,7 @@ fn slot_of(v: &Volume, five: Five) -> u32 {
 }
 
 /// Cases 6, 7 and 8: a needed straddler stays until the exposed record that needs it is gone.
-pub fn needed_straddlers(calls: &dyn Calls) {
+fn needed_straddlers(calls: &dyn Calls) {
     let v = case_6(calls);
     let straddler = slot_of(&v, [1, 2, 0, 2, 1]);
     let exposed = slot_of(&v, [0, 1, 0, 1, 1]);
@@ -85,7 +104,7 @@ pub fn needed_straddlers(calls: &dyn Calls) {
 }
 
 /// Case 12: the last version there is.
-pub fn last_version(calls: &dyn Calls) {
+fn last_version(calls: &dyn Calls) {
     for committed in [0, 1, 4_294_967_292, 4_294_967_293] {
         let mut v = Volume::formatted(calls, 2, 4);
         let used = 4_294_967_293;
@@ -97,7 +116,7 @@ pub fn last_version(calls: &dyn Calls) {
 }
 
 /// The sizes below the table of cases.
-pub fn sizes(calls: &dyn Calls) {
+fn sizes(calls: &dyn Calls) {
     for (pages, slots, answer) in [(0, 4, 1), (257, 1024, 1), (2, 1025, 1), (3, 2, 1), (256, 1024, 0), (256, 256, 0), (1, 1, 0)] {
         let mut v = Volume::zeroed(pages, slots);
         assert_eq!(calls.format(pages, slots, &mut v.words, &mut v.contents, &mut v.state).answer, answer, "P={pages} S={slots}");
@@ -105,7 +124,7 @@ pub fn sizes(calls: &dyn Calls) {
 }
 
 /// A transaction all of whose pages are already written: each write is 10, and withdraw ends it.
-pub fn all_written(calls: &dyn Calls) {
+fn all_written(calls: &dyn Calls) {
     let mut v = Volume::formatted(calls, 3, 6);
     for (page, next) in [(0, 1), (1, 0)] {
         set_entry(&mut v.state, page, Entry { committed: 0, used: 1, next, written: 1 });

@@ -1,8 +1,8 @@
 //! The second implementation under the C library's nine names.
 #![allow(clippy::missing_safety_doc)]
 
-use crate::calls::Calls;
-use crate::reference::Reference;
+use crate::implementations::reference::Reference;
+use crate::interface::Calls;
 use std::slice::{from_raw_parts, from_raw_parts_mut};
 
 /// A buffer that C lends to be read; of length 0 it may be NULL.

@@ -1,8 +1,8 @@
 //! The calls compared on all tables and all states of small kinds.
 
-use crate::calls::{Calls, NONE, PAGE_WORDS, SLOT_WORDS, WIDTH};
-use crate::compare::Compared;
-use crate::reference::Reference;
+use crate::implementations::compared::Compared;
+use crate::implementations::reference::Reference;
+use crate::interface::{Calls, NONE, PAGE_WORDS, SLOT_WORDS, WIDTH};
 use crate::rules::Record;
 use crate::volume::Volume;
 

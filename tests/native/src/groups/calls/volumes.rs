@@ -1,9 +1,9 @@
 //! The nine calls, the implementation under test against the second one, on many inputs.
 
-use crate::calls::{Calls, Reply, WIDTH};
-use crate::compare::Compared;
 use crate::harness::said;
+use crate::implementations::compared::Compared;
 use crate::inputs;
+use crate::interface::{Calls, Reply, WIDTH};
 use crate::random::Random;
 use crate::volume::Volume;
 use std::panic::{catch_unwind, AssertUnwindSafe};

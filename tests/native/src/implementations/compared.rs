@@ -1,8 +1,8 @@
 //! Calls made twice, by the implementation under test and by the second one: same answer, same second number, same buffers,
 //! nothing touched beside them.
 
-use crate::calls::{Calls, Reply, NONE};
-use crate::reference::Reference;
+use crate::implementations::reference::Reference;
+use crate::interface::{Calls, Reply, NONE};
 use crate::rules::may_erase;
 use std::cell::RefCell;
 use std::collections::BTreeMap;

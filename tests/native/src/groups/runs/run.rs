@@ -1,8 +1,8 @@
 //! Promise 3 by trial: random lists of calls and crashes from a formatted volume, each prefix checked against the ledger, and at
 //! each call every crash that it may meet.
 
-use crate::calls::{Calls, NONE, WIDTH};
 use crate::harness::said;
+use crate::interface::{Calls, NONE, WIDTH};
 use crate::ledger::Ledger;
 use crate::random::Random;
 use crate::rules::{entry, may_erase, slot};

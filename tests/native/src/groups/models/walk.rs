@@ -1,7 +1,7 @@
 //! The paper's models walked whole (section 4.3, appendix B): every state that its actions reach, breadth first, each action
 //! done by the calls, each invariant checked, each permission compared with the listing's own operators.
 
-use crate::calls::{Calls, NONE, PAGE_WORDS, SLOT_WORDS, WIDTH};
+use crate::interface::{Calls, NONE, PAGE_WORDS, SLOT_WORDS, WIDTH};
 use crate::rules::{entry, records, set_slot, slot, Record};
 use std::collections::HashSet;
 

@@ -1,6 +1,6 @@
 //! The second implementation of the nine calls, written from document 01 for clarity and not for speed.
 
-use crate::calls::{Calls, Reply, NONE, WIDTH};
+use crate::interface::{Calls, Reply, NONE, WIDTH};
 use crate::rules::{
     contents_fit, cycle, entry, follow, list_wrong, lowest_slot, may_erase, records, set_entry, set_slot, sizes_fit, slot, state_fits,
     state_sound, table_sound, words_fit, End, Entry, Record, LAST_VERSION,

@@ -1,6 +1,6 @@
 //! The C library through include/bpcc.h's boundary.
 
-use crate::calls::{Calls, Reply};
+use crate::interface::{Calls, Reply};
 
 mod c {
     #[link(name = "bpcc", kind = "static")]

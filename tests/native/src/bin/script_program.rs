@@ -1,7 +1,8 @@
 //! The second implementation's script program: standard input to standard output.
 
+use native::implementations::{reference::Reference, script_program};
 use std::io::{stdin, stdout, BufWriter};
 
 fn main() -> std::io::Result<()> {
-    native::script::run_through(&native::reference::Reference, stdin().lock(), BufWriter::new(stdout().lock()))
+    script_program::run_through(&Reference, stdin().lock(), BufWriter::new(stdout().lock()))
 }

@@ -1,7 +1,7 @@
 //! Implementations that are wrong in one way each, as document 01 names them: the tests must tell every one from a right one.
 
-use crate::calls::{Calls, Reply, NONE, WIDTH};
-use crate::reference::Reference;
+use crate::implementations::reference::Reference;
+use crate::interface::{Calls, Reply, NONE, WIDTH};
 use crate::rules::{cycle, entry, may_erase, records, set_entry, set_slot, slot, Entry, Record};
 
 macro_rules! faults {

@@ -1,0 +1,23 @@
+//! The groups of tests, a file for each; what a group needs besides is in the folder of its name.
+
+pub mod calls;
+pub mod cases;
+pub mod impostors;
+pub mod models;
+pub mod runs;
+pub mod scripts;
+
+use crate::harness::Group;
+
+/// A group's tests, counted.
+pub type Tests = fn(&mut Group);
+
+/// Every group by its name, in the order in which they run.
+pub const GROUPS: [(&str, Tests); 6] = [
+    ("cases", cases::tests),
+    ("calls", calls::tests),
+    ("runs", runs::tests),
+    ("models", models::tests),
+    ("scripts", scripts::tests),
+    ("impostors", impostors::tests),
+];

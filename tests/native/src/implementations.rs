@@ -1,0 +1,19 @@
+//! What has the interface: the C library, the second implementation, both side by side, and wrong ones.
+
+pub mod compared;
+#[cfg(feature = "exports")]
+pub mod exports;
+pub mod impostors;
+#[cfg(feature = "library")]
+pub mod library;
+pub mod reference;
+pub mod script_program;
+
+use crate::interface::Calls;
+#[cfg(feature = "library")]
+use library::Library as Tested;
+#[cfg(not(feature = "library"))]
+use reference::Reference as Tested;
+
+/// The implementation under test: the C library with the feature `library`, else the second implementation itself.
+pub const TESTED: &dyn Calls = &Tested;
