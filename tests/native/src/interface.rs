@@ -1,4 +1,6 @@
-//! The nine calls as one interface, which the second implementation and the C library both have.
+//! The calls as one interface: which there are, what each takes, and what each gives back.
+
+use std::fmt;
 
 /// 4,294,967,295: a word of a blank slot, "not in flight", and the slot that a refused suggest names.
 pub const NONE: u32 = u32::MAX;
@@ -11,6 +13,70 @@ pub const SLOT_WORDS: usize = 5;
 
 /// Words of a page in the state (document 01: sheet).
 pub const PAGE_WORDS: usize = 4;
+
+/// Hands the calls to a macro, a row for each: its name, its name in C, and what it takes in the order of include/bpcc.h. A name in
+/// brackets is a buffer, in C a pointer and then a length.
+macro_rules! calls {
+    ($to:ident) => {
+        $to! {
+            Format   bpcc_format   (pages, slots, [words], [contents], [state])
+            Launch   bpcc_launch   (pages, slots, [state], [list])
+            Write    bpcc_write    (pages, slots, [words], [contents], [state], page, slot, [bytes])
+            Withdraw bpcc_withdraw (pages, slots, [state], page)
+            Erase    bpcc_erase    (pages, slots, [words], [contents], [state], [list])
+            Suggest  bpcc_suggest  (pages, slots, [words], [state])
+            Recover  bpcc_recover  (pages, slots, [words], [state])
+            Count    bpcc_count    ([bytes])
+            Read     bpcc_read     (pages, slots, [words], [contents], [state], page, [out])
+        }
+    };
+}
+#[cfg(any(feature = "library", feature = "exports"))]
+pub(crate) use calls;
+
+/// What calls take: numbers, and buffers that they are lent. A call takes those of its row and leaves the others alone.
+#[derive(Default)]
+pub struct Arguments<'a> {
+    pub pages: u32,
+    pub slots: u32,
+    pub words: &'a mut [u32],
+    pub contents: &'a mut [u8],
+    pub state: &'a mut [u32],
+    pub page: u32,
+    pub slot: u32,
+    pub list: &'a [u32],
+    pub bytes: &'a [u8],
+    pub out: &'a mut [u8],
+}
+
+macro_rules! names {
+    ($($name:ident $c:ident $takes:tt)*) => {
+        /// Which call.
+        #[derive(Clone, Copy, Debug, PartialEq, Eq, PartialOrd, Ord)]
+        pub enum Name {
+            $($name,)*
+        }
+
+        impl Name {
+            pub const ALL: &'static [Name] = &[$(Name::$name,)*];
+
+            pub fn in_c(self) -> &'static str {
+                match self {
+                    $(Name::$name => stringify!($c),)*
+                }
+            }
+        }
+    };
+}
+
+calls!(names);
+
+/// As in C, without the library's own prefix.
+impl fmt::Display for Name {
+    fn fmt(&self, f: &mut fmt::Formatter) -> fmt::Result {
+        f.write_str(self.in_c().trim_start_matches("bpcc_"))
+    }
+}
 
 /// What a call gives back besides its buffers: the answer and the second number.
 #[derive(Clone, Copy, Debug, PartialEq, Eq)]
@@ -38,26 +104,7 @@ impl Reply {
     }
 }
 
-/// The calls, parameters in the order of include/bpcc.h.
-#[allow(clippy::too_many_arguments)]
+/// An implementation of the calls.
 pub trait Calls {
-    fn format(&self, pages: u32, slots: u32, words: &mut [u32], contents: &mut [u8], state: &mut [u32]) -> Reply;
-    fn launch(&self, pages: u32, slots: u32, state: &mut [u32], list: &[u32]) -> Reply;
-    fn write(
-        &self,
-        pages: u32,
-        slots: u32,
-        words: &mut [u32],
-        contents: &mut [u8],
-        state: &mut [u32],
-        page: u32,
-        slot: u32,
-        bytes: &[u8],
-    ) -> Reply;
-    fn withdraw(&self, pages: u32, slots: u32, state: &mut [u32], page: u32) -> Reply;
-    fn erase(&self, pages: u32, slots: u32, words: &mut [u32], contents: &mut [u8], state: &[u32], list: &[u32]) -> Reply;
-    fn suggest(&self, pages: u32, slots: u32, words: &[u32], state: &[u32]) -> Reply;
-    fn recover(&self, pages: u32, slots: u32, words: &[u32], state: &mut [u32]) -> Reply;
-    fn count(&self, bytes: &[u8]) -> Reply;
-    fn read(&self, pages: u32, slots: u32, words: &[u32], contents: &[u8], state: &[u32], page: u32, out: &mut [u8]) -> Reply;
+    fn call(&self, name: Name, arguments: &mut Arguments) -> Reply;
 }

@@ -140,6 +140,12 @@ pub fn cycle(state: &[u32], page: u32) -> Vec<u32> {
     pages
 }
 
+/// The record that a page in flight is to store: v = used of the page, c = its committed, np = its next, nv = used of np.
+pub fn planned(state: &[u32], page: u32) -> Record {
+    let e = entry(state, page);
+    Record { p: page, v: e.used, c: e.committed, np: e.next, nv: entry(state, e.next).used }
+}
+
 /// "An obsolete K is needed if no record has the same page and c with a higher v, and some exposed record's link is straddled by K."
 fn is_needed(table: &[(u32, Record)], state: &[u32], k: Record) -> bool {
     let exposed = |r: Record| r.v > entry(state, r.p).committed;

@@ -1,6 +1,6 @@
 //! A volume with its state, and the calls that a run makes on it.
 
-use crate::interface::{Calls, Reply, NONE, PAGE_WORDS, SLOT_WORDS, WIDTH};
+use crate::interface::{Arguments, Calls, Name, Reply, NONE, PAGE_WORDS, SLOT_WORDS, WIDTH};
 use crate::rules::slot;
 
 /// A call of a run, with its arguments.
@@ -37,9 +37,13 @@ impl Volume {
     /// A freshly formatted volume.
     pub fn formatted(calls: &dyn Calls, pages: u32, slots: u32) -> Volume {
         let mut v = Volume::zeroed(pages, slots);
-        let reply = calls.format(pages, slots, &mut v.words, &mut v.contents, &mut v.state);
-        assert_eq!(reply, Reply::done(0), "format of {pages} pages and {slots} slots");
+        assert_eq!(v.format(calls), Reply::done(0), "format of {pages} pages and {slots} slots");
         v
+    }
+
+    /// A copy of what a call is lent.
+    pub fn copied(a: &Arguments) -> Volume {
+        Volume { pages: a.pages, slots: a.slots, words: a.words.to_vec(), contents: a.contents.to_vec(), state: a.state.to_vec() }
     }
 
     /// A volume with the given records in its lowest slots, the other slots blank, and the state lost.
@@ -55,21 +59,33 @@ impl Volume {
         v
     }
 
+    /// The volume lent to a call, the call's own arguments left out.
+    pub fn arguments(&mut self) -> Arguments<'_> {
+        let Volume { pages, slots, words, contents, state } = self;
+        Arguments { pages: *pages, slots: *slots, words, contents, state, ..Arguments::default() }
+    }
+
     pub fn call(&mut self, calls: &dyn Calls, call: &Call) -> Reply {
-        let (p, s) = (self.pages, self.slots);
-        match call {
-            Call::Launch(list) => calls.launch(p, s, &mut self.state, list),
-            Call::Write { page, slot, bytes } => {
-                calls.write(p, s, &mut self.words, &mut self.contents, &mut self.state, *page, *slot, bytes)
-            }
-            Call::Withdraw(page) => calls.withdraw(p, s, &mut self.state, *page),
-            Call::Erase(list) => calls.erase(p, s, &mut self.words, &mut self.contents, &self.state, list),
-            Call::Recover => calls.recover(p, s, &self.words, &mut self.state),
+        let volume = self.arguments();
+        match *call {
+            Call::Launch(ref list) => calls.call(Name::Launch, &mut Arguments { list, ..volume }),
+            Call::Write { page, slot, ref bytes } => calls.call(Name::Write, &mut Arguments { page, slot, bytes, ..volume }),
+            Call::Withdraw(page) => calls.call(Name::Withdraw, &mut Arguments { page, ..volume }),
+            Call::Erase(ref list) => calls.call(Name::Erase, &mut Arguments { list, ..volume }),
+            Call::Recover => calls.call(Name::Recover, &mut { volume }),
         }
     }
 
-    pub fn read(&self, calls: &dyn Calls, page: u32, out: &mut [u8]) -> Reply {
-        calls.read(self.pages, self.slots, &self.words, &self.contents, &self.state, page, out)
+    pub fn format(&mut self, calls: &dyn Calls) -> Reply {
+        calls.call(Name::Format, &mut self.arguments())
+    }
+
+    pub fn suggest(&mut self, calls: &dyn Calls) -> Reply {
+        calls.call(Name::Suggest, &mut self.arguments())
+    }
+
+    pub fn read(&mut self, calls: &dyn Calls, page: u32, out: &mut [u8]) -> Reply {
+        calls.call(Name::Read, &mut Arguments { page, out, ..self.arguments() })
     }
 
     /// The blank slots, rising.

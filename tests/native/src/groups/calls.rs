@@ -1,4 +1,4 @@
-//! The nine calls against the second implementation.
+//! The calls against the second implementation.
 
 pub mod exhaustive;
 pub mod volumes;
@@ -6,6 +6,7 @@ pub mod volumes;
 use crate::harness::Group;
 use crate::implementations::compared::Compared;
 use crate::implementations::TESTED;
+use crate::interface::Name;
 
 pub fn tests(group: &mut Group) {
     let compared = Compared::new(TESTED);
@@ -14,11 +15,11 @@ pub fn tests(group: &mut Group) {
     }
     group.test("each answer of each call seen at least 100 times, and no other", || {
         volumes::assert_all_seen(&compared);
-        let counts = |(call, answers): (&str, &[u32])| {
-            let seen: Vec<String> = answers.iter().map(|&a| format!("{a}: {}", compared.seen(call, a))).collect();
+        let counts = |&call: &Name| {
+            let seen: Vec<String> = volumes::answers(call).iter().map(|&a| format!("{a}: {}", compared.seen(call, a))).collect();
             format!("\n          {call} {}", seen.join(", "))
         };
-        volumes::ANSWERS.map(counts).concat()
+        Name::ALL.iter().map(counts).collect()
     });
     group.plain("format at the limits of the sizes", || volumes::compare_sizes(&compared));
     group.plain("count of every bit and every byte", || volumes::compare_counts(&compared));

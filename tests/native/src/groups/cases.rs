@@ -119,7 +119,7 @@ fn last_version(calls: &dyn Calls) {
 fn sizes(calls: &dyn Calls) {
     for (pages, slots, answer) in [(0, 4, 1), (257, 1024, 1), (2, 1025, 1), (3, 2, 1), (256, 1024, 0), (256, 256, 0), (1, 1, 0)] {
         let mut v = Volume::zeroed(pages, slots);
-        assert_eq!(calls.format(pages, slots, &mut v.words, &mut v.contents, &mut v.state).answer, answer, "P={pages} S={slots}");
+        assert_eq!(v.format(calls).answer, answer, "P={pages} S={slots}");
     }
 }
 

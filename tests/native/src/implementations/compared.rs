@@ -1,8 +1,8 @@
 //! Calls made twice, by the implementation under test and by the second one: same answer, same second number, same buffers,
 //! nothing touched beside them.
 
-use crate::implementations::reference::Reference;
-use crate::interface::{Calls, Reply, NONE};
+use super::reference::Reference;
+use crate::interface::{Arguments, Calls, Name, Reply, NONE};
 use crate::rules::may_erase;
 use std::cell::RefCell;
 use std::collections::BTreeMap;
@@ -40,17 +40,67 @@ impl<T: Element> Guarded<T> {
     }
 
     /// The buffer is as expected, and the guards stand.
-    fn assert_is(&self, expected: &[T], call: &str, name: &str) {
+    fn assert_is(&self, expected: &[T], call: Name, name: &str) {
         assert!(self.all[GUARDS..GUARDS + self.length] == *expected, "{call} leaves other {name}");
         let outside = self.all[..GUARDS].iter().chain(&self.all[GUARDS + self.length..]);
         assert!(outside.into_iter().all(|&x| x == T::GUARD), "{call} alters what lies beside {name}");
     }
 }
 
+/// A guarded copy of every buffer that a call is lent.
+struct Copies {
+    words: Guarded<u32>,
+    contents: Guarded<u8>,
+    state: Guarded<u32>,
+    list: Guarded<u32>,
+    bytes: Guarded<u8>,
+    out: Guarded<u8>,
+}
+
+impl Copies {
+    fn new(a: &Arguments) -> Copies {
+        Copies {
+            words: Guarded::new(a.words),
+            contents: Guarded::new(a.contents),
+            state: Guarded::new(a.state),
+            list: Guarded::new(a.list),
+            bytes: Guarded::new(a.bytes),
+            out: Guarded::new(a.out),
+        }
+    }
+
+    /// The arguments with the copies in place of the buffers.
+    fn lent(&mut self, a: &Arguments) -> Arguments<'_> {
+        let &Arguments { pages, slots, page, slot, .. } = a;
+        Arguments {
+            pages,
+            slots,
+            page,
+            slot,
+            words: self.words.lent(),
+            contents: self.contents.lent(),
+            state: self.state.lent(),
+            list: self.list.lent(),
+            bytes: self.bytes.lent(),
+            out: self.out.lent(),
+        }
+    }
+
+    /// The copies are as the buffers.
+    fn assert_are(&self, a: &Arguments, call: Name) {
+        self.words.assert_is(a.words, call, "words");
+        self.contents.assert_is(a.contents, call, "contents");
+        self.state.assert_is(a.state, call, "state");
+        self.list.assert_is(a.list, call, "list");
+        self.bytes.assert_is(a.bytes, call, "bytes");
+        self.out.assert_is(a.out, call, "out");
+    }
+}
+
 /// The implementation under test beside the second one; it counts the answers that each call gave.
 pub struct Compared<'a> {
     tested: &'a dyn Calls,
-    seen: RefCell<BTreeMap<(&'static str, u32, u32), u64>>,
+    seen: RefCell<BTreeMap<(Name, u32, u32), u64>>,
 }
 
 impl<'a> Compared<'a> {
@@ -59,132 +109,49 @@ impl<'a> Compared<'a> {
     }
 
     /// How often a call gave an answer.
-    pub fn seen(&self, call: &str, answer: u32) -> u64 {
+    pub fn seen(&self, call: Name, answer: u32) -> u64 {
         self.seen.borrow().iter().filter(|((c, a, _), _)| *c == call && *a == answer).map(|(_, n)| n).sum()
     }
 
     /// How often an accepted call gave a second number.
-    pub fn seen_second(&self, call: &'static str, second: u32) -> u64 {
+    pub fn seen_second(&self, call: Name, second: u32) -> u64 {
         self.seen.borrow().get(&(call, 0, second)).copied().unwrap_or(0)
     }
 
     /// The answers that a call gave.
-    pub fn answers(&self, call: &str) -> Vec<u32> {
+    pub fn answers(&self, call: Name) -> Vec<u32> {
         let mut answers: Vec<u32> = self.seen.borrow().keys().filter(|(c, _, _)| *c == call).map(|(_, a, _)| *a).collect();
         answers.dedup();
         answers
     }
-
-    fn note(&self, call: &'static str, got: Reply) -> Reply {
-        *self.seen.borrow_mut().entry((call, got.answer, got.second)).or_default() += 1;
-        got
-    }
-
-    fn same(&self, call: &'static str, got: Reply, expected: Reply) -> Reply {
-        assert!(got == expected, "{call} gives {got:?} for {expected:?}");
-        self.note(call, got)
-    }
 }
 
 impl Calls for Compared<'_> {
-    fn format(&self, pages: u32, slots: u32, words: &mut [u32], contents: &mut [u8], state: &mut [u32]) -> Reply {
-        let (mut w, mut c, mut s) = (Guarded::new(words), Guarded::new(contents), Guarded::new(state));
-        let got = self.tested.format(pages, slots, w.lent(), c.lent(), s.lent());
-        let expected = Reference.format(pages, slots, words, contents, state);
-        w.assert_is(words, "format", "words");
-        c.assert_is(contents, "format", "contents");
-        s.assert_is(state, "format", "state");
-        self.same("format", got, expected)
-    }
-
-    fn launch(&self, pages: u32, slots: u32, state: &mut [u32], list: &[u32]) -> Reply {
-        let (mut s, mut l) = (Guarded::new(state), Guarded::new(list));
-        let got = self.tested.launch(pages, slots, s.lent(), l.lent());
-        let expected = Reference.launch(pages, slots, state, list);
-        s.assert_is(state, "launch", "state");
-        l.assert_is(list, "launch", "list");
-        self.same("launch", got, expected)
-    }
-
-    fn write(
-        &self,
-        pages: u32,
-        slots: u32,
-        words: &mut [u32],
-        contents: &mut [u8],
-        state: &mut [u32],
-        page: u32,
-        slot: u32,
-        bytes: &[u8],
-    ) -> Reply {
-        let (mut w, mut c, mut s, mut b) = (Guarded::new(words), Guarded::new(contents), Guarded::new(state), Guarded::new(bytes));
-        let got = self.tested.write(pages, slots, w.lent(), c.lent(), s.lent(), page, slot, b.lent());
-        let expected = Reference.write(pages, slots, words, contents, state, page, slot, bytes);
-        w.assert_is(words, "write", "words");
-        c.assert_is(contents, "write", "contents");
-        s.assert_is(state, "write", "state");
-        b.assert_is(bytes, "write", "bytes");
-        self.same("write", got, expected)
-    }
-
-    fn withdraw(&self, pages: u32, slots: u32, state: &mut [u32], page: u32) -> Reply {
-        let mut s = Guarded::new(state);
-        let got = self.tested.withdraw(pages, slots, s.lent(), page);
-        let expected = Reference.withdraw(pages, slots, state, page);
-        s.assert_is(state, "withdraw", "state");
-        self.same("withdraw", got, expected)
-    }
-
-    fn erase(&self, pages: u32, slots: u32, words: &mut [u32], contents: &mut [u8], state: &[u32], list: &[u32]) -> Reply {
-        let (mut w, mut c, mut s, mut l) = (Guarded::new(words), Guarded::new(contents), Guarded::new(state), Guarded::new(list));
-        let got = self.tested.erase(pages, slots, w.lent(), c.lent(), s.lent(), l.lent());
-        let expected = Reference.erase(pages, slots, words, contents, state, list);
-        w.assert_is(words, "erase", "words");
-        c.assert_is(contents, "erase", "contents");
-        s.assert_is(state, "erase", "state");
-        l.assert_is(list, "erase", "list");
-        self.same("erase", got, expected)
-    }
-
-    /// The slot that an accepted suggest names is free: it may be erased.
-    fn suggest(&self, pages: u32, slots: u32, words: &[u32], state: &[u32]) -> Reply {
-        let (mut w, mut s) = (Guarded::new(words), Guarded::new(state));
-        let got = self.tested.suggest(pages, slots, w.lent(), s.lent());
-        let expected = Reference.suggest(pages, slots, words, state);
-        w.assert_is(words, "suggest", "words");
-        s.assert_is(state, "suggest", "state");
-        if got.answer == 0 && expected.answer == 0 {
-            assert!(got.second < slots && may_erase(words, state, got.second), "suggest names slot {}", got.second);
-            return self.note("suggest", got);
+    fn call(&self, name: Name, a: &mut Arguments) -> Reply {
+        let mut copies = Copies::new(a);
+        let got = self.tested.call(name, &mut copies.lent(a));
+        let expected = Reference.call(name, a);
+        copies.assert_are(a, name);
+        if name == Name::Suggest {
+            assert_suggested(a, got, expected);
+        } else {
+            assert_same(name, got, expected);
         }
+        *self.seen.borrow_mut().entry((name, got.answer, got.second)).or_default() += 1;
+        got
+    }
+}
+
+fn assert_same(name: Name, got: Reply, expected: Reply) {
+    assert!(got == expected, "{name} gives {got:?} for {expected:?}");
+}
+
+/// The slot that an accepted suggest names is free: it may be erased.
+fn assert_suggested(a: &Arguments, got: Reply, expected: Reply) {
+    if got.answer == 0 && expected.answer == 0 {
+        assert!(got.second < a.slots && may_erase(a.words, a.state, got.second), "suggest names slot {}", got.second);
+    } else {
         assert!(got.answer == 0 || got.second == NONE, "a refused suggest names slot {}", got.second);
-        self.same("suggest", got, expected)
-    }
-
-    fn recover(&self, pages: u32, slots: u32, words: &[u32], state: &mut [u32]) -> Reply {
-        let (mut w, mut s) = (Guarded::new(words), Guarded::new(state));
-        let got = self.tested.recover(pages, slots, w.lent(), s.lent());
-        let expected = Reference.recover(pages, slots, words, state);
-        w.assert_is(words, "recover", "words");
-        s.assert_is(state, "recover", "state");
-        self.same("recover", got, expected)
-    }
-
-    fn count(&self, bytes: &[u8]) -> Reply {
-        let mut b = Guarded::new(bytes);
-        let got = self.tested.count(b.lent());
-        b.assert_is(bytes, "count", "bytes");
-        self.same("count", got, Reference.count(bytes))
-    }
-
-    fn read(&self, pages: u32, slots: u32, words: &[u32], contents: &[u8], state: &[u32], page: u32, out: &mut [u8]) -> Reply {
-        let (mut w, mut c, mut s, mut o) = (Guarded::new(words), Guarded::new(contents), Guarded::new(state), Guarded::new(out));
-        let got = self.tested.read(pages, slots, w.lent(), c.lent(), s.lent(), page, o.lent());
-        let expected = Reference.read(pages, slots, words, contents, state, page, out);
-        w.assert_is(words, "read", "words");
-        c.assert_is(contents, "read", "contents");
-        s.assert_is(state, "read", "state");
-        o.assert_is(out, "read", "out");
-        self.same("read", got, expected)
+        assert_same(Name::Suggest, got, expected);
     }
 }

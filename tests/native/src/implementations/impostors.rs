@@ -1,8 +1,9 @@
 //! Implementations that are wrong in one way each, as document 01 names them: the tests must tell every one from a right one.
 
-use crate::implementations::reference::Reference;
-use crate::interface::{Calls, Reply, NONE, WIDTH};
-use crate::rules::{cycle, entry, may_erase, records, set_entry, set_slot, slot, Entry, Record};
+use super::reference::Reference;
+use crate::interface::{Arguments, Calls, Name, Reply, NONE, WIDTH};
+use crate::rules::{cycle, entry, may_erase, planned, records, set_entry, set_slot, slot, Entry, Record};
+use crate::volume::Volume;
 
 macro_rules! faults {
     ($($name:ident,)*) => {
@@ -62,27 +63,93 @@ pub const LOSING: [Fault; 9] = [
 
 pub struct Impostor(pub Fault);
 
-impl Impostor {
-    fn is(&self, fault: Fault) -> bool {
-        self.0 == fault
-    }
-
-    /// Whether a slot goes by the faulty permission.
-    fn lets_go(&self, words: &[u32], state: &[u32], k: u32) -> bool {
-        let Some(record) = slot(words, k) else { return false };
-        if may_erase(words, state, k) {
-            return true;
+/// The right call, and then what is wrong.
+impl Calls for Impostor {
+    fn call(&self, name: Name, a: &mut Arguments) -> Reply {
+        let (before, out) = (Volume::copied(a), a.out.to_vec());
+        let right = Reference.call(name, a);
+        if right.answer != 0 {
+            return self.refused(name, a, right);
         }
-        let table = records(words);
-        let highest = |r: Record| table.iter().all(|&(_, q)| q.p != r.p || q.v <= r.v);
-        let obsolete = record.v < entry(state, record.p).committed;
-        let straddles_a_highest = table.iter().any(|&(_, i)| highest(i) && record.straddles(i));
-        obsolete && (self.is(Fault::EraseIgnoresStraddlers) || !straddles_a_highest)
+        self.put_back(name, &before, &out, a);
+        self.alter(name, &before, a);
+        self.reply(name, a, right)
     }
 }
 
-/// Following links wrongly.
+/// What is wrong with a call that is done.
 impl Impostor {
+    /// Puts back what the fault leaves undone.
+    fn put_back(&self, name: Name, before: &Volume, out: &[u8], a: &mut Arguments) {
+        let (words, contents, state) = match (name, self.0) {
+            (Name::Format, Fault::FormatDoesNothing) => (true, true, true),
+            (Name::Launch, Fault::LaunchDoesNothing | Fault::LaunchRefusesEveryList) => (false, false, true),
+            (Name::Write, Fault::WriteSkipsTheFlash) => (true, true, false),
+            (Name::Write, Fault::WriteSkipsTheContents) => (false, true, false),
+            (Name::Withdraw, Fault::WithdrawDoesNothing) => (false, false, true),
+            (Name::Erase, Fault::EraseDoesNothing) => (true, false, false),
+            (Name::Erase, Fault::EraseKeepsTheContents) => (false, true, false),
+            (Name::Recover, Fault::RecoverDoesNothing) => (false, false, true),
+            _ => (false, false, false),
+        };
+        if words {
+            a.words.copy_from_slice(&before.words);
+        }
+        if contents {
+            a.contents.copy_from_slice(&before.contents);
+        }
+        if state {
+            a.state.copy_from_slice(&before.state);
+        }
+        if name == Name::Read && self.0 == Fault::ReadDoesNothing {
+            a.out.copy_from_slice(out);
+        }
+    }
+
+    /// Does what the fault does besides.
+    fn alter(&self, name: Name, before: &Volume, a: &mut Arguments) {
+        match (name, self.0) {
+            (Name::Write, Fault::WriteStoresTheWholeTransaction) => {
+                for q in cycle(&before.state, a.page).into_iter().filter(|&q| q != a.page) {
+                    let blank = (0..a.slots).find(|&k| slot(a.words, k).is_none());
+                    if let (Some(k), true) = (blank, entry(a.state, q).in_flight()) {
+                        set_slot(a.words, a.contents, k, Some((planned(a.state, q), a.bytes)));
+                    }
+                }
+            }
+            (Name::Withdraw, Fault::WithdrawForgetsOnePage) => {
+                if let [_, .., last] = cycle(&before.state, a.page)[..] {
+                    set_entry(a.state, last, entry(&before.state, last));
+                }
+            }
+            (Name::Recover, _) => {
+                for p in 0..a.pages {
+                    set_entry(a.state, p, self.recovered(a.words, p, entry(a.state, p)));
+                }
+            }
+            (Name::Read, Fault::ReadTakesTheHighestSlot) => {
+                let committed = entry(a.state, a.page).committed;
+                let (k, _) = *records(a.words).iter().rfind(|(_, r)| r.p == a.page && r.v == committed).unwrap();
+                a.out.copy_from_slice(&a.contents[WIDTH * k as usize..][..WIDTH]);
+            }
+            _ => {}
+        }
+    }
+
+    /// What recovery fills in for a page, where a right one fills in `e`.
+    fn recovered(&self, words: &[u32], p: u32, e: Entry) -> Entry {
+        match self.0 {
+            Fault::RecoverPutsEveryPageAtZero => Entry { committed: 0, used: 0, ..e },
+            Fault::RecoverTakesUsedFromVersionsAlone => {
+                Entry { used: records(words).iter().filter(|(_, r)| r.p == p).map(|(_, r)| r.v).max().unwrap(), ..e }
+            }
+            Fault::RecoverCallsABrokenRingUncommitted | Fault::RecoverStopsAtTheStartsPage | Fault::RecoverLooksAtTheLowestLaterVersion => {
+                Entry { committed: self.committed(words, p), ..e }
+            }
+            _ => e,
+        }
+    }
+
     /// The committed version by a faulty following of links, on a table whose links end.
     fn committed(&self, words: &[u32], start: u32) -> u32 {
         let table: Vec<Record> = records(words).into_iter().map(|(_, r)| r).collect();
@@ -91,7 +158,7 @@ impl Impostor {
         let mut j = own;
         let committed = loop {
             let hv = highest(j.np).v;
-            if self.is(Fault::RecoverStopsAtTheStartsPage) && j.np == start {
+            if self.0 == Fault::RecoverStopsAtTheStartsPage && j.np == start {
                 break true;
             }
             if j.nv < hv {
@@ -116,182 +183,67 @@ impl Impostor {
             own.c
         }
     }
+
+    /// What the call says.
+    fn reply(&self, name: Name, a: &Arguments, right: Reply) -> Reply {
+        match (name, self.0) {
+            (Name::Launch, Fault::LaunchRefusesEveryList) => Reply::refused(6),
+            (Name::Write, Fault::WriteIsDoneTooEarly) => Reply::done(1),
+            (Name::Suggest, Fault::SuggestSaysNothingToErase) => Reply { answer: 13, second: NONE },
+            (Name::Suggest, Fault::SuggestNamesABlankSlot) => {
+                let blank = (0..a.slots).find(|&k| slot(a.words, k).is_none());
+                blank.map_or(right, Reply::done)
+            }
+            (Name::Count, Fault::CountGivesZero) => Reply::done(0),
+            (Name::Count, Fault::CountLooksAtOneBitOfEachByte) => Reply::done(a.bytes.iter().filter(|&&b| b & 1 == 1).count() as u32),
+            _ => right,
+        }
+    }
 }
 
-impl Calls for Impostor {
-    fn format(&self, pages: u32, slots: u32, words: &mut [u32], contents: &mut [u8], state: &mut [u32]) -> Reply {
-        if self.is(Fault::FormatDoesNothing) {
-            let (mut w, mut c, mut s) = (words.to_vec(), contents.to_vec(), state.to_vec());
-            return Reference.format(pages, slots, &mut w, &mut c, &mut s);
-        }
-        Reference.format(pages, slots, words, contents, state)
-    }
-
-    fn launch(&self, pages: u32, slots: u32, state: &mut [u32], list: &[u32]) -> Reply {
-        match self.0 {
-            Fault::LaunchDoesNothing => Reference.launch(pages, slots, &mut state.to_vec(), list),
-            Fault::LaunchRefusesEveryList => match Reference.launch(pages, slots, &mut state.to_vec(), list).answer {
-                0 => Reply::refused(6),
-                answer => Reply::refused(answer),
-            },
-            _ => Reference.launch(pages, slots, state, list),
-        }
-    }
-
-    fn write(
-        &self,
-        pages: u32,
-        slots: u32,
-        words: &mut [u32],
-        contents: &mut [u8],
-        state: &mut [u32],
-        page: u32,
-        to: u32,
-        bytes: &[u8],
-    ) -> Reply {
-        let mut ring = Vec::new();
-        if self.is(Fault::WriteStoresTheWholeTransaction) {
-            let accepted =
-                Reference.write(pages, slots, &mut words.to_vec(), &mut contents.to_vec(), &mut state.to_vec(), page, to, bytes).answer
-                    == 0;
-            ring = if accepted { cycle(state, page) } else { Vec::new() };
-        }
-        let (mut w, mut c) = (words.to_vec(), contents.to_vec());
-        let reply = match self.0 {
-            Fault::WriteSkipsTheFlash => Reference.write(pages, slots, &mut w, &mut c, state, page, to, bytes),
-            Fault::WriteSkipsTheContents => Reference.write(pages, slots, words, &mut c, state, page, to, bytes),
-            Fault::RefusesBySlotsBeforeState if !crate::rules::state_sound(pages.min(state.len() as u32 / 4), state) => {
-                match Reference.write(pages, slots, &mut w, &mut c, &mut state.to_vec(), page, to, bytes) {
-                    Reply { answer: 5, .. } if page >= pages => Reply::refused(6),
-                    other => other,
-                }
+/// What is wrong with a call that is refused.
+impl Impostor {
+    fn refused(&self, name: Name, a: &mut Arguments, right: Reply) -> Reply {
+        match (name, right.answer, self.0) {
+            (Name::Write, 5, Fault::RefusesBySlotsBeforeState) if a.page >= a.pages => Reply::refused(6),
+            (Name::Erase, 12, _) => self.erase(a).unwrap_or(right),
+            (Name::Recover, 14, Fault::RecoverFillsBeforeItRefuses) => {
+                a.state[3] = 0;
+                right
             }
-            _ => Reference.write(pages, slots, words, contents, state, page, to, bytes),
-        };
-        for q in ring.into_iter().filter(|&q| q != page) {
-            let blank = (0..slots).find(|&k| slot(words, k).is_none());
-            if let (Some(k), true) = (blank, entry(state, q).in_flight()) {
-                let e = entry(state, q);
-                let planned = Record { p: q, v: e.used, c: e.committed, np: e.next, nv: entry(state, e.next).used };
-                set_slot(words, contents, k, Some((planned, bytes)));
-            }
-        }
-        let early = self.is(Fault::WriteIsDoneTooEarly) && reply.answer == 0;
-        if early {
-            Reply::done(1)
-        } else {
-            reply
+            _ => right,
         }
     }
 
-    fn withdraw(&self, pages: u32, slots: u32, state: &mut [u32], page: u32) -> Reply {
-        let before = state.to_vec();
-        let reply = Reference.withdraw(pages, slots, state, page);
-        if self.is(Fault::WithdrawDoesNothing) {
-            state.copy_from_slice(&before);
-        }
-        if self.is(Fault::WithdrawForgetsOnePage) && reply.answer == 0 && cycle(&before, page).len() > 1 {
-            let last = *cycle(&before, page).last().unwrap();
-            set_entry(state, last, entry(&before, last));
-        }
-        reply
-    }
-
-    fn erase(&self, pages: u32, slots: u32, words: &mut [u32], contents: &mut [u8], state: &[u32], list: &[u32]) -> Reply {
-        let before = contents.to_vec();
-        match self.0 {
-            Fault::EraseDoesNothing => return Reference.erase(pages, slots, &mut words.to_vec(), contents, state, list),
-            Fault::EraseKeepsTheContents => {
-                let reply = Reference.erase(pages, slots, words, contents, state, list);
-                contents.copy_from_slice(&before);
-                return reply;
-            }
-            _ => {}
-        }
-        let reply = Reference.erase(pages, slots, words, contents, state, list);
-        if reply.answer != 12 {
-            return reply;
-        }
-        let (mut w, mut c) = (words.to_vec(), contents.to_vec());
-        for &k in list {
+    /// Erases what a right call refuses, if the faulty permission lets every listed slot go.
+    fn erase(&self, a: &mut Arguments) -> Option<Reply> {
+        let mut after = Volume::copied(a);
+        for &k in a.list {
             let may = match self.0 {
-                Fault::EraseJudgesAfterBlanking => may_erase(&w, state, k),
-                Fault::EraseIgnoresStraddlers | Fault::EraseLooksAtHighestLinksOnly => self.lets_go(words, state, k),
+                Fault::EraseJudgesAfterBlanking => may_erase(&after.words, a.state, k),
+                Fault::EraseIgnoresStraddlers | Fault::EraseLooksAtHighestLinksOnly => self.lets_go(a.words, a.state, k),
                 _ => false,
             };
             if !may {
-                return reply;
+                return None;
             }
-            set_slot(&mut w, &mut c, k, None);
+            set_slot(&mut after.words, &mut after.contents, k, None);
         }
-        words.copy_from_slice(&w);
-        contents.copy_from_slice(&c);
-        Reply::done(0)
+        a.words.copy_from_slice(&after.words);
+        a.contents.copy_from_slice(&after.contents);
+        Some(Reply::done(0))
     }
 
-    fn suggest(&self, pages: u32, slots: u32, words: &[u32], state: &[u32]) -> Reply {
-        let reply = Reference.suggest(pages, slots, words, state);
-        match (self.0, reply.answer) {
-            (Fault::SuggestSaysNothingToErase, 0) => Reply { answer: 13, second: NONE },
-            (Fault::SuggestNamesABlankSlot, 0) => {
-                let blank = (0..slots).find(|&k| slot(words, k).is_none());
-                blank.map_or(reply, Reply::done)
-            }
-            _ => reply,
+    /// Whether a slot goes by the faulty permission.
+    fn lets_go(&self, words: &[u32], state: &[u32], k: u32) -> bool {
+        let Some(record) = slot(words, k) else { return false };
+        if may_erase(words, state, k) {
+            return true;
         }
-    }
-
-    fn recover(&self, pages: u32, slots: u32, words: &[u32], state: &mut [u32]) -> Reply {
-        let before = state.to_vec();
-        let reply = Reference.recover(pages, slots, words, state);
-        match (self.0, reply.answer) {
-            (Fault::RecoverDoesNothing, _) => state.copy_from_slice(&before),
-            (Fault::RecoverPutsEveryPageAtZero, 0) => {
-                (0..pages).for_each(|p| set_entry(state, p, Entry { committed: 0, used: 0, next: NONE, written: 0 }))
-            }
-            (Fault::RecoverTakesUsedFromVersionsAlone, 0) => {
-                for p in 0..pages {
-                    let used = records(words).iter().filter(|(_, r)| r.p == p).map(|(_, r)| r.v).max().unwrap();
-                    let e = entry(state, p);
-                    set_entry(state, p, Entry { used, ..e });
-                }
-            }
-            (Fault::RecoverFillsBeforeItRefuses, 14) => state[3] = 0,
-            (
-                Fault::RecoverCallsABrokenRingUncommitted | Fault::RecoverStopsAtTheStartsPage | Fault::RecoverLooksAtTheLowestLaterVersion,
-                0,
-            ) => {
-                for p in 0..pages {
-                    let committed = self.committed(words, p);
-                    let e = entry(state, p);
-                    set_entry(state, p, Entry { committed, ..e });
-                }
-            }
-            _ => {}
-        }
-        reply
-    }
-
-    fn count(&self, bytes: &[u8]) -> Reply {
-        let reply = Reference.count(bytes);
-        match (self.0, reply.answer) {
-            (Fault::CountGivesZero, 0) => Reply::done(0),
-            (Fault::CountLooksAtOneBitOfEachByte, 0) => Reply::done(bytes.iter().filter(|&&b| b & 1 == 1).count() as u32),
-            _ => reply,
-        }
-    }
-
-    fn read(&self, pages: u32, slots: u32, words: &[u32], contents: &[u8], state: &[u32], page: u32, out: &mut [u8]) -> Reply {
-        let before = out.to_vec();
-        let reply = Reference.read(pages, slots, words, contents, state, page, out);
-        if self.is(Fault::ReadDoesNothing) {
-            out.copy_from_slice(&before);
-        }
-        if self.is(Fault::ReadTakesTheHighestSlot) && reply.answer == 0 {
-            let committed = entry(state, page).committed;
-            let (k, _) = *records(words).iter().rfind(|(_, r)| r.p == page && r.v == committed).unwrap();
-            out.copy_from_slice(&contents[WIDTH * k as usize..][..WIDTH]);
-        }
-        reply
+        let table = records(words);
+        let highest = |r: Record| table.iter().all(|&(_, q)| q.p != r.p || q.v <= r.v);
+        let obsolete = record.v < entry(state, record.p).committed;
+        let straddles_a_highest = table.iter().any(|&(_, i)| highest(i) && record.straddles(i));
+        obsolete && (self.0 == Fault::EraseIgnoresStraddlers || !straddles_a_highest)
     }
 }

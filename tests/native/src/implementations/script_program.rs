@@ -1,6 +1,6 @@
 //! Document 01's script program over the calls: one call a line, decimal numbers, what each prints.
 
-use crate::interface::{Calls, NONE, WIDTH};
+use crate::interface::{Arguments, Calls, Name, NONE, WIDTH};
 use crate::rules::{entry, lowest_slot};
 use crate::volume::{Call, Volume};
 use std::io::{BufRead, Read, Write};
@@ -91,8 +91,9 @@ pub fn run_through(calls: &dyn Calls, mut input: impl BufRead, mut output: impl 
 
 /// "A refused later format leaves the volume as it was."
 fn format(calls: &dyn Calls, pages: u32, slots: u32, volume: &mut Option<Volume>) -> String {
-    let mut new = if pages <= 256 && slots <= 1024 { Volume::zeroed(pages, slots) } else { Volume::zeroed(1, 1) };
-    let answer = calls.format(pages, slots, &mut new.words, &mut new.contents, &mut new.state).answer;
+    // Memory for the largest sizes at most: format refuses what is above.
+    let mut new = Volume { pages, slots, ..Volume::zeroed(pages.min(256), slots.min(1024)) };
+    let answer = new.format(calls).answer;
     if answer == 0 {
         *volume = Some(new);
     }
@@ -121,7 +122,7 @@ fn step(calls: &dyn Calls, volume: &mut Volume, line: Line) -> String {
 }
 
 /// One line for each page, or the number of the first read that is refused.
-fn listing(calls: &dyn Calls, volume: &Volume) -> Result<String, u32> {
+fn listing(calls: &dyn Calls, volume: &mut Volume) -> Result<String, u32> {
     let mut lines = String::new();
     for page in 0..volume.pages {
         let mut bytes = [0; WIDTH];
@@ -131,7 +132,7 @@ fn listing(calls: &dyn Calls, volume: &Volume) -> Result<String, u32> {
         }
         let version = entry(&volume.state, page).committed;
         let slot = lowest_slot(&volume.words, page, version).expect("a page that was read has a slot");
-        let drawn = calls.count(&bytes).second;
+        let drawn = calls.call(Name::Count, &mut Arguments { bytes: &bytes, ..Arguments::default() }).second;
         let is = if drawn == 0 { "empty" } else { "set" };
         lines += &format!("page={page} version={version} slot={slot} drawn={drawn} state={is}\n");
     }

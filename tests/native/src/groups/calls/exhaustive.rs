@@ -2,9 +2,9 @@
 
 use crate::implementations::compared::Compared;
 use crate::implementations::reference::Reference;
-use crate::interface::{Calls, NONE, PAGE_WORDS, SLOT_WORDS, WIDTH};
+use crate::interface::{NONE, PAGE_WORDS, SLOT_WORDS, WIDTH};
 use crate::rules::Record;
-use crate::volume::Volume;
+use crate::volume::{Call, Volume};
 
 /// All sound records of P pages with versions up to the highest.
 fn sound_records(pages: u32, highest: u32) -> Vec<[u32; SLOT_WORDS]> {
@@ -42,14 +42,12 @@ pub fn tables(compared: &Compared, pages: u32, slots: u32, highest: u32) -> u64 
 }
 
 fn one_table(compared: &Compared, mut v: Volume) {
-    let (p, s) = (v.pages, v.slots);
-    if compared.recover(p, s, &v.words, &mut v.state).answer != 0 {
+    if v.call(compared, &Call::Recover).answer != 0 {
         return;
     }
-    compared.suggest(p, s, &v.words, &v.state);
-    for k in 0..s {
-        let mut erased = v.clone();
-        compared.erase(p, s, &mut erased.words, &mut erased.contents, &v.state, &[k]);
+    v.suggest(compared);
+    for k in 0..v.slots {
+        v.clone().call(compared, &Call::Erase(vec![k]));
     }
 }
 
@@ -67,13 +65,12 @@ pub fn states(compared: &Compared) -> u64 {
             rest /= VALUES.len();
         }
         for list in [&[0][..], &[1], &[0, 1], &[1, 0]] {
-            compared.launch(pages, slots, &mut v.state.clone(), list);
+            v.clone().call(compared, &Call::Launch(list.to_vec()));
         }
         for page in 0..pages {
-            compared.withdraw(pages, slots, &mut v.state.clone(), page);
-            let mut w = v.clone();
-            compared.write(pages, slots, &mut w.words, &mut w.contents, &mut w.state, page, 2 + page, &[5; WIDTH]);
-            compared.read(pages, slots, &v.words, &v.contents, &v.state, page, &mut [1; WIDTH]);
+            v.clone().call(compared, &Call::Withdraw(page));
+            v.clone().call(compared, &Call::Write { page, slot: 2 + page, bytes: vec![5; WIDTH] });
+            v.read(compared, page, &mut [1; WIDTH]);
         }
     }
     number as u64

@@ -1,25 +1,27 @@
-//! The nine calls, the implementation under test against the second one, on many inputs.
+//! The calls, the implementation under test against the second one, on many inputs.
 
 use crate::harness::said;
 use crate::implementations::compared::Compared;
 use crate::inputs;
-use crate::interface::{Calls, Reply, WIDTH};
+use crate::interface::{Arguments, Calls, Name, Reply, WIDTH};
 use crate::random::Random;
-use crate::volume::Volume;
+use crate::volume::{Call, Volume};
 use std::panic::{catch_unwind, AssertUnwindSafe};
 
 /// Document 01's table of which call gives which number.
-pub const ANSWERS: [(&str, &[u32]); 9] = [
-    ("format", &[0, 1]),
-    ("launch", &[0, 1, 5, 6, 7, 8]),
-    ("write", &[0, 1, 2, 5, 6, 9, 10, 11]),
-    ("withdraw", &[0, 1, 5, 6, 9]),
-    ("erase", &[0, 1, 2, 5, 6, 12]),
-    ("suggest", &[0, 1, 2, 5, 13]),
-    ("recover", &[0, 1, 2, 3, 4, 14]),
-    ("count", &[0, 1]),
-    ("read", &[0, 1, 2, 5, 6, 14]),
-];
+pub fn answers(call: Name) -> &'static [u32] {
+    match call {
+        Name::Format => &[0, 1],
+        Name::Launch => &[0, 1, 5, 6, 7, 8],
+        Name::Write => &[0, 1, 2, 5, 6, 9, 10, 11],
+        Name::Withdraw => &[0, 1, 5, 6, 9],
+        Name::Erase => &[0, 1, 2, 5, 6, 12],
+        Name::Suggest => &[0, 1, 2, 5, 13],
+        Name::Recover => &[0, 1, 2, 3, 4, 14],
+        Name::Count => &[0, 1],
+        Name::Read => &[0, 1, 2, 5, 6, 14],
+    }
+}
 
 /// How often each answer of each call is to be seen.
 pub const SEEN: u64 = 100;
@@ -44,15 +46,15 @@ pub fn compare(compared: &Compared, rounds: u32, seed: u64) {
 
 /// Each answer of each call was seen often enough, and no other.
 pub fn assert_all_seen(compared: &Compared) {
-    for (call, answers) in ANSWERS {
-        assert_eq!(compared.answers(call), answers, "the answers of {call}");
-        for &answer in answers {
+    for &call in Name::ALL {
+        assert_eq!(compared.answers(call), answers(call), "the answers of {call}");
+        for &answer in answers(call) {
             let times = compared.seen(call, answer);
             assert!(times >= SEEN, "{call} answered {answer} only {times} times");
         }
     }
     for done in [0, 1] {
-        assert!(compared.seen_second("write", done) >= SEEN, "write with done {done}");
+        assert!(compared.seen_second(Name::Write, done) >= SEEN, "write with done {done}");
     }
 }
 
@@ -82,58 +84,57 @@ impl Choices {
             out: random.bytes(out),
         }
     }
+
+    /// The page, the slot and the list for a call: 0, 0 and none where it takes no such thing.
+    fn of(&self, call: Name) -> (u32, u32, &[u32]) {
+        match call {
+            Name::Launch => (0, 0, &self.launch),
+            Name::Write => (self.write.0, self.write.1, &[]),
+            Name::Withdraw => (self.withdraw, 0, &[]),
+            Name::Erase => (0, 0, &self.erase),
+            Name::Read => (self.read, 0, &[]),
+            Name::Format | Name::Suggest | Name::Recover | Name::Count => (0, 0, &[]),
+        }
+    }
 }
 
 /// Each call on a copy of the volume; a refused one leaves the copy as it was.
 fn one_round(compared: &Compared, volume: &Volume, choices: &Choices) {
-    let on_copy = |call: &dyn Fn(&mut Volume, &mut Vec<u8>) -> Reply| {
+    for &call in Name::ALL {
         let (mut v, mut out) = (volume.clone(), choices.out.clone());
-        let reply = call(&mut v, &mut out);
+        let (page, slot, list) = choices.of(call);
+        let reply = compared.call(call, &mut Arguments { page, slot, list, bytes: &choices.bytes, out: &mut out, ..v.arguments() });
         let same = v == *volume && out == choices.out;
         assert!(reply.answer == 0 || same, "a refused call altered a buffer");
-    };
-    let (p, s) = (volume.pages, volume.slots);
-    on_copy(&|v, _| compared.format(p, s, &mut v.words, &mut v.contents, &mut v.state));
-    on_copy(&|v, _| compared.launch(p, s, &mut v.state, &choices.launch));
-    on_copy(&|v, _| {
-        let (page, slot) = choices.write;
-        compared.write(p, s, &mut v.words, &mut v.contents, &mut v.state, page, slot, &choices.bytes)
-    });
-    on_copy(&|v, _| compared.withdraw(p, s, &mut v.state, choices.withdraw));
-    on_copy(&|v, _| compared.erase(p, s, &mut v.words, &mut v.contents, &v.state, &choices.erase));
-    on_copy(&|v, _| compared.suggest(p, s, &v.words, &v.state));
-    on_copy(&|v, _| compared.recover(p, s, &v.words, &mut v.state));
-    on_copy(&|_, _| compared.count(&choices.bytes));
-    on_copy(&|v, out| compared.read(p, s, &v.words, &v.contents, &v.state, choices.read, out));
+    }
 }
 
 /// Format at every pair of sizes near a limit, with the lengths that the sizes ask for.
 pub fn compare_sizes(compared: &Compared) {
     for pages in [0, 1, 2, 3, 127, 255, 256, 257, 1024] {
         for slots in [0, 1, 2, 3, 126, 254, 255, 256, 257, 1023, 1024, 1025] {
-            let mut v = Volume::zeroed(pages, slots);
-            compared.format(pages, slots, &mut v.words, &mut v.contents, &mut v.state);
+            Volume::zeroed(pages, slots).format(compared);
         }
     }
 }
 
 /// Count on every single bit, every byte value at every place, and at other lengths.
 pub fn compare_counts(compared: &Compared) {
+    let count = |bytes: &[u8]| compared.call(Name::Count, &mut Arguments { bytes, ..Arguments::default() });
     for bit in 0..256 {
         let mut bytes = [0; WIDTH];
         bytes[bit / 8] = 1 << (bit % 8);
-        assert_eq!(compared.count(&bytes), Reply::done(1), "bit {bit}");
+        assert_eq!(count(&bytes), Reply::done(1), "bit {bit}");
     }
     for value in 0..=255u8 {
         for at in 0..WIDTH {
             let mut bytes = [0; WIDTH];
             bytes[at] = value;
-            compared.count(&bytes);
-            let same = [value; WIDTH];
-            assert_eq!(compared.count(&same), Reply::done(WIDTH as u32 * value.count_ones()), "all bytes {value}");
+            count(&bytes);
+            assert_eq!(count(&[value; WIDTH]), Reply::done(WIDTH as u32 * value.count_ones()), "all bytes {value}");
         }
     }
-    (0..200).filter(|&n| n != WIDTH).for_each(|n| assert_eq!(compared.count(&vec![1; n]), Reply::refused(1), "{n} bytes"));
+    (0..200).filter(|&n| n != WIDTH).for_each(|n| assert_eq!(count(&vec![1; n]), Reply::refused(1), "{n} bytes"));
 }
 
 /// Volumes of the largest size, all calls, one transaction over all pages.
@@ -142,21 +143,21 @@ pub fn compare_largest(compared: &Compared) {
     let mut v = Volume::formatted(compared, pages, slots);
     for round in 0..2 {
         let list: Vec<u32> = (0..pages).map(|i| (i * 7 + round) % pages).collect();
-        assert_eq!(compared.launch(pages, slots, &mut v.state, &list).answer, 0);
+        assert_eq!(v.call(compared, &Call::Launch(list.clone())).answer, 0);
         for (i, &page) in list.iter().enumerate() {
             let slot = pages * (round + 1) + i as u32;
-            let reply = compared.write(pages, slots, &mut v.words, &mut v.contents, &mut v.state, page, slot, &[page as u8; WIDTH]);
+            let reply = v.call(compared, &Call::Write { page, slot, bytes: vec![page as u8; WIDTH] });
             assert_eq!(reply, Reply::done(u32::from(i + 1 == list.len())));
         }
-        assert_eq!(compared.suggest(pages, slots, &v.words, &v.state).answer, 0);
-        assert_eq!(compared.recover(pages, slots, &v.words, &mut v.state.clone()).answer, 0);
+        assert_eq!(v.suggest(compared).answer, 0);
+        assert_eq!(v.clone().call(compared, &Call::Recover).answer, 0);
     }
     let obsolete: Vec<u32> = (0..2 * pages).collect();
-    assert_eq!(compared.erase(pages, slots, &mut v.words, &mut v.contents, &v.state, &obsolete).answer, 0);
+    assert_eq!(v.call(compared, &Call::Erase(obsolete)).answer, 0);
     let all: Vec<u32> = (0..slots).collect();
-    assert_eq!(compared.erase(pages, slots, &mut v.words, &mut v.contents, &v.state, &all).answer, 12);
+    assert_eq!(v.call(compared, &Call::Erase(all)).answer, 12);
     let mut out = [0; WIDTH];
-    assert_eq!(compared.read(pages, slots, &v.words, &v.contents, &v.state, 255, &mut out).answer, 0);
+    assert_eq!(v.read(compared, 255, &mut out).answer, 0);
     assert_eq!(out, [255; WIDTH]);
 }
 
@@ -167,7 +168,7 @@ pub fn compare_long_lists(compared: &Compared) {
     for last in [0, pages, slots] {
         let mut list: Vec<u32> = (0..100_000).map(|i| i % pages).collect();
         list.push(last);
-        assert_eq!(compared.launch(pages, slots, &mut v.state, &list).answer, 6);
-        assert_eq!(compared.erase(pages, slots, &mut v.words, &mut v.contents, &v.state, &list).answer, 6);
+        assert_eq!(v.call(compared, &Call::Launch(list.clone())).answer, 6);
+        assert_eq!(v.call(compared, &Call::Erase(list)).answer, 6);
     }
 }

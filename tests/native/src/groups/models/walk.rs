@@ -1,8 +1,9 @@
 //! The paper's models walked whole (section 4.3, appendix B): every state that its actions reach, breadth first, each action
 //! done by the calls, each invariant checked, each permission compared with the listing's own operators.
 
-use crate::interface::{Calls, NONE, PAGE_WORDS, SLOT_WORDS, WIDTH};
+use crate::interface::{Calls, NONE, PAGE_WORDS, WIDTH};
 use crate::rules::{entry, records, set_slot, slot, Record};
+use crate::volume::{Call, Volume};
 use std::collections::HashSet;
 
 /// Which obsolete records the walk erases besides the exposed ones: by the rule, or by one of the paper's two faults.
@@ -37,23 +38,13 @@ struct Model<'a> {
     renamings: Vec<Vec<u32>>,
 }
 
-/// A state: its records, and the volatile state's words.
-#[derive(Clone)]
-struct State {
-    words: Vec<u32>,
-    state: Vec<u32>,
-}
-
 type Key = Vec<u8>;
 
 pub fn walk(calls: &dyn Calls, pages: u32, max_version: u32, rule: Rule) -> Walk {
     let slots = pages * (max_version + 2);
     let all: Vec<u32> = (0..pages).collect();
     let model = Model { calls, pages, slots, max_version, rule, renamings: arrangements(&all) };
-    let mut first = State { words: vec![0; SLOT_WORDS * slots as usize], state: vec![0; PAGE_WORDS * pages as usize] };
-    let mut contents = vec![0; WIDTH * slots as usize];
-    let answer = calls.format(pages, slots, &mut first.words, &mut contents, &mut first.state).answer;
-    assert_eq!(answer, 0, "format");
+    let first = Volume::formatted(calls, pages, slots);
     let mut seen: HashSet<Key> = HashSet::new();
     let mut beyond: HashSet<Key> = HashSet::new();
     seen.insert(model.key(&first));
@@ -110,11 +101,11 @@ fn subsets(list: &[u32]) -> Vec<Vec<u32>> {
 
 impl Model<'_> {
     /// The state's records, sorted, and its words, under the renaming of pages that gives the least.
-    fn key(&self, s: &State) -> Key {
+    fn key(&self, s: &Volume) -> Key {
         self.renamings.iter().map(|to| self.renamed(s, to)).min().unwrap()
     }
 
-    fn renamed(&self, s: &State, to: &[u32]) -> Key {
+    fn renamed(&self, s: &Volume, to: &[u32]) -> Key {
         let mut held: Vec<[u8; 5]> = records(&s.words)
             .iter()
             .map(|(_, r)| [to[r.p as usize] as u8, r.v as u8, r.c as u8, to[r.np as usize] as u8, r.nv as u8])
@@ -133,7 +124,7 @@ impl Model<'_> {
     }
 
     /// The records planned and not yet written.
-    fn planned(&self, s: &State) -> Vec<Record> {
+    fn planned(&self, s: &Volume) -> Vec<Record> {
         (0..self.pages)
             .filter(|&p| entry(&s.state, p).in_flight() && entry(&s.state, p).written == 0)
             .map(|p| {
@@ -144,17 +135,17 @@ impl Model<'_> {
     }
 
     /// `AllMeta`: the records written or planned.
-    fn all_records(&self, s: &State) -> Vec<Record> {
+    fn all_records(&self, s: &Volume) -> Vec<Record> {
         records(&s.words).into_iter().map(|(_, r)| r).chain(self.planned(s)).collect()
     }
 
     /// `MaxVersConstraint`
-    fn within(&self, s: &State) -> bool {
+    fn within(&self, s: &Volume) -> bool {
         self.all_records(s).iter().all(|r| r.v <= self.max_version)
     }
 
     /// `InvMetaUniq`, `InvUsed` and `InvComm`, with recovery by the call.
-    fn check(&self, s: &State) -> Result<(), String> {
+    fn check(&self, s: &Volume) -> Result<(), String> {
         let all = self.all_records(s);
         if all.iter().enumerate().any(|(i, r)| all[..i].iter().any(|q| q.p == r.p && q.v == r.v)) {
             return Err(String::from("InvMetaUniq"));
@@ -165,19 +156,19 @@ impl Model<'_> {
                 return Err(format!("InvUsed of page {p}"));
             }
         }
-        let mut found = s.state.clone();
-        let answer = self.calls.recover(self.pages, self.slots, &s.words, &mut found).answer;
+        let mut found = s.clone();
+        let answer = found.call(self.calls, &Call::Recover).answer;
         if answer != 0 {
             return Err(format!("recover answers {answer}"));
         }
-        match (0..self.pages).find(|&p| entry(&s.state, p).committed != entry(&found, p).committed) {
+        match (0..self.pages).find(|&p| entry(&s.state, p).committed != entry(&found.state, p).committed) {
             Some(p) => Err(format!("InvComm of page {p}")),
             None => Ok(()),
         }
     }
 
     /// `CollectableMetas`, as the slots that hold them.
-    fn collectable(&self, s: &State) -> Vec<u32> {
+    fn collectable(&self, s: &Volume) -> Vec<u32> {
         let table = records(&s.words);
         let committed = |r: Record| entry(&s.state, r.p).committed;
         let highest = |r: Record| table.iter().all(|&(_, q)| q.p != r.p || q.v <= r.v);
@@ -194,7 +185,7 @@ impl Model<'_> {
     }
 
     /// The states one action away.
-    fn successors(&self, s: &State) -> Vec<State> {
+    fn successors(&self, s: &Volume) -> Vec<Volume> {
         let mut next = Vec::new();
         self.launches(s, &mut next);
         self.writes(s, &mut next);
@@ -205,7 +196,7 @@ impl Model<'_> {
     }
 
     /// `NextLaunchTransaction`: any nonempty set of available pages, in any cycle.
-    fn launches(&self, s: &State, next: &mut Vec<State>) {
+    fn launches(&self, s: &Volume, next: &mut Vec<Volume>) {
         let available: Vec<u32> = (0..self.pages).filter(|&p| !entry(&s.state, p).in_flight()).collect();
         for set in subsets(&available) {
             for list in arrangements(&set) {
@@ -214,7 +205,7 @@ impl Model<'_> {
                     continue;
                 }
                 let mut t = s.clone();
-                let reply = self.calls.launch(self.pages, self.slots, &mut t.state, &list);
+                let reply = t.call(self.calls, &Call::Launch(list));
                 assert_eq!(reply.answer, 0, "launch of available pages");
                 next.push(t);
             }
@@ -222,13 +213,12 @@ impl Model<'_> {
     }
 
     /// `NextInterStepTransaction` and `NextFinalStepTransaction`: any planned record.
-    fn writes(&self, s: &State, next: &mut Vec<State>) {
+    fn writes(&self, s: &Volume, next: &mut Vec<Volume>) {
         let blank = (0..self.slots).find(|&k| slot(&s.words, k).is_none()).expect("a blank slot");
         for record in self.planned(s) {
             let last = crate::rules::cycle(&s.state, record.p).iter().all(|&p| p == record.p || entry(&s.state, p).written == 1);
             let mut t = s.clone();
-            let mut contents = vec![0; WIDTH * self.slots as usize];
-            let reply = self.calls.write(self.pages, self.slots, &mut t.words, &mut contents, &mut t.state, record.p, blank, &[7; WIDTH]);
+            let reply = t.call(self.calls, &Call::Write { page: record.p, slot: blank, bytes: vec![7; WIDTH] });
             assert_eq!((reply.answer, reply.second), (0, u32::from(last)), "write of a planned record");
             assert_eq!(slot(&t.words, blank), Some(record), "the planned record is stored");
             next.push(t);
@@ -236,11 +226,11 @@ impl Model<'_> {
     }
 
     /// `NextAbortTransaction`, once for each transaction.
-    fn aborts(&self, s: &State, next: &mut Vec<State>) {
+    fn aborts(&self, s: &Volume, next: &mut Vec<Volume>) {
         for p in 0..self.pages {
             if entry(&s.state, p).in_flight() && crate::rules::cycle(&s.state, p).iter().all(|&q| q >= p) {
                 let mut t = s.clone();
-                let reply = self.calls.withdraw(self.pages, self.slots, &mut t.state, p);
+                let reply = t.call(self.calls, &Call::Withdraw(p));
                 assert_eq!(reply.answer, 0, "withdraw of a page in flight");
                 next.push(t);
             }
@@ -248,25 +238,24 @@ impl Model<'_> {
     }
 
     /// `NextCrashReboot`: the volatile state is lost, and recovery fills it.
-    fn crash(&self, s: &State, next: &mut Vec<State>) {
+    fn crash(&self, s: &Volume, next: &mut Vec<Volume>) {
         let mut t = s.clone();
         t.state.fill(NONE);
-        let reply = self.calls.recover(self.pages, self.slots, &t.words, &mut t.state);
+        let reply = t.call(self.calls, &Call::Recover);
         assert_eq!(reply.answer, 0, "recover of a checked state");
         next.push(t);
     }
 
     /// `NextCollectGarbage`: any nonempty set of collectable records. The call erases by the rule, and what a fault permits is blanked here.
-    fn erasures(&self, s: &State, next: &mut Vec<State>) {
+    fn erasures(&self, s: &Volume, next: &mut Vec<Volume>) {
         let collectable = self.collectable(s);
-        let mut contents = vec![0; WIDTH * self.slots as usize];
         for list in subsets(&collectable) {
             let mut t = s.clone();
             if self.rule == Rule::Right {
-                let reply = self.calls.erase(self.pages, self.slots, &mut t.words, &mut contents, &t.state, &list);
+                let reply = t.call(self.calls, &Call::Erase(list));
                 assert_eq!(reply.answer, 0, "erase of collectable records");
             } else {
-                list.iter().for_each(|&k| set_slot(&mut t.words, &mut contents, k, None));
+                list.iter().for_each(|&k| set_slot(&mut t.words, &mut t.contents, k, None));
             }
             next.push(t);
         }
@@ -276,15 +265,14 @@ impl Model<'_> {
     }
 
     /// Erase refuses exactly the slots that the listing does not collect, and suggest names one that it does.
-    fn check_permission(&self, s: &State, collectable: &[u32]) {
+    fn check_permission(&self, s: &Volume, collectable: &[u32]) {
         for k in (0..self.slots).filter(|k| !collectable.contains(k)) {
-            let mut words = s.words.clone();
-            let mut contents = vec![0; WIDTH * self.slots as usize];
-            let reply = self.calls.erase(self.pages, self.slots, &mut words, &mut contents, &s.state, &[k]);
+            let mut t = s.clone();
+            let reply = t.call(self.calls, &Call::Erase(vec![k]));
             assert_eq!(reply.answer, 12, "erase of a record that is not collectable");
-            assert_eq!(words, s.words, "a refused erase alters nothing");
+            assert!(t == *s, "a refused erase alters nothing");
         }
-        let reply = self.calls.suggest(self.pages, self.slots, &s.words, &s.state);
+        let reply = s.clone().suggest(self.calls);
         let right = if collectable.is_empty() {
             reply.answer == 13 && reply.second == NONE
         } else {

@@ -18,8 +18,7 @@ pub fn script(random: &mut Random, lines: u32) -> Vec<u8> {
                 let pages = 1 + random.below(most_pages);
                 let slots = pages.saturating_add(random.below(12)).saturating_sub(random.below(6) / 5);
                 let mut new = Volume::zeroed(pages, slots);
-                let reply = crate::interface::Calls::format(&Reference, pages, slots, &mut new.words, &mut new.contents, &mut new.state);
-                volume = if reply.answer == 0 { Some(new) } else { volume };
+                volume = if new.format(&Reference).answer == 0 { Some(new) } else { volume };
                 format!("op=format pages={pages} slots={slots}")
             }
         };
