@@ -13,7 +13,7 @@ enum { PAGES = BPCC_MAX_PAGES, SLOTS = BPCC_MAX_SLOTS };
 static uint32_t words[BPCC_SLOT_WORDS * SLOTS];
 static uint8_t contents[BPCC_WIDTH * SLOTS];
 static uint32_t state[BPCC_PAGE_WORDS * PAGES];
-static uint32_t list[SLOTS];
+static uint32_t list[SLOTS]; /* the numbers from 0 up, pages or slots */
 static uint8_t bytes[BPCC_WIDTH];
 
 static unsigned passed, failed;
@@ -41,9 +41,6 @@ static void many_pages(void) {
     uint64_t reply;
     start();
     done("format, P = 256, S = 1,024", bpcc_format(PAGES, SLOTS, WORDS, CONTENTS, state, BPCC_STATE_WORDS(PAGES)), BPCC_DONE);
-    for (i = 0; i < PAGES; i++) {
-        list[i] = i;
-    }
     for (round = 1; round < SLOTS / PAGES; round++) {
         start();
         done("launch of 256 pages", bpcc_launch(PAGES, SLOTS, state, BPCC_STATE_WORDS(PAGES), list, PAGES), BPCC_DONE);
@@ -56,9 +53,6 @@ static void many_pages(void) {
     }
     start();
     done("recover of one ring of 256", bpcc_recover(PAGES, SLOTS, WORDS, state, BPCC_STATE_WORDS(PAGES)), BPCC_DONE);
-    for (i = 0; i < SLOTS; i++) {
-        list[i] = i;
-    }
     start();
     done("suggest", bpcc_suggest(PAGES, SLOTS, WORDS, state, BPCC_STATE_WORDS(PAGES)), BPCC_DONE);
     start();
@@ -74,12 +68,8 @@ static void one_page(void) {
     uint32_t i;
     uint64_t reply = bpcc_format(1, SLOTS, WORDS, CONTENTS, state, BPCC_STATE_WORDS(1));
     for (i = 1; i < SLOTS && bpcc_answer(reply) == BPCC_DONE; i++) {
-        list[0] = 0;
         bpcc_launch(1, SLOTS, state, BPCC_STATE_WORDS(1), list, 1);
         reply = bpcc_write(1, SLOTS, WORDS, CONTENTS, state, BPCC_STATE_WORDS(1), 0, i, bytes, sizeof bytes);
-    }
-    for (i = 0; i < SLOTS; i++) {
-        list[i] = i;
     }
     start();
     done("erase of 1,023 slots, P = 1", bpcc_erase(1, SLOTS, WORDS, CONTENTS, state, BPCC_STATE_WORDS(1), list, SLOTS - 1), BPCC_DONE);
@@ -88,6 +78,10 @@ static void one_page(void) {
 }
 
 int main(void) {
+    uint32_t i;
+    for (i = 0; i < SLOTS; i++) {
+        list[i] = i;
+    }
     memset(bytes, 3, sizeof bytes);
     many_pages();
     one_page();

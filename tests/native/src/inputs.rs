@@ -214,16 +214,9 @@ fn spoiled(random: &mut Random, mut list: Vec<u32>, n: u32) -> Vec<u32> {
     list
 }
 
-fn some_of(random: &mut Random, mut list: Vec<u32>) -> Vec<u32> {
-    random.shuffle(&mut list);
-    let kept = 1 + random.below(list.len() as u32);
-    list.truncate(kept as usize);
-    list
-}
-
 pub fn pages_to_launch(random: &mut Random, v: &Volume) -> Vec<u32> {
     let free: Vec<u32> = (0..v.pages).filter(|&p| !entry(&v.state, p).in_flight()).collect();
-    let list = if random.one_in(4) || free.is_empty() { random.subset(v.pages) } else { some_of(random, free) };
+    let list = if random.one_in(4) || free.is_empty() { random.subset(v.pages) } else { random.some_of(free, v.pages) };
     spoiled(random, list, v.pages)
 }
 
@@ -259,7 +252,7 @@ pub fn slots_to_erase(random: &mut Random, v: &Volume) -> Vec<u32> {
         None => false,
     };
     let chosen: Vec<u32> = tried.into_iter().filter(|&k| sound && how < 7 && goes(k)).collect();
-    let list = some_of(random, if chosen.is_empty() { (0..v.slots).collect() } else { chosen });
+    let list = random.some_of(if chosen.is_empty() { (0..v.slots).collect() } else { chosen }, v.slots);
     spoiled(random, list, v.slots)
 }
 

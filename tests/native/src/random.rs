@@ -35,13 +35,17 @@ impl Random {
         }
     }
 
+    /// Some of a list, at least one and at most `most`, in any order.
+    pub fn some_of(&mut self, mut list: Vec<u32>, most: u32) -> Vec<u32> {
+        self.shuffle(&mut list);
+        let kept = 1 + self.below(most.min(list.len() as u32));
+        list.truncate(kept as usize);
+        list
+    }
+
     /// Some of the numbers below n, at least one, in any order.
     pub fn subset(&mut self, n: u32) -> Vec<u32> {
-        let mut all: Vec<u32> = (0..n).collect();
-        self.shuffle(&mut all);
-        let kept = 1 + self.below(n);
-        all.truncate(kept as usize);
-        all
+        self.some_of((0..n).collect(), n)
     }
 
     pub fn bytes(&mut self, n: usize) -> Vec<u8> {

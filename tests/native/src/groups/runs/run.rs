@@ -266,31 +266,24 @@ impl Run<'_> {
     }
 
     fn any_page(&mut self) -> u32 {
-        let p = self.volume.pages;
-        if self.random.one_in(12) {
-            self.random.pick(&[p, p + 1, NONE, NONE - 1])
-        } else {
-            self.random.below(p)
-        }
+        self.any_below(self.volume.pages)
     }
 
     fn any_slot(&mut self) -> u32 {
-        let s = self.volume.slots;
+        self.any_below(self.volume.slots)
+    }
+
+    /// A number below n, or now and then one out of range.
+    fn any_below(&mut self, n: u32) -> u32 {
         if self.random.one_in(12) {
-            self.random.pick(&[s, s + 1, NONE, NONE - 1])
+            self.random.pick(&[n, n + 1, NONE, NONE - 1])
         } else {
-            self.random.below(s)
+            self.random.below(n)
         }
     }
 }
 
 /// Some of a list, at most `most`, in any order; none of an empty one.
-fn some_of(random: &mut Random, mut list: Vec<u32>, most: u32) -> Option<Vec<u32>> {
-    if list.is_empty() {
-        return None;
-    }
-    random.shuffle(&mut list);
-    let kept = 1 + random.below(most.min(list.len() as u32));
-    list.truncate(kept as usize);
-    Some(list)
+fn some_of(random: &mut Random, list: Vec<u32>, most: u32) -> Option<Vec<u32>> {
+    (!list.is_empty()).then(|| random.some_of(list, most))
 }
