@@ -4,6 +4,7 @@ use mathlib.Core.List.{List, [], _∷_}
 use mathlib.Core.Bool.{cond}
 use lib.Dec.{eqb}
 use Rattle.outcome.specs.Outcome.{Outcome}
+use Rattle.sizes.specs.declared.Sizes.{Sizes}
 use Rattle.record.specs.Flash.{Flash, Step}
 use Rattle.state.specs.State.{stateAt}
 use Rattle.rules.specs.Volume.{Volume}
@@ -29,12 +30,12 @@ unfoldable pub withFlash : Volume → Outcome Flash → Outcome Volume
 withFlash v o = record { answer = o .answer; second = o .second; left = record { flash = o .left; state = v .state } }
 
 -- what the call gives and leaves of the volume
-unfoldable pub perform : (w P S : ℕ) → Volume → Call → Outcome Volume
-perform w P S v (Launch pages) = withState v (launchOutcome P S (v .state) pages)
-perform w P S v (Write page slot bytes) = writeOutcome w P S v page slot bytes
-perform w P S v (Withdraw page) = withState v (withdrawOutcome P S (v .state) page)
-perform w P S v (Erase slots) = withFlash v (eraseOutcome w P S v slots)
-perform w P S v Recover = withState v (recoverOutcome P S (v .flash .words) (v .state))
+unfoldable pub perform : (w : ℕ) (sizes : Sizes) → Volume → Call → Outcome Volume
+perform w sizes v (Launch pages) = withState v (launchOutcome sizes (v .state) pages)
+perform w sizes v (Write page slot bytes) = writeOutcome w sizes v page slot bytes
+perform w sizes v (Withdraw page) = withState v (withdrawOutcome sizes (v .state) page)
+perform w sizes v (Erase slots) = withFlash v (eraseOutcome w sizes v slots)
+perform w sizes v Recover = withState v (recoverOutcome sizes (v .flash .words) (v .state))
 
 -- What the call does to the flash, were it accepted: stages, one after the other, each of single steps. They are fixed before the call.
 -- A write is one stage with its one step, an erase one stage with a step for each listed slot; every other call alters no flash.
@@ -46,5 +47,5 @@ plannedStages v (Erase slots) = eraseSteps slots ∷ []
 plannedStages v Recover = []
 
 -- the stages that the call does: none where it is refused
-unfoldable pub flashStages : (w P S : ℕ) → Volume → Call → List (List Step)
-flashStages w P S v call = cond (eqb (perform w P S v call .answer) 0) (plannedStages v call) []
+unfoldable pub flashStages : (w : ℕ) (sizes : Sizes) → Volume → Call → List (List Step)
+flashStages w sizes v call = cond (eqb (perform w sizes v call .answer) 0) (plannedStages v call) []

@@ -4,12 +4,13 @@ use mathlib.Core.Path.{_≡_}
 use mathlib.Core.List.{List, [], _∷_, _++_, map, flatten}
 use mathlib.Core.Bool.{Bool, true, false}
 use lib.ListN.{length}
+use Rattle.sizes.specs.declared.Sizes.{Sizes}
 use Rattle.record.specs.declared.Slot.the-variants.{Holds}
 use Rattle.record.specs.Slot.{slotAt}
 use Rattle.record.specs.Flash.{Step, applyAll}
 use Rattle.state.specs.State.{stateAt, inFlight}
 use Rattle.rules.specs.Volume.{Volume}
-use Rattle.rules.specs.laws.Sizes.{Fits}
+use Rattle.rules.specs.laws.Volume.{Fits}
 use Rattle.rules.specs.Write.{planOf}
 use Rattle.rules.specs.Recover.{committedOf, mentioned, usedOf}
 use Rattle.atomicity.specs.Call.{Call, perform, flashStages}
@@ -29,37 +30,37 @@ pub record Agrees (P S : ℕ) (v : Volume) : Type 0 where
 -- after every list under the premises that leaves the state known
 abbrev pub StatesAgree : Type 0
 StatesAgree =
-    (w P S : ℕ) (v : Volume) (events : List Event)
-    → Premises w P S v events
-    → after w P S (started w P S v) events .lost ≡ false
-    → Agrees P S (after w P S (started w P S v) events .volume)
+    (w : ℕ) (sizes : Sizes) (v : Volume) (events : List Event)
+    → Premises w sizes v events
+    → after w sizes (started w sizes v) events .lost ≡ false
+    → Agrees (sizes .pages) (sizes .slots) (after w sizes (started w sizes v) events .volume)
 
 -- ---- the premises are met
 
 -- a list of events under the premises, with one more event behind it
-abbrev pub MayFollow : (w P S : ℕ) → Volume → List Event → Event → Type 0
-MayFollow w P S v events e = Premises w P S v (events ++ e ∷ [])
+abbrev pub MayFollow : (w : ℕ) (sizes : Sizes) → Volume → List Event → Event → Type 0
+MayFollow w sizes v events e = Premises w sizes v (events ++ e ∷ [])
 
 -- the state is known after the list
-abbrev pub StateKnown : (w P S : ℕ) → Volume → List Event → Type 0
-StateKnown w P S v events = after w P S (started w P S v) events .lost ≡ false
+abbrev pub StateKnown : (w : ℕ) (sizes : Sizes) → Volume → List Event → Type 0
+StateKnown w sizes v events = after w sizes (started w sizes v) events .lost ≡ false
 
 -- The premises are met: by every volume whose P, S and lengths are right, before any event; by every list of calls that return; and a list that meets them
 -- still does with a crash behind it, with a recover, returned or crashed, and, where the state is known, with any call, returned or crashed.
 pub record PremisesMet : Type 0 where
-  pub at-first : (w P S : ℕ) (v : Volume) → Fits w P S v → Premises w P S v []
-  pub calls : (w P S : ℕ) (v : Volume) → Fits w P S v → (list : List Call) → Premises w P S v (map Event.Returns list)
-  pub crash : (w P S : ℕ) (v : Volume) (events : List Event) → Premises w P S v events → (state : List ℕ) → length state ≡ 4 * P → MayFollow w P S v events (Event.Crash state)
-  pub recover : (w P S : ℕ) (v : Volume) (events : List Event) → Premises w P S v events → MayFollow w P S v events (Event.Returns Call.Recover)
+  pub at-first : (w : ℕ) (sizes : Sizes) (v : Volume) → Fits w sizes v → Premises w sizes v []
+  pub calls : (w : ℕ) (sizes : Sizes) (v : Volume) → Fits w sizes v → (list : List Call) → Premises w sizes v (map Event.Returns list)
+  pub crash : (w : ℕ) (sizes : Sizes) (v : Volume) (events : List Event) → Premises w sizes v events → (state : List ℕ) → length state ≡ 4 * sizes .pages → MayFollow w sizes v events (Event.Crash state)
+  pub recover : (w : ℕ) (sizes : Sizes) (v : Volume) (events : List Event) → Premises w sizes v events → MayFollow w sizes v events (Event.Returns Call.Recover)
   pub crashed-recover :
-      (w P S : ℕ) (v : Volume) (events : List Event) → Premises w P S v events
-      → (stage : ℕ) (done : ℕ → Bool) (state : List ℕ) → length state ≡ 4 * P → MayFollow w P S v events (Event.CrashIn Call.Recover stage done state)
-  pub call : (w P S : ℕ) (v : Volume) (events : List Event) → Premises w P S v events → StateKnown w P S v events → (c : Call) → MayFollow w P S v events (Event.Returns c)
+      (w : ℕ) (sizes : Sizes) (v : Volume) (events : List Event) → Premises w sizes v events
+      → (stage : ℕ) (done : ℕ → Bool) (state : List ℕ) → length state ≡ 4 * sizes .pages → MayFollow w sizes v events (Event.CrashIn Call.Recover stage done state)
+  pub call : (w : ℕ) (sizes : Sizes) (v : Volume) (events : List Event) → Premises w sizes v events → StateKnown w sizes v events → (c : Call) → MayFollow w sizes v events (Event.Returns c)
   pub crashed-call :
-      (w P S : ℕ) (v : Volume) (events : List Event) → Premises w P S v events → StateKnown w P S v events
-      → (c : Call) (stage : ℕ) (done : ℕ → Bool) (state : List ℕ) → length state ≡ 4 * P → MayFollow w P S v events (Event.CrashIn c stage done state)
+      (w : ℕ) (sizes : Sizes) (v : Volume) (events : List Event) → Premises w sizes v events → StateKnown w sizes v events
+      → (c : Call) (stage : ℕ) (done : ℕ → Bool) (state : List ℕ) → length state ≡ 4 * sizes .pages → MayFollow w sizes v events (Event.CrashIn c stage done state)
   -- and behind a recover the state is known
-  pub recover-finds : (w P S : ℕ) (v : Volume) (events : List Event) → Premises w P S v events → StateKnown w P S v (events ++ Event.Returns Call.Recover ∷ [])
+  pub recover-finds : (w : ℕ) (sizes : Sizes) (v : Volume) (events : List Event) → Premises w sizes v events → StateKnown w sizes v (events ++ Event.Returns Call.Recover ∷ [])
 
 -- ---- stages
 
@@ -71,7 +72,7 @@ doneIn test k (first ∷ rest) = doneOf (test k) 0 first ++ doneIn test (suc k) 
 -- What ties a call's stages to what it leaves, and a crash to the stages.
 pub record StagesInOrder : Type 0 where
   -- a call that returns leaves the flash that all its stages leave, done one after the other
-  pub performed : (w P S : ℕ) (v : Volume) (call : Call) → perform w P S v call .left .flash ≡ applyAll w (v .flash) (flatten (flashStages w P S v call))
+  pub performed : (w : ℕ) (sizes : Sizes) (v : Volume) (call : Call) → perform w sizes v call .left .flash ≡ applyAll w (v .flash) (flatten (flashStages w sizes v call))
   -- a crash past the last stage leaves all done
   pub past-last : (stage : ℕ) (done : ℕ → Bool) (stages : List (List Step)) → length stages ≤ stage → cutShort stage done stages ≡ flatten stages
   -- any crash leaves done exactly the steps that `wasDone` names

@@ -1,12 +1,11 @@
 -- Bits ("stops") and the call count.
 use Prim.Native.Nat.{ℕ, _*_, _/_, _%_, _^_}
-use mathlib.Core.Path.{_≡_}
 use mathlib.Core.List.{List}
 use mathlib.Core.Bool.{not}
 use lib.Dec.{eqb}
 use lib.ListN.{length, getD}
 use Rattle.bounded.specs.Below.{sumBelow}
-use Rattle.outcome.specs.Outcome.{_⇒_otherwise_, Outcome, settled, settled-refused, settled-done}
+use Rattle.outcome.specs.Outcome.{_⇒_otherwise_, Outcome, settled}
 
 -- "Stop s … is bit s mod 8 of byte s div 8, lowest bit first; 1 means drawn."
 unfoldable pub bitAt : List ℕ → ℕ → ℕ
@@ -23,12 +22,3 @@ countAnswer w bytes = not (eqb (length bytes) w) ⇒ 1 otherwise 0
 -- "Count 32 bytes: how many stops are drawn; it takes no volume." It alters no buffer; refused, the drawn count is 0.
 unfoldable pub countOutcome : ℕ → List ℕ → Outcome (Unit {0})
 countOutcome w bytes = settled (countAnswer w bytes) 0 (setBits bytes) tt tt
-
--- Refused, the drawn count is 0; done, it is the count of set bits.
-pub count-refused : (w : ℕ) (bytes : List ℕ) → ¬ (countAnswer w bytes ≡ 0) → countOutcome w bytes ≡ record { answer = countAnswer w bytes; second = 0; left = tt }
-unfolding countOutcome
-count-refused w bytes h = settled-refused (countAnswer w bytes) 0 (setBits bytes) tt tt h
-
-pub count-done : (w : ℕ) (bytes : List ℕ) → countAnswer w bytes ≡ 0 → countOutcome w bytes ≡ record { answer = 0; second = setBits bytes; left = tt }
-unfolding countOutcome
-count-done w bytes e = settled-done (countAnswer w bytes) 0 (setBits bytes) tt tt e

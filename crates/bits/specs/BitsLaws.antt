@@ -1,10 +1,12 @@
--- A bit is 0 or 1, and at most every bit is set.
+-- A bit is 0 or 1, at most every bit is set, and the outcome of a count.
 use Prim.Native.Nat.{ℕ, zero, suc, _*_, _≤_}
 use native.Mathlib.Omega.{arith}
+use mathlib.Core.Path.{_≡_}
 use mathlib.Core.List.{List}
 use lib.ListN.{length}
 use Rattle.bounded.specs.Below.{sumBelow}
-use Rattle.bits.specs.Bits.{bitAt, setBits}
+use Rattle.outcome.specs.OutcomeLaws.{settled-refused, settled-done}
+use Rattle.bits.specs.Bits.{bitAt, setBits, countAnswer, countOutcome}
 
 -- "1 means drawn"
 pub bit-at-most-one : (bytes : List ℕ) (s : ℕ) → bitAt bytes s ≤ 1
@@ -20,3 +22,12 @@ sum-of-ones f (suc n) h = omega (arith, sum-of-ones f n h, h n)
 pub set-bits-at-most : (bytes : List ℕ) → setBits bytes ≤ 8 * length bytes
 unfolding setBits
 set-bits-at-most bytes = sum-of-ones (bitAt bytes) (8 * length bytes) (bit-at-most-one bytes)
+
+-- Refused, the drawn count is 0; done, it is the count of set bits.
+pub count-refused : (w : ℕ) (bytes : List ℕ) → ¬ (countAnswer w bytes ≡ 0) → countOutcome w bytes ≡ record { answer = countAnswer w bytes; second = 0; left = tt }
+unfolding countOutcome
+count-refused w bytes h = settled-refused (countAnswer w bytes) 0 (setBits bytes) tt tt h
+
+pub count-done : (w : ℕ) (bytes : List ℕ) → countAnswer w bytes ≡ 0 → countOutcome w bytes ≡ record { answer = 0; second = setBits bytes; left = tt }
+unfolding countOutcome
+count-done w bytes e = settled-done (countAnswer w bytes) 0 (setBits bytes) tt tt e

@@ -73,10 +73,6 @@ module _ (f : ℕ → Bool) where
       go (inl w) = w
       go (inr none) = absurd (never e (some-none n none))
 
-  -- "there is"
-  pub some-there-is : (n : ℕ) → (someBelow n f ≡ true) ↔ ((k : ℕ) × (k < n) × (f k ≡ true))
-  some-there-is n = (some-at n, λ w. some-of n (w .0) (w .1) (w .2))
-
   pub some-not-at : (n k : ℕ) → someBelow n f ≡ false → k < n → f k ≡ false
   some-not-at n k e h = on-test (f k) (λ t. absurd (never (some-of n k h t) e)) (λ t. t)
 

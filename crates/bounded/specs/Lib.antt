@@ -6,5 +6,7 @@ pub mod Parts
 pub mod PartsLaws
 pub mod Pigeonhole
 pub mod Computing
+pub mod Entries
 pub mod Tabulate
 pub mod Fill
+pub mod Fronts

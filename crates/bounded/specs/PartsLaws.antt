@@ -2,8 +2,8 @@
 use Prim.Native.Nat.{ℕ, zero, suc, _+_, _*_, _-_, _≤_, _<_}
 use native.Mathlib.Nat.{mul-le-mul-left, mul-suc, mul-zero}
 use native.Mathlib.Omega.{arith}
-use mathlib.Core.Path.{_≡_, refl, sym, ap, ap₂, _∙_, subst}
-use mathlib.Core.List.{List, [], _++_}
+use mathlib.Core.Path.{_≡_, refl, sym, ap, ap₂, _∙_, subst, fun-ext}
+use mathlib.Core.List.{List, [], _++_, append-nil, append-assoc}
 use borrow.Author.Tests.{eq-eqb, ne-eqb}
 use lib.ListN.{length, take, drop, getD, length-append, length-take, length-drop, take-append-drop}
 use lib.Seq.{take-append-le, drop-append-le, take-at, drop-at, drop-append-add, drop-drop, length-take-le, getD-take, getD-drop}
@@ -155,15 +155,24 @@ module _ {A : Type 0} where
   parts-ext w n l m p q h =
       sym (joinParts-parts w n l p) ∙ joinParts-cong n (λ k. part w k l) (λ k. part w k m) h ∙ joinParts-parts w n m q
 
-  -- writing part k of the joined lists is joining them with list k exchanged
-  pub put-joinParts : (w n k : ℕ) (f : ℕ → List A) (s : List A) → ((k : ℕ) → length (f k) ≡ w) → length s ≡ w → k < n → putPart w k s (joinParts n f) ≡ joinParts n (update f k s)
-  put-joinParts w n k f s h e l =
-      let lf = length-joinParts w n f h in
-      let lu : (j : ℕ) → length (update f k s j) ≡ w = λ j. on-eq j k (λ q. ap (λ (x : ℕ). length (update f k s x)) q ∙ ap length (update-same f k s) ∙ e) (λ d. ap length (update-other f k s j d) ∙ h j) in
-      parts-ext w n (putPart w k s (joinParts n f)) (joinParts n (update f k s))
-      (length-putPart w n k s (joinParts n f) l e lf ∙ lf)
-      (length-joinParts w n (update f k s) lu)
-      (λ j b. on-eq j k
-      (λ q. subst (λ (x : ℕ). part w x (putPart w k s (joinParts n f)) ≡ part w x (joinParts n (update f k s))) (sym q)
-      (part-put-same w n k s (joinParts n f) l e lf ∙ sym (update-same f k s) ∙ sym (part-joinParts w n k (update f k s) lu l)))
-      (λ d. part-put-other w n k j s (joinParts n f) l e lf d ∙ part-joinParts w n j f h b ∙ sym (update-other f k s j d) ∙ sym (part-joinParts w n j (update f k s) lu b)))
+-- writing part k of n changes the parts, as a function, at k alone
+pub parts-put : (w n k : ℕ) (s l : List ℕ) → k < n → length s ≡ w → length l ≡ w * n → (λ i. part w i (putPart w k s l)) ≡ update (λ i. part w i l) k s
+parts-put w n k s l h e q =
+    fun-ext (λ i. on-eq i k
+    (λ d. subst (λ (x : ℕ). part w x (putPart w k s l) ≡ update (λ i. part w i l) k s x) (sym d)
+    (part-put-same w n k s l h e q ∙ sym (update-same (λ i. part w i l) k s)))
+    (λ d. part-put-other w n k i s l h e q d ∙ sym (update-other (λ i. part w i l) k s i d)))
+
+-- a function of each value, after an update
+pub update-map : {A B : Type 0} (g : A → B) (f : ℕ → A) (k : ℕ) (x : A) → (λ i. g (update f k x i)) ≡ update (λ i. g (f i)) k (g x)
+update-map g f k x =
+    fun-ext (λ i. on-eq i k
+    (λ d. subst (λ (j : ℕ). g (update f k x j) ≡ update (λ i. g (f i)) k (g x) j) (sym d) (ap g (update-same f k x) ∙ sym (update-same (λ i. g (f i)) k (g x))))
+    (λ d. ap g (update-other f k x i d) ∙ sym (update-other (λ i. g (f i)) k (g x) i d)))
+
+-- one list more, behind those joined
+pub join-from-more : {A : Type 0} (f : ℕ → List A) (n i last : ℕ) → last ≡ i + n → joinFrom (suc n) i f ≡ joinFrom n i f ++ f last
+unfolding joinFrom
+join-from-more f zero i last e = let k : last ≡ i = omega arith in rw k (append-nil (f i))
+join-from-more {A} f (suc n) i last e =
+    ap (λ (rest : List A). f i ++ rest) (join-from-more f n (suc i) last (omega arith)) ∙ sym (append-assoc (f i) (joinFrom n (suc i) f) (f last))

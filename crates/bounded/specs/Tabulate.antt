@@ -4,13 +4,14 @@ use native.Mathlib.Omega.{arith}
 use mathlib.Core.Path.{_≡_, refl, sym, ap, _∙_}
 use mathlib.Core.List.{List, [], _∷_}
 use mathlib.Core.Bool.{cond}
-use lib.Dec.{ltb, eqb}
-use borrow.Author.Tests.{lt-ltb, le-ltb, eq-eqb, ne-eqb}
+use lib.Dec.{eqb}
+use borrow.Author.Tests.{eq-eqb, ne-eqb}
 use lib.ListN.{length, getD, set, replicate, length-set, length-replicate, getD-replicate}
 use lib.Seq.{ext-getD, getD-set-same, getD-set-other}
 use Rattle.bounded.specs.Choice.{on-lt, on-eq}
 use Rattle.bounded.specs.Parts.{joinParts}
 use Rattle.bounded.specs.PartsLaws.{length-joinParts, part-joinParts, part-at}
+use Rattle.bounded.specs.Entries.{stored, stored-length, stored-at, stored-after}
 
 -- f 0 to f (n − 1)
 unfoldable pub tabulate : ℕ → (ℕ → ℕ) → List ℕ
@@ -50,30 +51,16 @@ set-tabulate n k x f g h e other =
     (λ q. ap (λ (j : ℕ). getD (set (tabulate n f) k x) j 0) q ∙ getD-set-same (tabulate n f) k x 0 (omega arith) ∙ e ∙ ap g (sym q))
     (λ d. getD-set-other (tabulate n f) k i x 0 d ∙ tabulate-at n f i b ∙ other i b d))
 
--- ---- a table filled from entry 0 on: below k the entries are f's, from k on they are all d
+-- ---- a table stored entry by entry over n times d
 
-unfoldable pub tabulatedTo : ℕ → (ℕ → ℕ) → ℕ → ℕ → List ℕ
-tabulatedTo n f d k = tabulate n (λ i. cond (ltb i k) (f i) d)
-
-module _ (n : ℕ) (f : ℕ → ℕ) (d : ℕ) where
-  pub tabulated-none : replicate n d ≡ tabulatedTo n f d 0
-  unfolding tabulatedTo
-  tabulated-none = tabulate-same n d (λ i. cond (ltb i 0) (f i) d) (λ i h. rw (le-ltb i 0 (omega arith)))
-
-  pub tabulated-more : (k : ℕ) → k < n → set (tabulatedTo n f d k) k (f k) ≡ tabulatedTo n f d (k + 1)
-  unfolding tabulatedTo
-  tabulated-more k h =
-      set-tabulate n k (f k) (λ i. cond (ltb i k) (f i) d) (λ i. cond (ltb i (k + 1)) (f i) d) h
-      (rw (lt-ltb k (k + 1) (omega arith)))
-      (λ i b e. on-lt i k
-      (λ l. rw (lt-ltb i k l, lt-ltb i (k + 1) (omega arith)))
-      (λ l. rw (le-ltb i k l, le-ltb i (k + 1) (omega arith))))
-
-  pub tabulated-all : (k : ℕ) → ((i : ℕ) → k ≤ i → i < n → f i ≡ d) → tabulatedTo n f d k ≡ tabulate n f
-  unfolding tabulatedTo
-  tabulated-all k h =
-      tabulate-cong n (λ i. cond (ltb i k) (f i) d) f
-      (λ i b. on-lt i k (λ l. rw (lt-ltb i k l)) (λ l. rw (le-ltb i k l) (sym (h i l b))))
+-- below k the entries are f's, from k on they are d
+pub tabulated-stored : (n : ℕ) (f : ℕ → ℕ) (d k : ℕ) → k ≤ n → ((i : ℕ) → k ≤ i → i < n → f i ≡ d) → stored f k (replicate n d) ≡ tabulate n f
+tabulated-stored n f d k m h =
+    let e = length-replicate n d in
+    tabulated n f (stored f k (replicate n d)) (stored-length f (replicate n d) k ∙ e)
+    (λ i b. on-lt i k
+    (λ l. stored-at f (replicate n d) k (omega arith) i l)
+    (λ l. stored-after f (replicate n d) k i l ∙ getD-replicate n i d 0 b ∙ sym (h i l b)))
 
 -- ---- an entry raised
 

@@ -3,12 +3,14 @@ ghost use mathlib.Core.Path.{_≡_};
 ghost use Rattle.bounded.specs.Limits.{width};
 ghost use Rattle.outcome.specs.Outcome.{returned};
 ghost use Rattle.outcome.specs.Row.{RowsHold};
+ghost use Rattle.sizes.specs.Sizes.{sizesOf};
 ghost use Rattle.record.specs.Flash.{flash};
 ghost use Rattle.bits.specs.Bits.{countOutcome};
 ghost use Rattle.rules.specs.Volume.{volume};
 ghost use Rattle.rules.specs.Format.{formatOutcome};
 ghost use Rattle.rules.specs.Read.{readOutcome};
 ghost use Rattle.rules.specs.cases.Bounds.{boundRows};
+ghost use Rattle.rules.specs.cases.Write.{writeRows};
 ghost use Rattle.rules.specs.Launch.{launchOutcome};
 ghost use Rattle.rules.specs.Write.{writeOutcome};
 ghost use Rattle.rules.specs.Withdraw.{withdrawOutcome};
@@ -19,6 +21,7 @@ ghost use Rattle.rules.specs.cases.Star.{starTable};
 ghost use Rattle.atomicity.specs.Promise.{Promise3, OwnState};
 ghost use Rattle.atomicity.specs.Companions.{StatesAgree, PremisesMet, StagesInOrder};
 ghost use Rattle.atomicity.specs.Runs.{RunsComputed};
+use sizes::Sizes;
 
 // Format a volume.
 #[no_mangle]
@@ -30,17 +33,17 @@ pub extern "C" fn bpcc_format(
     state: &mut [u32],
 ) -> u64
     ensures { λ r. ⌜ returned r (volume (now (words .exit)) (now (contents .exit)) (now (state .exit)))
-        ≡ formatOutcome width pages slots (volume (now (words .entry)) (now (contents .entry)) (now (state .entry))) ⌝ }
+        ≡ formatOutcome width (sizesOf pages slots) (volume (now (words .entry)) (now (contents .entry)) (now (state .entry))) ⌝ }
 {
-    volume::format(pages, slots, words, contents, state)
+    volume::format(Sizes { pages, slots }, words, contents, state)
 }
 
 // Launch a list of pages as one transaction.
 #[no_mangle]
 pub extern "C" fn bpcc_launch(pages: u32, slots: u32, state: &mut [u32], list: &[u32]) -> u64
-    ensures { λ r. ⌜ returned r (now (state .exit)) ≡ launchOutcome pages slots (now (state .entry)) (now (list .entry)) ⌝ }
+    ensures { λ r. ⌜ returned r (now (state .exit)) ≡ launchOutcome (sizesOf pages slots) (now (state .entry)) (now (list .entry)) ⌝ }
 {
-    transact::launch(pages, slots, state, list)
+    flight::launch(Sizes { pages, slots }, state, list)
 }
 
 // Write a page of a launched transaction into a blank slot.
@@ -56,17 +59,25 @@ pub extern "C" fn bpcc_write(
     bytes: &[u8],
 ) -> u64
     ensures { λ r. ⌜ returned r (volume (now (words .exit)) (now (contents .exit)) (now (state .exit)))
-        ≡ writeOutcome width pages slots (volume (now (words .entry)) (now (contents .entry)) (now (state .entry))) page slot (now (bytes .entry)) ⌝ }
+        ≡ writeOutcome width (sizesOf pages slots) (volume (now (words .entry)) (now (contents .entry)) (now (state .entry))) page slot (now (bytes .entry)) ⌝ }
 {
-    transact::write(pages, slots, words, contents, state, page, slot, bytes)
+    transact::write(
+        Sizes { pages, slots },
+        words,
+        contents,
+        state,
+        page,
+        slot,
+        bytes,
+    )
 }
 
 // Withdraw the transaction that a page is in.
 #[no_mangle]
 pub extern "C" fn bpcc_withdraw(pages: u32, slots: u32, state: &mut [u32], page: u32) -> u64
-    ensures { λ r. ⌜ returned r (now (state .exit)) ≡ withdrawOutcome pages slots (now (state .entry)) page ⌝ }
+    ensures { λ r. ⌜ returned r (now (state .exit)) ≡ withdrawOutcome (sizesOf pages slots) (now (state .entry)) page ⌝ }
 {
-    transact::withdraw(pages, slots, state, page)
+    flight::withdraw(Sizes { pages, slots }, state, page)
 }
 
 // Erase a list of slots.
@@ -80,25 +91,25 @@ pub extern "C" fn bpcc_erase(
     list: &[u32],
 ) -> u64
     ensures { λ r. ⌜ returned r (flash (now (words .exit)) (now (contents .exit)))
-        ≡ eraseOutcome width pages slots (volume (now (words .entry)) (now (contents .entry)) (now (state .entry))) (now (list .entry)) ⌝ }
+        ≡ eraseOutcome width (sizesOf pages slots) (volume (now (words .entry)) (now (contents .entry)) (now (state .entry))) (now (list .entry)) ⌝ }
 {
-    collect::erase(pages, slots, words, contents, state, list)
+    collect::erase(Sizes { pages, slots }, words, contents, state, list)
 }
 
 // Suggest some slot that may be erased.
 #[no_mangle]
 pub extern "C" fn bpcc_suggest(pages: u32, slots: u32, words: &[u32], state: &[u32]) -> u64
-    ensures { λ r. ⌜ SuggestOutcome pages slots (now (words .entry)) (now (state .entry)) (returned r tt) ⌝ }
+    ensures { λ r. ⌜ SuggestOutcome (sizesOf pages slots) (now (words .entry)) (now (state .entry)) (returned r tt) ⌝ }
 {
-    collect::suggest(pages, slots, words, state)
+    collect::suggest(Sizes { pages, slots }, words, state)
 }
 
 // Recover the state from the slot table.
 #[no_mangle]
 pub extern "C" fn bpcc_recover(pages: u32, slots: u32, words: &[u32], state: &mut [u32]) -> u64
-    ensures { λ r. ⌜ returned r (now (state .exit)) ≡ recoverOutcome pages slots (now (words .entry)) (now (state .entry)) ⌝ }
+    ensures { λ r. ⌜ returned r (now (state .exit)) ≡ recoverOutcome (sizesOf pages slots) (now (words .entry)) (now (state .entry)) ⌝ }
 {
-    recovery::recover(pages, slots, words, state)
+    recovery::recover(Sizes { pages, slots }, words, state)
 }
 
 // Count the set bits of a slot's contents.
@@ -121,15 +132,17 @@ pub extern "C" fn bpcc_read(
     out: &mut [u8],
 ) -> u64
     ensures { λ r. ⌜ returned r (now (out .exit))
-        ≡ readOutcome width pages slots (volume (now (words .entry)) (now (contents .entry)) (now (state .entry))) page (now (out .entry)) ⌝ }
+        ≡ readOutcome width (sizesOf pages slots) (volume (now (words .entry)) (now (contents .entry)) (now (state .entry))) page (now (out .entry)) ⌝ }
 {
     reader::read(pages, slots, words, contents, state, page, out)
 }
 
-// Document 01's ★ cases hold of the definitions that the calls' contracts cite, and so do the bounds of P and S.
+// Document 01's ★ cases hold of the definitions that the calls' contracts cite, and so do the bounds of P and S, and the records that a ring of two
+// stores.
 pub fn star_cases()
     ensures cases { λ _. ⌜ RowsHold starTable ⌝ }
     ensures bounds { λ _. ⌜ RowsHold boundRows ⌝ }
+    ensures records { λ _. ⌜ RowsHold writeRows ⌝ }
 {}
 
 // Promise 3, whole: one theorem over all lists of calls and crashes; that it holds of the volume's own state; the paper's two invariants; that its

@@ -4,18 +4,15 @@ use native.Mathlib.Omega.{arith}
 use native.Mathlib.Numerals.{add-one}
 use mathlib.Core.Path.{_≡_, refl}
 use mathlib.Core.List.{List, [], _∷_}
-use mathlib.Core.Bool.{true}
 use lib.ListN.{length, getD, take}
 use lib.Seq.{take-length}
 use Rattle.bounded.specs.PartsLaws.{part-inside}
-use Rattle.record.specs.Slot.{slotAt}
+use Rattle.sizes.specs.declared.Sizes.{Sizes}
+use Rattle.sizes.specs.Lists.{Listed, list-facts}
 use Rattle.record.specs.Flash.{Flash, Step, apply, applyAll}
-use Rattle.table.specs.Table.{tableSound}
-use Rattle.rules.specs.Volume.{Volume, volumeFits}
-use Rattle.rules.specs.laws.Sizes.{Fits, fits-facts}
-use Rattle.rules.specs.laws.Lists.{Listed, list-facts}
+use Rattle.rules.specs.Volume.{Volume}
+use Rattle.rules.specs.laws.Volume.{Fits}
 use Rattle.rules.specs.Erase.{eraseAnswer, eraseSteps}
-use Rattle.collect.specs.Within.{Within, sound-within}
 use Rattle.rules.specs.laws.Accepted.{erase-tests}
 
 -- every listed slot is in the words and in the contents
@@ -49,18 +46,12 @@ module _ (w : ℕ) where
 -- ---- an accepted erase
 
 -- each listed slot is inside a volume that fits
-listed-in : (w P S : ℕ) (v : Volume) (list : List ℕ) → Fits w P S v → Listed S list → ListedIn w (v .flash .words) (v .flash .contents) list
-listed-in w P S v list f l = record {
+listed-in : (w : ℕ) (sizes : Sizes) (v : Volume) (list : List ℕ) → Fits w sizes v → Listed (sizes .slots) list → ListedIn w (v .flash .words) (v .flash .contents) list
+listed-in w sizes v list f l = record {
   words-in = λ i h. let k = l .in-range i h in let e = f .flash-sized .words-sized in omega arith;
-  contents-in = λ i h. let e = f .flash-sized .contents-sized in let k = part-inside w S (getD list i 0) (l .in-range i h) in omega arith;
+  contents-in = λ i h. let e = f .flash-sized .contents-sized in let k = part-inside w (sizes .slots) (getD list i 0) (l .in-range i h) in omega arith;
 }
 
--- the search of a volume that fits, with a sound table, is inside its buffers
-pub fits-within : (w P S : ℕ) (v : Volume) → volumeFits w P S v ≡ true → tableSound P S (slotAt (v .flash .words)) ≡ true → Within S (v .flash .words) (v .state)
-fits-within w P S v e sound =
-    let f = fits-facts w P S v e in
-    sound-within P S (v .flash .words) (v .state) (f .flash-sized .words-sized) (f .state-sized) sound
-
-pub accepted-listed : (w P S : ℕ) (v : Volume) (list : List ℕ) → eraseAnswer w P S v list ≡ 0 → ListedIn w (v .flash .words) (v .flash .contents) list
-accepted-listed w P S v list e =
-    let t = erase-tests w P S v list e in listed-in w P S v list (t .fits) (list-facts S list (t .listed))
+pub accepted-listed : (w : ℕ) (sizes : Sizes) (v : Volume) (list : List ℕ) → eraseAnswer w sizes v list ≡ 0 → ListedIn w (v .flash .words) (v .flash .contents) list
+accepted-listed w sizes v list e =
+    let t = erase-tests w sizes v list e in listed-in w sizes v list (t .fits) (list-facts (sizes .slots) list (t .listed))

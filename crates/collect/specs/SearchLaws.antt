@@ -11,7 +11,7 @@ use Rattle.record.specs.declared.Slot.{Slot}
 use Rattle.record.specs.declared.Slot.the-variants.{Blank, Holds}
 use Rattle.record.specs.Slot.{holds, someRecord}
 use Rattle.state.specs.declared.PageState.{PageState}
-use Rattle.rules.specs.Permission.{isObsolete, isExposed, outreaches, isShielded, isNeeded, isCurrent, mayEraseRecord}
+use Rattle.rules.specs.Permission.{isObsolete, isExposed, outdoneBy, supports, isNeeded, isCurrent, mayEraseRecord}
 
 -- ---- a search upward: one number more that does not pass
 pub none-more : (f : ℕ → Bool) (n : ℕ) → ((k : ℕ) → k < n → f k ≡ false) → f n ≡ false → (k : ℕ) → k < n + 1 → f k ≡ false
@@ -31,19 +31,19 @@ holds-record f e = rw e
 
 module _ (S : ℕ) (t : ℕ → Slot) (st : ℕ → PageState) (K : Record) where
   -- a better straddler settles it
-  pub outreached-not-needed : (k : ℕ) → k < S → holds (outreaches K) (t k) ≡ true → isNeeded S t st K ≡ false
+  pub outdone-not-needed : (k : ℕ) → k < S → holds (outdoneBy K) (t k) ≡ true → isNeeded S t st K ≡ false
   unfolding isNeeded someRecord
-  outreached-not-needed k h e = rw (some-of (λ j. holds (outreaches K) (t j)) S k h e)
+  outdone-not-needed k h e = rw (some-of (λ j. holds (outdoneBy K) (t j)) S k h e)
 
   -- an exposed link settles it, where there is no better straddler
-  pub shields-needed : (k : ℕ) → k < S → holds (isShielded st K) (t k) ≡ true → someRecord S t (outreaches K) ≡ false → isNeeded S t st K ≡ true
+  pub supporter-needed : (k : ℕ) → k < S → holds (supports st K) (t k) ≡ true → someRecord S t (outdoneBy K) ≡ false → isNeeded S t st K ≡ true
   unfolding isNeeded someRecord
-  shields-needed k h e none = rw (none, some-of (λ j. holds (isShielded st K) (t j)) S k h e)
+  supporter-needed k h e none = rw (none, some-of (λ j. holds (supports st K) (t j)) S k h e)
 
   -- no exposed link
-  pub nothing-shielded : someRecord S t (isShielded st K) ≡ false → isNeeded S t st K ≡ false
+  pub nothing-supported : someRecord S t (supports st K) ≡ false → isNeeded S t st K ≡ false
   unfolding isNeeded
-  nothing-shielded e = let a : (b : Bool) → (b && false) ≡ false = never-both in rw e (a (not (someRecord S t (outreaches K))))
+  nothing-supported e = let a : (b : Bool) → (b && false) ≡ false = never-both in rw e (a (not (someRecord S t (outdoneBy K))))
     where
       never-both : (b : Bool) → (b && false) ≡ false
       never-both true = refl

@@ -1,26 +1,23 @@
-// Garbage collection: when a slot may be erased; erase and suggest. The definitions are in specs/.
+// Garbage collection: when a slot may be erased; erase and suggest. The definitions are in crate rules.
 ghost use mathlib.Core.Path.{_≡_};
 ghost use Prim.Native.Nat.{_+_, _*_, _≤_, _<_};
 ghost use lib.ListN.{length};
 ghost use Rattle.bounded.specs.Below.{firstBelow};
 ghost use Rattle.bounded.specs.Limits.{width};
 ghost use Rattle.outcome.specs.Outcome.{returned};
+ghost use Rattle.sizes.specs.Lists.{Listed};
 ghost use Rattle.record.specs.Slot.{holds, slotAt};
 ghost use Rattle.record.specs.Flash.{flash, Step, apply, applyAll};
 ghost use Rattle.state.specs.State.{stateAt};
 ghost use Rattle.rules.specs.Volume.{volume};
-ghost use Rattle.rules.specs.laws.Lists.{Listed};
-ghost use Rattle.rules.specs.Permission.{isObsolete, isExposed, outreaches, isShielded, isNeeded, isCurrent, mayEraseRecord, mayErase, mayEraseAll};
-ghost use Rattle.collect.specs.Within.{Within};
+ghost use Rattle.rules.specs.Permission.{isObsolete, isExposed, outdoneBy, supports, isNeeded, isCurrent, mayEraseRecord, mayErase, mayEraseAll};
 ghost use Rattle.rules.specs.Erase.{eraseAnswer, eraseSteps, eraseOutcome};
-ghost use Rattle.collect.specs.EraseLaws.{ListedIn};
 ghost use Rattle.rules.specs.Suggest.{SuggestOutcome};
-ghost use Rattle.collect.specs.SuggestLaws.{sizesFit};
+ghost use Rattle.collect.specs.Within.{Within};
+ghost use Rattle.collect.specs.EraseLaws.{ListedIn};
 use record::Record;
 use record::Slot;
-
-// "the suggested slot is 4,294,967,295" where a suggest is refused.
-const NO_SLOT: u32 = 4294967295;
+use sizes::Sizes;
 
 // "A record is obsolete if v is below its page's committed version"
 fn is_obsolete(state: &[u32], record: Record) -> bool
@@ -53,8 +50,8 @@ fn is_current(state: &[u32], record: Record) -> bool
 }
 
 // The other record has "the same page and c with a higher v".
-fn is_outreached(straddler: Record, other: Record) -> bool
-    ensures { λ r. ⌜ r ≡ outreaches straddler other ⌝ }
+fn is_outdone(straddler: Record, other: Record) -> bool
+    ensures { λ r. ⌜ r ≡ outdoneBy straddler other ⌝ }
 {
     if other.p != straddler.p {
         return false;
@@ -66,9 +63,9 @@ fn is_outreached(straddler: Record, other: Record) -> bool
 }
 
 // The record is exposed, and its link straddled.
-fn is_shielded(state: &[u32], straddler: Record, record: Record) -> bool
+fn supports(state: &[u32], straddler: Record, record: Record) -> bool
     requires { ⌜ 4 * «record» .p + 4 ≤ length (now state) ⌝ }
-    ensures { λ r. ⌜ r ≡ isShielded (stateAt (now (state .entry))) straddler «record» ⌝ }
+    ensures { λ r. ⌜ r ≡ supports (stateAt (now (state .entry))) straddler «record» ⌝ }
 {
     if !is_exposed(state, record) {
         return false;
@@ -76,42 +73,42 @@ fn is_shielded(state: &[u32], straddler: Record, record: Record) -> bool
     straddler.straddles(record)
 }
 
-// The slot holds a record that outreaches the straddler.
-fn slot_outreaches(words: &[u32], slot: u32, straddler: Record) -> bool
+// The slot holds a record that outdoes the straddler.
+fn slot_outdoes(words: &[u32], slot: u32, straddler: Record) -> bool
     requires { ⌜ 5 * slot + 5 ≤ length (now words) ⌝ }
-    ensures { λ r. ⌜ r ≡ holds (outreaches straddler) (slotAt (now (words .entry)) slot) ⌝ }
+    ensures { λ r. ⌜ r ≡ holds (outdoneBy straddler) (slotAt (now (words .entry)) slot) ⌝ }
 {
     let Slot::Holds(other) = record::slot_at(words, slot) else {
         return false;
     };
-    is_outreached(straddler, other)
+    is_outdone(straddler, other)
 }
 
 // The slot holds an exposed record whose link is straddled.
-fn slot_shielded(words: &[u32], slots: u32, state: &[u32], slot: u32, straddler: Record) -> bool
+fn slot_supported(slots: u32, words: &[u32], state: &[u32], slot: u32, straddler: Record) -> bool
     requires { ⌜ Within slots (now words) (now state) ⌝ }
     requires { ⌜ slot < slots ⌝ }
-    ensures { λ r. ⌜ r ≡ holds (isShielded (stateAt (now (state .entry))) straddler) (slotAt (now (words .entry)) slot) ⌝ }
+    ensures { λ r. ⌜ r ≡ holds (supports (stateAt (now (state .entry))) straddler) (slotAt (now (words .entry)) slot) ⌝ }
 {
     let Slot::Holds(record) = record::slot_at(words, slot) else {
         return false;
     };
-    is_shielded(state, straddler, record)
+    supports(state, straddler, record)
 }
 
 // "An obsolete K is needed if no record has the same page and c with a higher v, and some exposed record's link is straddled
 // by K.": at the first exposed link that the straddler straddles, a better straddler is searched for.
-fn is_needed(words: &[u32], slots: u32, state: &[u32], straddler: Record) -> bool
+fn is_needed(slots: u32, words: &[u32], state: &[u32], straddler: Record) -> bool
     requires { ⌜ Within slots (now words) (now state) ⌝ }
     ensures { λ r. ⌜ r ≡ isNeeded slots (slotAt (now (words .entry))) (stateAt (now (state .entry))) straddler ⌝ }
 {
     let mut needed = false;
     let mut link = 0;
     'search: while link < slots {
-        if slot_shielded(words, slots, state, link, straddler) {
+        if slot_supported(slots, words, state, link, straddler) {
             let mut other = 0;
             while other < slots {
-                if slot_outreaches(words, other, straddler) {
+                if slot_outdoes(words, other, straddler) {
                     break 'search;
                 }
                 other += 1;
@@ -125,13 +122,13 @@ fn is_needed(words: &[u32], slots: u32, state: &[u32], straddler: Record) -> boo
 }
 
 // "an obsolete record that is no needed straddler, or an exposed record other than one whose page is in flight with v = used"
-fn may_erase_record(words: &[u32], slots: u32, state: &[u32], record: Record) -> bool
+fn may_erase_record(slots: u32, words: &[u32], state: &[u32], record: Record) -> bool
     requires { ⌜ Within slots (now words) (now state) ⌝ }
     requires { ⌜ 4 * «record» .p + 4 ≤ length (now state) ⌝ }
     ensures { λ r. ⌜ r ≡ mayEraseRecord slots (slotAt (now (words .entry))) (stateAt (now (state .entry))) «record» ⌝ }
 {
     if is_obsolete(state, record) {
-        return !is_needed(words, slots, state, record);
+        return !is_needed(slots, words, state, record);
     }
     if !is_exposed(state, record) {
         return false;
@@ -140,7 +137,7 @@ fn may_erase_record(words: &[u32], slots: u32, state: &[u32], record: Record) ->
 }
 
 // The slot may be erased.
-fn may_erase(words: &[u32], slots: u32, state: &[u32], slot: u32) -> bool
+fn may_erase(slots: u32, words: &[u32], state: &[u32], slot: u32) -> bool
     requires { ⌜ Within slots (now words) (now state) ⌝ }
     requires { ⌜ slot < slots ⌝ }
     ensures { λ r. ⌜ r ≡ mayErase slots (slotAt (now (words .entry))) (stateAt (now (state .entry))) slot ⌝ }
@@ -148,18 +145,18 @@ fn may_erase(words: &[u32], slots: u32, state: &[u32], slot: u32) -> bool
     let Slot::Holds(record) = record::slot_at(words, slot) else {
         return false;
     };
-    may_erase_record(words, slots, state, record)
+    may_erase_record(slots, words, state, record)
 }
 
 // "The permission is judged for every slot on the table before the call": each listed slot may be erased.
-fn may_erase_all(words: &[u32], slots: u32, state: &[u32], list: &[u32]) -> bool
+fn may_erase_all(slots: u32, words: &[u32], state: &[u32], list: &[u32]) -> bool
     requires { ⌜ Within slots (now words) (now state) ⌝ }
     requires { ⌜ Listed slots (now list) ⌝ }
     ensures { λ r. ⌜ r ≡ mayEraseAll slots (slotAt (now (words .entry))) (stateAt (now (state .entry))) (now (list .entry)) ⌝ }
 {
     let mut i = 0;
     while i < list.len() {
-        if !may_erase(words, slots, state, list[i]) {
+        if !may_erase(slots, words, state, list[i]) {
             return false;
         }
         i += 1;
@@ -168,13 +165,13 @@ fn may_erase_all(words: &[u32], slots: u32, state: &[u32], list: &[u32]) -> bool
 }
 
 // The lowest slot that may be erased; `slots` where none may.
-fn first_erasable(words: &[u32], slots: u32, state: &[u32]) -> u32
+fn first_erasable(slots: u32, words: &[u32], state: &[u32]) -> u32
     requires { ⌜ Within slots (now words) (now state) ⌝ }
     ensures { λ r. ⌜ r ≡ firstBelow slots (mayErase slots (slotAt (now (words .entry))) (stateAt (now (state .entry)))) ⌝ }
 {
     let mut slot = 0;
     while slot < slots {
-        if may_erase(words, slots, state, slot) {
+        if may_erase(slots, words, state, slot) {
             return slot;
         }
         slot += 1;
@@ -188,7 +185,7 @@ fn blank_slot(words: &mut [u32], contents: &mut [u8], slot: u32)
     requires { ⌜ width * slot + width ≤ length (now contents) ⌝ }
     ensures { λ _. ⌜ flash (now (words .exit)) (now (contents .exit)) ≡ apply width (flash (now (words .entry)) (now (contents .entry))) (Step.Blank slot) ⌝ }
 {
-    let ones = [255u8; volume::WIDTH];
+    let ones = [255u8; sizes::WIDTH];
     record::flash::put_slot(words, contents, slot, Record::BLANK, &ones);
 }
 
@@ -205,29 +202,18 @@ fn blank_listed(words: &mut [u32], contents: &mut [u8], list: &[u32])
 }
 
 // The number back of an erase: the first refusal that holds, or 0.
-fn erase_answer(
-    pages: u32,
-    slots: u32,
-    words: &[u32],
-    contents: &[u8],
-    state: &[u32],
-    list: &[u32],
-) -> u32
-    ensures { λ r. ⌜ r ≡ eraseAnswer width pages slots (volume (now (words .entry)) (now (contents .entry)) (now (state .entry))) (now (list .entry)) ⌝ }
+fn erase_answer(sizes: Sizes, words: &[u32], contents: &[u8], state: &[u32], list: &[u32]) -> u32
+    ensures { λ r. ⌜ r ≡ eraseAnswer width sizes (volume (now (words .entry)) (now (contents .entry)) (now (state .entry))) (now (list .entry)) ⌝ }
 {
-    if !volume::volume_fits(volume::WIDTH as u32, pages, slots, words, contents, state) {
-        return 1;
+    let fits = volume::volume_fits(sizes, words, contents, state);
+    let first = volume::judged(fits, sizes, words, state);
+    if first != 0 {
+        return first;
     }
-    if !table::table_sound(words, pages, slots) {
-        return 2;
-    }
-    if !state::state_sound(state, pages) {
-        return 5;
-    }
-    if !volume::list_ok(list, slots) {
+    if !sizes::list_ok(sizes.slots, list) {
         return 6;
     }
-    if !may_erase_all(words, slots, state, list) {
+    if !may_erase_all(sizes.slots, words, state, list) {
         return 12;
     }
     0
@@ -235,16 +221,16 @@ fn erase_answer(
 
 // Erase a list of slots.
 pub fn erase(
-    pages: u32,
-    slots: u32,
+    sizes: Sizes,
     words: &mut [u32],
     contents: &mut [u8],
     state: &[u32],
     list: &[u32],
 ) -> u64
-    ensures { λ r. ⌜ returned r (flash (now (words .exit)) (now (contents .exit))) ≡ eraseOutcome width pages slots (volume (now (words .entry)) (now (contents .entry)) (now (state .entry))) (now (list .entry)) ⌝ }
+    ensures { λ r. ⌜ returned r (flash (now (words .exit)) (now (contents .exit)))
+        ≡ eraseOutcome width sizes (volume (now (words .entry)) (now (contents .entry)) (now (state .entry))) (now (list .entry)) ⌝ }
 {
-    let answer = erase_answer(pages, slots, words, contents, state, list);
+    let answer = erase_answer(sizes, words, contents, state, list);
     if answer != 0 {
         return outcome::reply(answer, 0);
     }
@@ -252,35 +238,18 @@ pub fn erase(
     outcome::reply(0, 0)
 }
 
-// P, S and the lengths of the words and the state are right.
-fn sizes_fit(pages: u32, slots: u32, words: &[u32], state: &[u32]) -> bool
-    ensures { λ r. ⌜ r ≡ sizesFit pages slots (now (words .entry)) (now (state .entry)) ⌝ }
-{
-    if !volume::sizes_ok(pages, slots) {
-        return false;
-    }
-    if !volume::words_fit(words, slots) {
-        return false;
-    }
-    volume::state_fits(state, pages)
-}
-
 // Suggest some slot that may be erased: the lowest.
-pub fn suggest(pages: u32, slots: u32, words: &[u32], state: &[u32]) -> u64
-    ensures { λ r. ⌜ SuggestOutcome pages slots (now (words .entry)) (now (state .entry)) (returned r tt) ⌝ }
+pub fn suggest(sizes: Sizes, words: &[u32], state: &[u32]) -> u64
+    ensures { λ r. ⌜ SuggestOutcome sizes (now (words .entry)) (now (state .entry)) (returned r tt) ⌝ }
 {
-    if !sizes_fit(pages, slots, words, state) {
-        return outcome::reply(1, NO_SLOT);
+    let fits = sizes::table_ok(sizes, words, state);
+    let first = volume::judged(fits, sizes, words, state);
+    if first != 0 {
+        return outcome::reply(first, sizes::NO_NUMBER);
     }
-    if !table::table_sound(words, pages, slots) {
-        return outcome::reply(2, NO_SLOT);
-    }
-    if !state::state_sound(state, pages) {
-        return outcome::reply(5, NO_SLOT);
-    }
-    let slot = first_erasable(words, slots, state);
-    if slot >= slots {
-        return outcome::reply(13, NO_SLOT);
+    let slot = first_erasable(sizes.slots, words, state);
+    if slot >= sizes.slots {
+        return outcome::reply(13, sizes::NO_NUMBER);
     }
     outcome::reply(0, slot)
 }

@@ -3,23 +3,28 @@ use Prim.Native.Nat.{ℕ, zero, suc, _+_, _*_, _≤_, _<_}
 use native.Mathlib.Omega.{arith}
 use native.Mathlib.Numerals.{add-one}
 use mathlib.Core.Path.{_≡_, refl, sym, ap, _∙_}
-use mathlib.Core.List.{List, _++_, append-nil, append-assoc}
-use mathlib.Core.Bool.{_&&_}
+use mathlib.Core.List.{List, _++_, append-assoc}
+use mathlib.Core.Bool.{Bool, true, _&&_}
 use lib.Dec.{ltb, eqb}
-use lib.ListN.{length, replicate}
+use lib.ListN.{length, replicate, length-replicate}
 use borrow.Author.Tests.{eq-eqb, ne-eqb, ltb-true}
-use Rattle.bounded.specs.Choice.{on-eq, on-lt, both-left}
+use Rattle.bounded.specs.Choice.{on-eq, on-lt, both, both-left, same-test}
 use Rattle.bounded.specs.Parts.{joinFrom, joinParts}
-use Rattle.outcome.specs.Outcome.{held, settled-answer}
-use Rattle.record.specs.Slot.{slotAt, bytesAt}
-use Rattle.state.specs.State.{stateAt, stateSound}
-use Rattle.table.specs.Table.{tableSound}
-use Rattle.rules.specs.Volume.{Volume, volumeFits}
-use Rattle.rules.specs.laws.Sizes.{fits-facts}
-use Rattle.rules.specs.Read.{readSlot, readAnswer, readOutcome}
+use Rattle.bounded.specs.PartsLaws.{join-from-more}
+use Rattle.outcome.specs.Outcome.{Outcome}
+use Rattle.outcome.specs.OutcomeLaws.{held, settled-answer, settled-done}
+use Rattle.outcome.specs.Chain.{firstOf}
+use Rattle.sizes.specs.declared.Sizes.{Sizes}
 use Rattle.text.specs.Print.{shown, added, decimal}
 use Rattle.text.specs.PrintLaws.{added-next}
-use Rattle.listing.specs.Listing.{answerText, pageRead, pageText, firstRefusal, listAnswer, listText}
+use Rattle.record.specs.Slot.{bytesAt}
+use Rattle.bits.specs.Bits.{countOutcome}
+use Rattle.table.specs.Table.{hasVersion}
+use Rattle.rules.specs.Volume.{Volume, volumeFits}
+use Rattle.rules.specs.Read.{readSlot, readAnswer, readOutcome}
+use Rattle.rules.specs.laws.Volume.{fits-facts}
+use Rattle.rules.specs.laws.Chains.{judged, judged-passed, readOwn, read-chain}
+use Rattle.listing.specs.Listing.{answerText, pageRead, drawnOf, pageText, firstRefusal, listAnswer, listText}
 
 -- the first of some answers that is not 0
 module _ (answers : ℕ → ℕ) where
@@ -54,13 +59,7 @@ pub field-next :
 field-next out out₁ at at₁ name n text e l =
     added-next out out₁ at at₁ (name ++ decimal n) text e l ∙ ap (added out at) (append-assoc name (decimal n) text)
 
--- one list more, behind those joined
-pub join-from-more : {A : Type 0} (f : ℕ → List A) (n i last : ℕ) → last ≡ i + n → joinFrom (suc n) i f ≡ joinFrom n i f ++ f last
-unfolding joinFrom
-join-from-more f zero i last e = let k : last ≡ i = omega arith in rw k (append-nil (f i))
-join-from-more {A} f (suc n) i last e =
-    ap (λ (rest : List A). f i ++ rest) (join-from-more f n (suc i) last (omega arith)) ∙ sym (append-assoc (f i) (joinFrom n (suc i) f) (f last))
-
+-- one text more, behind those joined
 pub parts-next :
     (f : ℕ → List ℕ) (out out₁ text : List ℕ) (at at₁ n : ℕ) → shown out₁ at₁ ≡ added out at (joinParts n f) → length out₁ ≡ length out
     → text ≡ added out₁ at₁ (f n) → text ≡ added out at (joinParts (n + 1) f)
@@ -68,33 +67,66 @@ unfolding joinParts
 parts-next f out out₁ text at at₁ n e l q =
     q ∙ added-next out out₁ at at₁ (joinFrom n 0 f) (f n) e l ∙ ap (added out at) (rw (add-one n) (sym (join-from-more f n 0 n (omega arith))))
 
-module _ (w P S : ℕ) (v : Volume) where
-  -- Where the read of a page is accepted, the buffers have the table and the page's state.
-  pub record Readable (page : ℕ) : Type 0 where
-    pub table-there : 5 * S ≤ length (v .flash .words)
-    pub state-there : 4 * page + 4 ≤ length (v .state)
+-- a chain in two parts that answers 0 does so in both
+both-pass : (first own : ℕ) → firstOf first own ≡ 0 → (first ≡ 0) × (own ≡ 0)
+unfolding firstOf
+both-pass zero own e = (refl, e)
+both-pass (suc n) own e = absurd (omega arith)
 
-  pub readable : (page : ℕ) → pageRead w P S v page .answer ≡ 0 → Readable page
-  unfolding pageRead readOutcome readAnswer
+module _ (w : ℕ) (sizes : Sizes) (v : Volume) where
+  -- The answer of a page's read: the volume's, by conditions 1, 2 and 5, which all pages share; else the page's own.
+  page-chain : (page : ℕ) → pageRead w sizes v page .answer ≡ firstOf (judged (volumeFits w sizes v) (sizes .pages) (sizes .slots) (v .flash .words) (v .state)) (readOwn (sizes .pages) (sizes .slots) (v .flash .words) (v .state) page)
+  unfolding pageRead readOutcome
+  page-chain page =
+      let out : List ℕ = replicate w 0 in
+      let whole : eqb (length out) w ≡ true = eq-eqb _ _ (length-replicate {A = ℕ} w 0) in
+      let e = same-test (volumeFits w sizes v && eqb (length out) w) (volumeFits w sizes v) (both-left (volumeFits w sizes v) (eqb (length out) w)) (λ h. both h whole) in
+      settled-answer (readAnswer w sizes v page out) 0 0 out (bytesAt w (v .flash .contents) (readSlot (sizes .slots) v page))
+      ∙ read-chain w sizes v page out
+      ∙ ap (λ (b : Bool). firstOf (judged b (sizes .pages) (sizes .slots) (v .flash .words) (v .state)) (readOwn (sizes .pages) (sizes .slots) (v .flash .words) (v .state) page)) e
+
+  pub page-answered :
+      (page first answer : ℕ) (fits : Bool) → fits ≡ volumeFits w sizes v → first ≡ judged fits (sizes .pages) (sizes .slots) (v .flash .words) (v .state)
+      → answer ≡ firstOf first (readOwn (sizes .pages) (sizes .slots) (v .flash .words) (v .state) page) → answer ≡ pageRead w sizes v page .answer
+  page-answered page first answer fits same said e = rw (page-chain page, ← same, ← said) e
+
+  -- Where the read of a page is accepted: the buffers have the table, the page's state and the slot, and the slot's bytes are what is read.
+  pub record Readable (page : ℕ) : Type 0 where
+    pub table-there : 5 * (sizes .slots) ≤ length (v .flash .words)
+    pub state-there : 4 * page + 4 ≤ length (v .state)
+    pub contents-sized : length (v .flash .contents) ≡ w * (sizes .slots)
+    pub slot-there : readSlot (sizes .slots) v page < (sizes .slots)
+    pub drawn-there : countOutcome w (bytesAt w (v .flash .contents) (readSlot (sizes .slots) v page)) .second ≡ drawnOf w sizes v page
+
+  pub readable : (page : ℕ) → pageRead w sizes v page .answer ≡ 0 → Readable page
+  unfolding pageRead readOutcome readSlot readOwn hasVersion drawnOf
   readable page e =
       let out : List ℕ = replicate w 0 in
-      let a = held (volumeFits w P S v && eqb (length out) w) _ _ (sym (settled-answer (readAnswer w P S v page out) 0 0 out (bytesAt w (v .flash .contents) (readSlot S v page))) ∙ e) in
-      let b = held (tableSound P S (slotAt (v .flash .words))) _ _ (a .1) in
-      let c = held (stateSound P (stateAt (v .state))) _ _ (b .1) in
-      let d = held (ltb page P) _ _ (c .1) in
-      let f = fits-facts w P S v (both-left (volumeFits w P S v) (eqb (length out) w) (a .0)) in
-      let below = ltb-true page P (d .0) in
-      record { table-there = omega arith; state-there = omega arith }
+      let bytes : List ℕ = bytesAt w (v .flash .contents) (readSlot (sizes .slots) v page) in
+      let passed = both-pass _ _ (sym (page-chain page) ∙ e) in
+      let f = fits-facts w sizes v (judged-passed (volumeFits w sizes v) (sizes .pages) (sizes .slots) (v .flash .words) (v .state) (passed .0) .fitting) in
+      let in-range = held (ltb page (sizes .pages)) _ _ (passed .1) in
+      let found = held (ltb (readSlot (sizes .slots) v page) (sizes .slots)) _ _ (in-range .1) in
+      let below = ltb-true page (sizes .pages) (in-range .0) in
+      let answer = readAnswer w sizes v page out in
+      let left = settled-done answer 0 0 out bytes (sym (settled-answer answer 0 0 out bytes) ∙ e) in
+      record {
+        table-there = let size = f .flash-sized .words-sized in omega arith;
+        state-there = let size = f .state-sized in omega arith;
+        contents-sized = f .flash-sized .contents-sized;
+        slot-there = ltb-true (readSlot (sizes .slots) v page) (sizes .slots) (found .0);
+        drawn-there = sym (ap (λ (o : Outcome (List ℕ)). countOutcome w (o .left) .second) left);
+      }
 
   -- A refused list is its answer; an accepted one its pages and the answer 0.
-  module _ (answer : ℕ) (e : answer ≡ listAnswer w P S v) (out : List ℕ) (at : ℕ) (text : List ℕ) where
-    pub list-refused : ¬ (answer ≡ 0) → text ≡ added out at (answerText answer) → text ≡ added out at (listText w P S v)
+  module _ (answer : ℕ) (e : answer ≡ listAnswer w sizes v) (out : List ℕ) (at : ℕ) (text : List ℕ) where
+    pub list-refused : ¬ (answer ≡ 0) → text ≡ added out at (answerText answer) → text ≡ added out at (listText w sizes v)
     unfolding listText
     list-refused d q = rw (← e, ne-eqb answer 0 d) q
 
     pub list-accepted :
-        (out₁ : List ℕ) (at₁ : ℕ) → answer ≡ 0 → shown out₁ at₁ ≡ added out at (joinParts P (pageText w P S v)) → length out₁ ≡ length out
-        → text ≡ added out₁ at₁ (answerText 0) → text ≡ added out at (listText w P S v)
+        (out₁ : List ℕ) (at₁ : ℕ) → answer ≡ 0 → shown out₁ at₁ ≡ added out at (joinParts (sizes .pages) (pageText w sizes v)) → length out₁ ≡ length out
+        → text ≡ added out₁ at₁ (answerText 0) → text ≡ added out at (listText w sizes v)
     unfolding listText
     list-accepted out₁ at₁ z h l q =
-        rw (← e, eq-eqb answer 0 z) (q ∙ added-next out out₁ at at₁ (joinParts P (pageText w P S v)) (answerText 0) h l)
+        rw (← e, eq-eqb answer 0 z) (q ∙ added-next out out₁ at at₁ (joinParts (sizes .pages) (pageText w sizes v)) (answerText 0) h l)

@@ -1,10 +1,17 @@
 // What the script line op=list prints of a volume.
 ghost use mathlib.Core.Path.{_≡_};
+ghost use Prim.Native.Nat.{_+_, _*_, _≤_, _<_};
+ghost use lib.ListN.{length};
 ghost use Rattle.bounded.specs.Limits.{width};
 ghost use Rattle.bounded.specs.Parts.{joinParts};
-ghost use Rattle.rules.specs.Volume.{volume};
+ghost use Rattle.outcome.specs.Chain.{firstOf};
 ghost use Rattle.text.specs.Print.{shown, added};
-ghost use Rattle.listing.specs.Listing.{answerText, pageRead, drawnOf, stateText, fieldsText, pageText, listAnswer, listText};
+ghost use Rattle.record.specs.Slot.{bytesAt};
+ghost use Rattle.bits.specs.Bits.{countOutcome};
+ghost use Rattle.rules.specs.Volume.{volume};
+ghost use Rattle.rules.specs.laws.Chains.{Spans, readOwn};
+ghost use Rattle.listing.specs.Listing.{answerText, pageRead, stateText, fieldsText, pageText, listAnswer, listText};
+use sizes::Sizes;
 use text::print;
 
 // "answer=" and the number back.
@@ -35,39 +42,30 @@ fn put_fields(out: &mut [u8], at: usize, page: u32, version: u32, slot: u32, dra
     put_state(out, d, drawn)
 }
 
-// The answer of a page's read.
-fn read_answer(
-    pages: u32,
-    slots: u32,
-    words: &[u32],
-    contents: &[u8],
-    state: &[u32],
-    page: u32,
-) -> u32
-    ensures { λ r. ⌜ r ≡ pageRead width pages slots (volume (now (words .entry)) (now (contents .entry)) (now (state .entry))) page .answer ⌝ }
+// The answer of a page's read on a volume that conditions 1, 2 and 5 answer by `first`.
+fn read_answer(first: u32, sizes: Sizes, words: &[u32], state: &[u32], page: u32) -> u32
+    requires { ⌜ (first ≡ 0 → Spans (sizes .pages) (sizes .slots) (now words) (now state)) ⌝ }
+    requires { ⌜ page < sizes .pages ⌝ }
+    ensures { λ r. ⌜ r ≡ firstOf first (readOwn (sizes .pages) (sizes .slots) (now (words .entry)) (now (state .entry)) page) ⌝ }
 {
-    let mut bytes = [0u8; volume::WIDTH];
-    let r = reader::read(pages, slots, words, contents, state, page, &mut bytes);
-    outcome::answer_of(r)
+    if first != 0 {
+        return first;
+    }
+    if reader::committed_slot(sizes.slots, words, state, page) >= sizes.slots {
+        return 14;
+    }
+    0
 }
 
-// "drawn is what Count gives for its bytes"
-fn drawn_of(pages: u32, slots: u32, words: &[u32], contents: &[u8], state: &[u32], page: u32) -> u32
-    ensures { λ r. ⌜ r ≡ drawnOf width pages slots (volume (now (words .entry)) (now (contents .entry)) (now (state .entry))) page ⌝ }
+// The answer of the first page whose read is refused; 0 where none is. The volume is judged once, for all pages.
+fn list_answer(sizes: Sizes, words: &[u32], contents: &[u8], state: &[u32]) -> u32
+    ensures { λ r. ⌜ r ≡ listAnswer width sizes (volume (now (words .entry)) (now (contents .entry)) (now (state .entry))) ⌝ }
 {
-    let mut bytes = [0u8; volume::WIDTH];
-    reader::read(pages, slots, words, contents, state, page, &mut bytes);
-    let r = bits::count(&bytes);
-    outcome::second_of(r)
-}
-
-// The answer of the first page whose read is refused; 0 where none is.
-fn list_answer(pages: u32, slots: u32, words: &[u32], contents: &[u8], state: &[u32]) -> u32
-    ensures { λ r. ⌜ r ≡ listAnswer width pages slots (volume (now (words .entry)) (now (contents .entry)) (now (state .entry))) ⌝ }
-{
+    let fits = volume::volume_fits(sizes, words, contents, state);
+    let first = volume::judged(fits, sizes, words, state);
     let mut page = 0;
-    while page < pages {
-        let answer = read_answer(pages, slots, words, contents, state, page);
+    while page < sizes.pages {
+        let answer = read_answer(first, sizes, words, state, page);
         if answer != 0 {
             return answer;
         }
@@ -76,10 +74,20 @@ fn list_answer(pages: u32, slots: u32, words: &[u32], contents: &[u8], state: &[
     0
 }
 
+// "drawn is what Count gives for its bytes": those of a slot.
+fn drawn_in(contents: &[u8], slot: u32) -> u32
+    requires { ⌜ width * slot + width ≤ length (now contents) ⌝ }
+    ensures { λ r. ⌜ r ≡ countOutcome width (bytesAt width (now (contents .entry)) slot) .second ⌝ }
+{
+    let mut bytes = [0u8; sizes::WIDTH];
+    record::flash::read_slot(contents, slot, &mut bytes);
+    let r = bits::count(&bytes);
+    outcome::second_of(r)
+}
+
 // The line of a page whose read is accepted.
 fn put_page(
-    pages: u32,
-    slots: u32,
+    sizes: Sizes,
     words: &[u32],
     contents: &[u8],
     state: &[u32],
@@ -87,34 +95,32 @@ fn put_page(
     out: &mut [u8],
     at: usize,
 ) -> usize
-    requires { ⌜ pageRead width pages slots (volume (now words) (now contents) (now state)) page .answer ≡ 0 ⌝ }
+    requires { ⌜ pageRead width sizes (volume (now words) (now contents) (now state)) page .answer ≡ 0 ⌝ }
     ensures { λ r. ⌜ shown (now (out .exit)) r
-        ≡ added (now (out .entry)) at (pageText width pages slots (volume (now (words .entry)) (now (contents .entry)) (now (state .entry))) page) ⌝ }
+        ≡ added (now (out .entry)) at (pageText width sizes (volume (now (words .entry)) (now (contents .entry)) (now (state .entry))) page) ⌝ }
 {
     let s = state::page_at(state, page);
-    let slot = volume::committed_slot(words, slots, state, page);
-    let drawn = drawn_of(pages, slots, words, contents, state, page);
-    put_fields(out, at, page, s.committed, slot, drawn)
+    let slot = reader::committed_slot(sizes.slots, words, state, page);
+    put_fields(out, at, page, s.committed, slot, drawn_in(contents, slot))
 }
 
 // The lines of all pages.
 fn put_pages(
-    pages: u32,
-    slots: u32,
+    sizes: Sizes,
     words: &[u32],
     contents: &[u8],
     state: &[u32],
     out: &mut [u8],
     at: usize,
 ) -> usize
-    requires { ⌜ listAnswer width pages slots (volume (now words) (now contents) (now state)) ≡ 0 ⌝ }
+    requires { ⌜ listAnswer width sizes (volume (now words) (now contents) (now state)) ≡ 0 ⌝ }
     ensures { λ r. ⌜ shown (now (out .exit)) r
-        ≡ added (now (out .entry)) at (joinParts pages (pageText width pages slots (volume (now (words .entry)) (now (contents .entry)) (now (state .entry))))) ⌝ }
+        ≡ added (now (out .entry)) at (joinParts (sizes .pages) (pageText width sizes (volume (now (words .entry)) (now (contents .entry)) (now (state .entry))))) ⌝ }
 {
     let mut place = at;
     let mut page = 0;
-    while page < pages {
-        place = put_page(pages, slots, words, contents, state, page, out, place);
+    while page < sizes.pages {
+        place = put_page(sizes, words, contents, state, page, out, place);
         page += 1;
     }
     place
@@ -122,8 +128,7 @@ fn put_pages(
 
 // "If a read is refused, list prints only one line, answer= and the first such number."
 pub fn list(
-    pages: u32,
-    slots: u32,
+    sizes: Sizes,
     words: &[u32],
     contents: &[u8],
     state: &[u32],
@@ -131,12 +136,12 @@ pub fn list(
     at: usize,
 ) -> usize
     ensures { λ r. ⌜ shown (now (out .exit)) r
-        ≡ added (now (out .entry)) at (listText width pages slots (volume (now (words .entry)) (now (contents .entry)) (now (state .entry)))) ⌝ }
+        ≡ added (now (out .entry)) at (listText width sizes (volume (now (words .entry)) (now (contents .entry)) (now (state .entry)))) ⌝ }
 {
-    let answer = list_answer(pages, slots, words, contents, state);
+    let answer = list_answer(sizes, words, contents, state);
     if answer != 0 {
         return put_answer(out, at, answer);
     }
-    let next = put_pages(pages, slots, words, contents, state, out, at);
+    let next = put_pages(sizes, words, contents, state, out, at);
     put_answer(out, next, 0)
 }

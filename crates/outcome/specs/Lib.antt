@@ -1,4 +1,6 @@
 pub mod Outcome
+pub mod OutcomeLaws
 pub mod Row
 pub mod Computing
 pub mod Reply
+pub mod Chain

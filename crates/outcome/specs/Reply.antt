@@ -1,7 +1,8 @@
 -- A returned number and the outcome that it says, for calls that are refused and calls that are done.
 use Prim.Native.Nat.{ℕ, _^_, _/_, _%_}
 use mathlib.Core.Path.{_≡_, sym, ap, _∙_}
-use Rattle.outcome.specs.Outcome.{Outcome, settled, settled-refused, settled-done, returned}
+use Rattle.outcome.specs.Outcome.{Outcome, settled, returned}
+use Rattle.outcome.specs.OutcomeLaws.{settled-refused, settled-done}
 
 -- the outcome with these numbers and these buffers
 abbrev pub outcomeOf : {B : Type 0} → (answer second : ℕ) (left : B) → Outcome B

@@ -28,16 +28,15 @@ pub record Completes (P : ℕ) (st st′ : ℕ → PageState) (p : ℕ) (bytes :
   pub kept-on : (q : ℕ) (b : List ℕ) → cycle q ≡ true → ¬ (q ≡ p) → Entered q b → kept′ q ≡ b
   pub kept-off : (q : ℕ) → q < P → cycle q ≡ false → kept′ q ≡ kept q
   pub entered-off : (q : ℕ) (b : List ℕ) → q < P → cycle q ≡ false → Entered q b → Entered′ q b
-  pub entered-before : (q : ℕ) (b : List ℕ) → q < P → cycle q ≡ false → Entered′ q b → Entered q b
 
 module _ {X : Type 0} (view : View X) {P : ℕ} {R R′ : X → List ℕ → Type 0} {st st′ : ℕ → PageState} {p : ℕ} {bytes : List ℕ} {cycle : ℕ → Bool} {kept kept′ : ℕ → List ℕ} {Entered Entered′ : ℕ → List ℕ → Type 0}
     (writes : Writes view P R R′ st p bytes) (completes : Completes P st st′ p bytes cycle kept kept′ Entered Entered′)
     (core : SharedCore view R (commOf st) P kept) (live : SharedLive view P R st Entered) where
   open Writes writes using (state, flies, unwritten, adds)
   open Adds adds using (grows, added, old-or-new)
-  open Completes completes using (cycle-start, cycle-flies, cycle-next, cycle-before, cycle-written, committed-on, used-on, rests-on, same-off, kept-here, kept-on, kept-off, entered-off, entered-before)
+  open Completes completes using (cycle-start, cycle-flies, cycle-next, cycle-before, cycle-written, committed-on, used-on, rests-on, same-off, kept-here, kept-on, kept-off, entered-off)
   open SharedCore core using (all-sound, committed-kept, committed-link, links-apart, exposed-open)
-  open SharedLive live using (within-used, written-stored, unwritten-absent, unwritten-not-entered, link-planned)
+  open SharedLive live using (within-used, written-stored, unwritten-absent, link-planned)
 
   -- ---- versions
 
@@ -235,7 +234,7 @@ module _ {X : Type 0} (view : View X) {P : ℕ} {R R′ : X → List ℕ → Typ
       → R′ x b
       → view .nextPage x ≡ q
       → view .nextVersion x ≡ st′ q .used
-      → (inFlight (st′ (view .page x)) ≡ true) × (st′ (view .page x) .next ≡ q) × (view .version x ≡ st′ (view .page x) .used)
+      → (inFlight (st′ (view .page x)) ≡ true) × (st′ (view .page x) .next ≡ q)
   planned q h f x b w n v = by (old-or-new x b w)
     where
       off : cycle q ≡ false
@@ -243,13 +242,13 @@ module _ {X : Type 0} (view : View X) {P : ℕ} {R R′ : X → List ℕ → Typ
 
       by :
           R x b ⊎ ((x ≡ plan view st p) × (b ≡ bytes))
-          → (inFlight (st′ (view .page x)) ≡ true) × (st′ (view .page x) .next ≡ q) × (view .version x ≡ st′ (view .page x) .used)
+          → (inFlight (st′ (view .page x)) ≡ true) × (st′ (view .page x) .next ≡ q)
       by (inl u) =
           let l = link-planned q h (flies-before q h f .flies) x b u n (v ∙ used-same q h) in
           let here : cycle (view .page x) ≡ false =
           on-test (cycle (view .page x)) (λ c. absurd (never (ap cycle (sym (l .1)) ∙ cycle-next (view .page x) c) off)) (λ c. c) in
           let e = same-off (view .page x) (page-below x b w) here in
-          (ap inFlight e ∙ l .0, ap (λ (s : PageState). s .next) e ∙ l .1, l .2 ∙ ap (λ (s : PageState). s .used) (sym e))
+          (ap inFlight e ∙ l .0, ap (λ (s : PageState). s .next) e ∙ l .1)
       by (inr e) =
           absurd (never (ap cycle (sym n ∙ ap (view .nextPage) (e .0) ∙ plan-next view st p) ∙ cycle-next p cycle-start) off)
 
@@ -264,7 +263,5 @@ module _ {X : Type 0} (view : View X) {P : ℕ} {R R′ : X → List ℕ → Typ
         };
         written-stored = stored;
         unwritten-absent = absent;
-        unwritten-not-entered = λ q h f w b e.
-            unwritten-not-entered q h (flies-before q h f .flies) (written-same q h f ∙ w) b (entered-before q b h (flight-off q f) e);
         link-planned = planned;
       }

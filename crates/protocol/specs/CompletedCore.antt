@@ -1,5 +1,5 @@
 -- A completed cycle and five-word records: exposed records point back at the committed versions still, and the cycle's own records straddle older links into it.
-use Prim.Native.Nat.{ℕ, suc, _≤_, _<_}
+use Prim.Native.Nat.{ℕ, _<_}
 use native.Mathlib.Omega.{arith}
 use mathlib.Core.Path.{_≡_, refl, sym, ap, _∙_, subst}
 use mathlib.Core.List.{List}

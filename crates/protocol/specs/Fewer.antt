@@ -65,7 +65,7 @@ module _ {X : Type 0} (view : View X) {P : ℕ} {R R′ : X → List ℕ → Typ
     (fewer : (r : X) (b : List ℕ) → R′ r b → R r b)
     (current-stays : (p : ℕ) → p < P → inFlight (st p) ≡ true → (r : X) (b : List ℕ) → R r b → view .page r ≡ p → view .version r ≡ st p .used → R′ r b)
     (live : SharedLive view P R st Entered) where
-  open SharedLive live using (within-used, written-stored, unwritten-absent, unwritten-not-entered, link-planned)
+  open SharedLive live using (within-used, written-stored, unwritten-absent, link-planned)
 
   pub live-fewer : SharedLive view P R′ st Entered
   live-fewer =
@@ -82,7 +82,6 @@ module _ {X : Type 0} (view : View X) {P : ℕ} {R R′ : X → List ℕ → Typ
           s .2,
         );
         unwritten-absent = λ p h f w r b v. unwritten-absent p h f w r b (fewer r b v);
-        unwritten-not-entered = unwritten-not-entered;
         link-planned = λ p h f r b v. link-planned p h f r b (fewer r b v);
       }
 
@@ -161,7 +160,7 @@ module _ {P : ℕ} {R R′ : Record → List ℕ → Type 0} {st : ℕ → PageS
       barred M top like straddles within e (inl o) =
           o .1 (record {
             furthest = λ r c v p q l. top r c v (p ∙ like .0, q ∙ like .1) l;
-            shields = (x, b, fewer x b w, exposed, straddles);
+            supports = (x, b, fewer x b w, exposed, straddles);
           })
       barred M top like straddles within e (inr z) = let l = z .0 in omega arith
 

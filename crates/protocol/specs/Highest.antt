@@ -14,7 +14,6 @@ use Rattle.record.specs.Slot.{straddles}
 use Rattle.record.specs.SlotLaws.{Straddles, straddles-facts, straddles-test, some-record-at, some-record-of}
 use Rattle.table.specs.Table.{highest, highestVersionOf, versionIn}
 use Rattle.table.specs.TableLaws.{highest-is, highest-held, highest-page, highest-above, highest-exists, has-record}
-use Rattle.follow.specs.declared.Verdict.{Verdict}
 use Rattle.follow.specs.declared.Verdict.the-variants as says
 use Rattle.rules.specs.Verdict.{isStraddled, linkVerdict, slotVerdict, verdict}
 use Rattle.protocol.specs.View.{InSlots}

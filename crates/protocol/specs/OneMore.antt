@@ -1,5 +1,5 @@
 -- One planned record more, with a page of its cycle still to be written, keeps the invariant.
-use Prim.Native.Nat.{ℕ, zero, suc, _≤_, _<_}
+use Prim.Native.Nat.{ℕ, zero, suc, _<_}
 use native.Mathlib.Omega.{arith}
 use mathlib.Core.Path.{_≡_, sym, ap, _∙_, subst}
 use mathlib.Core.List.{List}
@@ -17,7 +17,7 @@ use Rattle.state.specs.CycleLaws.{Flies, next-flies, along-zero, along-front}
 use Rattle.protocol.specs.View.{View, recordView, LinksTo, decide-links, IsAt, Exposed}
 use Rattle.protocol.specs.Shared.{SharedCore, SharedLive, OpenAtOnce, OpenWithin, Open, plan, commOf}
 use Rattle.protocol.specs.BackPointer.{AheadOrStraddled, BackPointerCore, Core}
-use Rattle.protocol.specs.Stored.{Adds, Writes, plan-page, plan-version, plan-next, plan-next-version, plan-links, old-and-new, none-more, committed-old, all-sound-more, one-record-more, within-used-more, plan-back, plan-clear, plan-ahead}
+use Rattle.protocol.specs.Stored.{Adds, Writes, plan-page, plan-next, plan-next-version, plan-links, old-and-new, none-more, committed-old, all-sound-more, one-record-more, within-used-more, plan-back, plan-clear, plan-ahead}
 
 -- once page p is written, page u is still to be
 abbrev pub Missing : (ℕ → PageState) → (p u : ℕ) → Type 0
@@ -28,7 +28,7 @@ module _ {X : Type 0} (view : View X) {P : ℕ} {R R′ : X → List ℕ → Typ
   open Writes writes using (state, flies, unwritten, adds)
   open Adds adds using (grows, added, old-or-new)
   open SharedCore core using (committed-kept, committed-link, links-apart, exposed-open)
-  open SharedLive live using (written-stored, unwritten-absent, unwritten-not-entered, link-planned)
+  open SharedLive live using (written-stored, unwritten-absent, link-planned)
 
   -- the record planned for a page whose next page is missing links to no record
   plan-at-once : (q : ℕ) → Flies P st q → Missing st p (st q .next) → OpenAtOnce view R′ (commOf st) (plan view st q)
@@ -117,14 +117,13 @@ pub record Marks (P : ℕ) (st st′ : ℕ → PageState) (p : ℕ) (bytes : Lis
   pub written-there : (q : ℕ) → q < P → ¬ (q ≡ p) → isWritten (st′ q) ≡ isWritten (st q)
   pub entered-here : Entered′ p bytes
   pub entered-there : (q : ℕ) (b : List ℕ) → q < P → ¬ (q ≡ p) → Entered q b → Entered′ q b
-  pub entered-before : (q : ℕ) (b : List ℕ) → q < P → ¬ (q ≡ p) → Entered′ q b → Entered q b
 
 module _ {X : Type 0} (view : View X) {P : ℕ} {R R′ : X → List ℕ → Type 0} {st st′ : ℕ → PageState} {p : ℕ} {bytes : List ℕ} {kept : ℕ → List ℕ} {Entered Entered′ : ℕ → List ℕ → Type 0}
     (writes : Writes view P R R′ st p bytes) (marks : Marks P st st′ p bytes Entered Entered′) (core : SharedCore view R (commOf st) P kept) (live : SharedLive view P R st Entered) where
   open Writes writes using (state, flies, unwritten, adds)
   open Adds adds using (grows, added, old-or-new)
-  open Marks marks using (same-committed, same-used, same-next, written-here, written-there, entered-here, entered-there, entered-before)
-  open SharedLive live using (written-stored, unwritten-absent, unwritten-not-entered, link-planned)
+  open Marks marks using (same-committed, same-used, same-next, written-here, written-there, entered-here, entered-there)
+  open SharedLive live using (written-stored, unwritten-absent, link-planned)
 
   flight-same : (q : ℕ) → q < P → inFlight (st′ q) ≡ inFlight (st q)
   unfolding inFlight
@@ -173,12 +172,12 @@ module _ {X : Type 0} (view : View X) {P : ℕ} {R R′ : X → List ℕ → Typ
 
   -- what a link to a used version says, in either state
   abbrev Predecessor : (ℕ → PageState) → ℕ → X → Type 0
-  Predecessor s q x = (inFlight (s (view .page x)) ≡ true) × (s (view .page x) .next ≡ q) × (view .version x ≡ s (view .page x) .used)
+  Predecessor s q x = (inFlight (s (view .page x)) ≡ true) × (s (view .page x) .next ≡ q)
 
   predecessor-same : (q : ℕ) (x : X) (b : List ℕ) → R′ x b → Predecessor st q x → Predecessor st′ q x
   predecessor-same q x b v w =
       let h = view .sound-page P x (all-sound-more view writes core live x b v) in
-      (flight-same (view .page x) h ∙ w .0, same-next (view .page x) h ∙ w .1, w .2 ∙ sym (same-used (view .page x) h))
+      (flight-same (view .page x) h ∙ w .0, same-next (view .page x) h ∙ w .1)
 
   pub live-more : SharedLive view P R′ st′ Entered′
   live-more =
@@ -191,8 +190,6 @@ module _ {X : Type 0} (view : View X) {P : ℕ} {R R′ : X → List ℕ → Typ
         };
         written-stored = stored;
         unwritten-absent = absent;
-        unwritten-not-entered = λ q h f w b e.
-            unwritten-not-entered q h (flies-before q h f .flies) (sym (written-there q h (unmarked q w)) ∙ w) b (entered-before q b h (unmarked q w) e);
         link-planned = λ q h f x b v n u.
             predecessor-same q x b v
             (old-and-new view writes core live (λ x b. view .nextPage x ≡ q → view .nextVersion x ≡ st q .used → Predecessor st q x)
@@ -200,7 +197,6 @@ module _ {X : Type 0} (view : View X) {P : ℕ} {R R′ : X → List ℕ → Typ
             (λ n u. (
               ap (λ (y : ℕ). inFlight (st y)) (plan-page view st p) ∙ flies .flies,
               ap (λ (y : ℕ). st y .next) (plan-page view st p) ∙ sym (plan-next view st p) ∙ n,
-              plan-version view st p ∙ ap (λ (y : ℕ). st y .used) (sym (plan-page view st p)),
             ))
             x b v n (u ∙ same-used q h));
       }

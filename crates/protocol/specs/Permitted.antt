@@ -19,7 +19,7 @@ module _ (R : Record → List ℕ → Type 0) where
   -- K is a needed straddler: no record has the same page and c with a higher v, and it straddles the link of some exposed record
   pub record Needed (comm : ℕ → ℕ) (K : Record) : Type 0 where
     pub furthest : (r : Record) (b : List ℕ) → R r b → r .p ≡ K .p → r .c ≡ K .c → K .v < r .v → ⊥
-    pub shields : (r : Record) × (b : List ℕ) × R r b × Exposed recordView comm r × Straddles K r
+    pub supports : (r : Record) × (b : List ℕ) × R r b × Exposed recordView comm r × Straddles K r
 
   -- an obsolete record that is no needed straddler, or an exposed record other than one whose page is in flight with v = used
   abbrev pub Permitted : (ℕ → PageState) → Record → Type 0
@@ -42,7 +42,7 @@ may-erase-permitted S t bytes st k r e h =
     needed K n =
         record {
           furthest = λ j s l f. n .furthest s (bytes j) (j, l, f, refl);
-          shields = let x = n .shields in let u = x .2 in (u .0, x .0, u .1, u .2, (x .3, x .4));
+          supports = let x = n .supports in let u = x .2 in (u .0, x .0, u .1, u .2, (x .3, x .4));
         }
 
     over : (s : Record) → slots.Erasable S t st s → Permitted (InSlots S t bytes) st s

@@ -8,22 +8,21 @@ use mathlib.Core.Bool.{true, false}
 use Rattle.bounded.specs.Below.{allBelow, someBelow}
 use Rattle.bounded.specs.Choice.{on-test}
 use Rattle.bounded.specs.BelowLaws.{all-of, some-none}
+use Rattle.sizes.specs.Sizes.{sizesOf, sizesOk, wordsFit, stateFits}
 use Rattle.record.specs.declared.Slot.{Slot}
 use Rattle.record.specs.declared.Slot.the-variants.{Blank, Holds}
 use Rattle.record.specs.Slot.{slotAt, slotSound}
 use Rattle.state.specs.Change.{atRest}
 use Rattle.table.specs.Table.{tableSound, someClash, hasRecord, hasVersion}
-use Rattle.rules.specs.Volume.{sizesOk, wordsFit, stateFits}
-use Rattle.follow.specs.declared.End.{End}
+use Rattle.table.specs.TableLaws.{some-clash, has-record, has-version}
 use Rattle.follow.specs.declared.End.the-variants as ends
-use Rattle.rules.specs.Recover.{walkOf, committedOf, usedOf, recovered, recoverAnswer}
 use Rattle.follow.specs.Follow.{isAstray}
+use Rattle.rules.specs.Recover.{walkOf, committedOf, usedOf, recovered, recoverAnswer}
+use Rattle.rules.specs.laws.Recover.{used-above-version, used-above-next}
 use Rattle.protocol.specs.View.{InSlots, NoTwins, recordView}
 use Rattle.protocol.specs.Shared.{SharedCore, WithinUsed}
 use Rattle.protocol.specs.BackPointer.{Core}
 use Rattle.protocol.specs.Recovers.{Green, Red, coloured, walk-green, walk-red, committed-found}
-use Rattle.table.specs.TableLaws.{some-clash, has-record, has-version}
-use Rattle.rules.specs.laws.Recover.{used-above-version, used-above-next}
 
 -- every record found is at most the used version that recovery finds
 pub found-within-used : (S : ℕ) (t : ℕ → Slot) (bytes : ℕ → List ℕ) → WithinUsed recordView (InSlots S t bytes) (usedOf S t)
@@ -84,12 +83,12 @@ module _ {P S : ℕ} {t : ℕ → Slot} {bytes : ℕ → List ℕ} {comm : ℕ �
 -- Recover answers 0.
 pub recover-accepts :
     {P S : ℕ} (words state : List ℕ) {bytes : ℕ → List ℕ} {comm : ℕ → ℕ} {kept : ℕ → List ℕ}
-    → sizesOk P S ≡ true
+    → sizesOk (sizesOf P S) ≡ true
     → wordsFit S words ≡ true
     → stateFits P state ≡ true
     → NoTwins S (slotAt words)
     → Core (InSlots S (slotAt words) bytes) comm P kept
-    → recoverAnswer P S words state ≡ 0
+    → recoverAnswer (sizesOf P S) words state ≡ 0
 unfolding recoverAnswer
 recover-accepts {P} {S} words state sizes fits room apart core =
     rw (recoverAnswer, sizes, fits, room, table-sound core, no-clash S (slotAt words) apart, all-have-record core, none-astray core, all-have-committed core)

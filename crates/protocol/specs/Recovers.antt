@@ -10,16 +10,14 @@ use Rattle.record.specs.declared.Record.{Record}
 use Rattle.record.specs.declared.Slot.{Slot}
 use Rattle.record.specs.SlotLaws.{SoundRecord, sound-facts}
 use Rattle.table.specs.Table.{highestVersionOf, versionIn}
-use Rattle.follow.specs.declared.Verdict.{Verdict}
 use Rattle.follow.specs.declared.Verdict.the-variants as says
-use Rattle.follow.specs.declared.End.{End}
 use Rattle.follow.specs.declared.End.the-variants as ends
+use Rattle.follow.specs.Colours.{Greens, Reds, green-committed, red-uncommitted}
 use Rattle.rules.specs.Verdict.{verdict}
 use Rattle.rules.specs.Recover.{walkOf, backPointer, committedBy, committedOf}
 use Rattle.protocol.specs.View.{InSlots, recordView}
 use Rattle.protocol.specs.Shared.{SharedCore, OpenWithin, OpenAtOnce}
 use Rattle.protocol.specs.BackPointer.{AheadOrStraddled, BackPointerCore, Core}
-use Rattle.follow.specs.Colours.{Greens, Reds, green-committed, red-uncommitted}
 use Rattle.protocol.specs.Highest.{Top, top-of, verdict-top, Straddled, link-below-straddled, link-below-clear, link-above, link-equal, link-on}
 
 module _ {P S : ℕ} {t : ℕ → Slot} {bytes : ℕ → List ℕ} {comm : ℕ → ℕ} {kept : ℕ → List ℕ} (core : Core (InSlots S t bytes) comm P kept) where

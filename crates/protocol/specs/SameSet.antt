@@ -88,11 +88,10 @@ module _ {P : ℕ} {R R′ : Record → List ℕ → Type 0} {comm comm′ : ℕ
 -- ---- the state changes and the records do not
 
 module _ (P : ℕ) (st st′ : ℕ → PageState) (Entered Entered′ : ℕ → List ℕ → Type 0) where
-  -- page p was launched: at a version above every used one, not written, with nothing entered
+  -- page p was launched: at a version above every used one, and not written
   pub record Launched (p : ℕ) : Type 0 where
     pub fresh : st p .used < st′ p .used
     pub not-written : isWritten (st′ p) ≡ false
-    pub none-entered : (b : List ℕ) → Entered′ p b → ⊥
 
   -- page p goes on in its flight, as do the pages before and after it
   pub record GoesOn (p : ℕ) : Type 0 where
@@ -100,7 +99,6 @@ module _ (P : ℕ) (st st′ : ℕ → PageState) (Entered Entered′ : ℕ → 
     pub next-used : st′ (st p .next) .used ≡ st (st p .next) .used
     pub before : (q : ℕ) → q < P → inFlight (st q) ≡ true → st q .next ≡ p → st′ q ≡ st q
     pub entered : (b : List ℕ) → Entered p b → Entered′ p b
-    pub entered-before : (b : List ℕ) → Entered′ p b → Entered p b
 
   -- used versions do not fall, and a page in flight was launched or goes on
   pub record StateChanges : Type 0 where
@@ -112,7 +110,7 @@ module _ {X : Type 0} (view : View X) {P : ℕ} {R : X → List ℕ → Type 0} 
     (all-sound : (r : X) (b : List ℕ) → R r b → view .sound P r ≡ true)
     (live : SharedLive view P R st Entered) where
   open StateChanges changes using (used-rises, flights)
-  open SharedLive live using (within-used, written-stored, unwritten-absent, unwritten-not-entered, link-planned)
+  open SharedLive live using (within-used, written-stored, unwritten-absent, link-planned)
 
   page-below : (r : X) (b : List ℕ) → R r b → view .page r < P
   page-below r b w = view .sound-page P r (all-sound r b w)
@@ -143,17 +141,10 @@ module _ {X : Type 0} (view : View X) {P : ℕ} {R : X → List ℕ → Type 0} 
       unwritten-absent p h (ap inFlight (sym (g .unchanged)) ∙ f) (ap isWritten (sym (g .unchanged)) ∙ w) r b v
       (e .0, e .1 ∙ ap (λ (s : PageState). s .used) (g .unchanged))
 
-  not-entered :
-      (p : ℕ) → p < P → inFlight (st′ p) ≡ true → isWritten (st′ p) ≡ false → Launched P st st′ Entered Entered′ p ⊎ GoesOn P st st′ Entered Entered′ p
-      → (b : List ℕ) → Entered′ p b → ⊥
-  not-entered p h f w (inl l) b e = l .none-entered b e
-  not-entered p h f w (inr g) b e =
-      unwritten-not-entered p h (ap inFlight (sym (g .unchanged)) ∙ f) (ap isWritten (sym (g .unchanged)) ∙ w) b (g .entered-before b e)
-
   planned :
       (p : ℕ) → p < P → inFlight (st′ p) ≡ true → Launched P st st′ Entered Entered′ p ⊎ GoesOn P st st′ Entered Entered′ p
       → (r : X) (b : List ℕ) → R r b → view .nextPage r ≡ p → view .nextVersion r ≡ st′ p .used
-      → (inFlight (st′ (view .page r)) ≡ true) × (st′ (view .page r) .next ≡ p) × (view .version r ≡ st′ (view .page r) .used)
+      → (inFlight (st′ (view .page r)) ≡ true) × (st′ (view .page r) .next ≡ p)
   planned p h f (inl l) r b v e n =
       absurd (let u = within-used .link-used r b v in
       let a = ap (λ (x : ℕ). st x .used) e in
@@ -162,7 +153,7 @@ module _ {X : Type 0} (view : View X) {P : ℕ} {R : X → List ℕ → Type 0} 
   planned p h f (inr g) r b v e n =
       let w = link-planned p h (ap inFlight (sym (g .unchanged)) ∙ f) r b v e (n ∙ ap (λ (s : PageState). s .used) (g .unchanged)) in
       let u = g .before (view .page r) (page-below r b v) (w .0) (w .1) in
-      (ap inFlight u ∙ w .0, ap (λ (s : PageState). s .next) u ∙ w .1, w .2 ∙ ap (λ (s : PageState). s .used) (sym u))
+      (ap inFlight u ∙ w .0, ap (λ (s : PageState). s .next) u ∙ w .1)
 
   pub live-changes : SharedLive view P R st′ Entered′
   live-changes =
@@ -173,6 +164,5 @@ module _ {X : Type 0} (view : View X) {P : ℕ} {R : X → List ℕ → Type 0} 
         };
         written-stored = λ p h f w. stored p h f w (flights p h f);
         unwritten-absent = λ p h f w. absent p h f w (flights p h f);
-        unwritten-not-entered = λ p h f w. not-entered p h f w (flights p h f);
         link-planned = λ p h f. planned p h f (flights p h f);
       }

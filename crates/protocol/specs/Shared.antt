@@ -48,8 +48,8 @@ module _ {X : Type 0} (view : View X) (R : X → List ℕ → Type 0) (comm : �
 abbrev pub commOf : (ℕ → PageState) → ℕ → ℕ
 commOf st p = st p .committed
 
-abbrev pub usedOf : (ℕ → PageState) → ℕ → ℕ
-usedOf st p = st p .used
+abbrev pub usedIn : (ℕ → PageState) → ℕ → ℕ
+usedIn st p = st p .used
 
 module _ {X : Type 0} (view : View X) where
   -- the record planned for page p
@@ -63,15 +63,13 @@ module _ {X : Type 0} (view : View X) where
 
   -- What the records are to a known state, with the contents entered for pages in flight.
   pub record SharedLive (P : ℕ) (R : X → List ℕ → Type 0) (st : ℕ → PageState) (Entered : ℕ → List ℕ → Type 0) : Type 0 where
-    pub within-used : WithinUsed R (usedOf st)
+    pub within-used : WithinUsed R (usedIn st)
     -- a written page's planned record is stored, with the contents entered for the page
     pub written-stored : (p : ℕ) → p < P → inFlight (st p) ≡ true → isWritten (st p) ≡ true → (b : List ℕ) × R (plan st p) b × Entered p b
     -- of a page in flight and not written there is no record at its used version
     pub unwritten-absent :
         (p : ℕ) → p < P → inFlight (st p) ≡ true → isWritten (st p) ≡ false → (r : X) (b : List ℕ) → R r b → IsAt view r p (st p .used) → ⊥
-    -- … and nothing is entered
-    pub unwritten-not-entered : (p : ℕ) → p < P → inFlight (st p) ≡ true → isWritten (st p) ≡ false → (b : List ℕ) → Entered p b → ⊥
-    -- only a page's predecessor on its cycle links to its used version, and from its own used version
+    -- only a page's predecessor on its cycle links to its used version
     pub link-planned :
         (p : ℕ)
         → p < P
@@ -80,4 +78,4 @@ module _ {X : Type 0} (view : View X) where
         → R r b
         → view .nextPage r ≡ p
         → view .nextVersion r ≡ st p .used
-        → (inFlight (st (view .page r)) ≡ true) × (st (view .page r) .next ≡ p) × (view .version r ≡ st (view .page r) .used)
+        → (inFlight (st (view .page r)) ≡ true) × (st (view .page r) .next ≡ p)

@@ -1,5 +1,5 @@
 -- One record more, the one planned for a page in flight and not written: what holds whether or not its cycle is then complete.
-use Prim.Native.Nat.{ℕ, suc, _≤_, _<_}
+use Prim.Native.Nat.{ℕ, _≤_, _<_}
 use native.Mathlib.Omega.{arith}
 use mathlib.Core.Path.{_≡_, sym, ap, _∙_, subst}
 use mathlib.Core.List.{List}
@@ -12,7 +12,7 @@ use Rattle.state.specs.State.{isWritten}
 use Rattle.state.specs.StateLaws.{StateFacts}
 use Rattle.state.specs.CycleLaws.{Flies, next-flies}
 use Rattle.protocol.specs.View.{View, recordView, planned-record-back, LinksTo, IsCommitted}
-use Rattle.protocol.specs.Shared.{SharedCore, SharedLive, WithinUsed, plan, commOf, usedOf}
+use Rattle.protocol.specs.Shared.{SharedCore, SharedLive, WithinUsed, plan, commOf, usedIn}
 
 -- the set R with the pair of r and these bytes added
 pub record Adds {X : Type 0} (R R′ : X → List ℕ → Type 0) (r : X) (bytes : List ℕ) : Type 0 where
@@ -114,7 +114,7 @@ module _ {X : Type 0} (view : View X) {P : ℕ} {R R′ : X → List ℕ → Typ
           absurd (not-there y d c (sym e ∙ ap (view .page) (a .0) ∙ plan-page view st p) (sym v ∙ ap (view .version) (a .0) ∙ plan-version view st p))
       both (inr a) (inr c) e v = (a .0 ∙ sym (c .0), a .1 ∙ sym (c .1))
 
-  pub within-used-more : WithinUsed view R′ (usedOf st)
+  pub within-used-more : WithinUsed view R′ (usedIn st)
   within-used-more =
       record {
         version-used =

@@ -107,12 +107,7 @@ module _ (P : ℕ) (st : ℕ → PageState) (sound : StateFacts P st) (p : ℕ) 
         written-there = λ q h d. ap isWritten (same q h ∙ update-other st p (writtenPage (st p)) q d);
         entered-here = entered p bytes .1 (inl (refl, refl));
         entered-there = λ q b h d e. entered q b .1 (inr (d, e));
-        entered-before = λ q b h d e. back q b d (entered q b .0 e);
       }
-    where
-      back : (q : ℕ) (b : List ℕ) → ¬ (q ≡ p) → (((q ≡ p) × (b ≡ bytes)) ⊎ ((¬ (q ≡ p)) × Entered q b)) → Entered q b
-      back q b d (inl w) = absurd (d (w .0))
-      back q b d (inr w) = w .1
 
   -- ---- the cycle completed
 
@@ -149,7 +144,6 @@ module _ (P : ℕ) (st : ℕ → PageState) (sound : StateFacts P st) (p : ℕ) 
         kept-on = λ q b c d w. on q d c b w;
         kept-off = λ q h c. off q c;
         entered-off = λ q b h c w. entered q c b .1 w;
-        entered-before = λ q b h c w. entered q c b .0 w;
       }
     where
       flying : (q : ℕ) → onCycle P st p q ≡ true → Flies P st q

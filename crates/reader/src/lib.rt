@@ -1,16 +1,18 @@
 // The reader: the slot words by reference and the page count, and what is read through it. The borrow checker covers no
 // function over such a struct, so each is thin and is proved by a walk of its MIR; the work is in covered functions on
-// plain slices, `record::slot_at`, `table::lowest_slot` and `copy_page`.
+// plain slices: `copy_page`.
 ghost use mathlib.Core.Path.{_≡_};
 ghost use Prim.Native.Nat.{_+_, _*_, _≤_};
 ghost use lib.ListN.{length};
 ghost use Rattle.bounded.specs.Limits.{width};
 ghost use Rattle.outcome.specs.Outcome.{returned};
+ghost use Rattle.sizes.specs.Sizes.{sizesOf};
 ghost use Rattle.record.specs.Slot.{slotAt};
+ghost use Rattle.state.specs.State.{stateAt};
 ghost use Rattle.table.specs.Table.{lowestSlot};
 ghost use Rattle.rules.specs.Volume.{volume};
 ghost use Rattle.rules.specs.Read.{readOutcome};
-use record::Slot;
+use sizes::Sizes;
 
 pub struct Reader<'a> {
     pub words: &'a [u32],
@@ -24,20 +26,14 @@ pub fn new<'a>(words: &'a [u32], pages: u32) -> Reader<'a>
     Reader { words, pages }
 }
 
-// "the lowest slot holding the page at" a version; the number of slots where there is none.
-pub fn slot_of<'a>(r: Reader<'a>, slots: u32, page: u32, version: u32) -> u32
-    requires { ⌜ 5 * slots ≤ length (now (r .words)) ⌝ }
-    ensures { λ k. ⌜ k ≡ lowestSlot slots (slotAt (now (r .entry .words))) page version ⌝ }
+// "the lowest slot holding the page at its committed version"; `slots` where there is none
+pub fn committed_slot(slots: u32, words: &[u32], state: &[u32], page: u32) -> u32
+    requires { ⌜ 5 * slots ≤ length (now words) ⌝ }
+    requires { ⌜ 4 * page + 4 ≤ length (now state) ⌝ }
+    ensures { λ r. ⌜ r ≡ lowestSlot slots (slotAt (now (words .entry))) page (stateAt (now (state .entry)) page .committed) ⌝ }
 {
-    table::lowest_slot(r.words, slots, page, version)
-}
-
-// What stands in a slot: a record, or blank.
-pub fn slot_at<'a>(r: Reader<'a>, slot: u32) -> Slot
-    requires { ⌜ 5 * slot + 5 ≤ length (now (r .words)) ⌝ }
-    ensures { λ s. ⌜ s ≡ slotAt (now (r .entry .words)) slot ⌝ }
-{
-    record::slot_at(r.words, slot)
+    let s = state::page_at(state, page);
+    table::lowest_slot(slots, words, page, s.committed)
 }
 
 // The bytes of the page's committed version, copied to `out`.
@@ -51,24 +47,18 @@ fn copy_page(
     out: &mut [u8],
 ) -> u64
     ensures { λ r. ⌜ returned r (now (out .exit))
-        ≡ readOutcome width pages slots (volume (now (words .entry)) (now (contents .entry)) (now (state .entry))) page (now (out .entry)) ⌝ }
+        ≡ readOutcome width (sizesOf pages slots) (volume (now (words .entry)) (now (contents .entry)) (now (state .entry))) page (now (out .entry)) ⌝ }
 {
-    if !volume::volume_fits(volume::WIDTH as u32, pages, slots, words, contents, state) {
-        return outcome::reply(1, 0);
-    }
-    if out.len() != volume::WIDTH {
-        return outcome::reply(1, 0);
-    }
-    if !table::table_sound(words, pages, slots) {
-        return outcome::reply(2, 0);
-    }
-    if !state::state_sound(state, pages) {
-        return outcome::reply(5, 0);
+    let sizes = Sizes { pages, slots };
+    let fits = volume::slice_fits(sizes, words, contents, state, out.len());
+    let first = volume::judged(fits, sizes, words, state);
+    if first != 0 {
+        return outcome::reply(first, 0);
     }
     if page >= pages {
         return outcome::reply(6, 0);
     }
-    let slot = volume::committed_slot(words, slots, state, page);
+    let slot = committed_slot(slots, words, state, page);
     if slot >= slots {
         return outcome::reply(14, 0);
     }
@@ -86,7 +76,7 @@ pub fn read_page<'a>(
     out: &mut [u8],
 ) -> u64
     ensures { λ n. ⌜ returned n (now (out .exit))
-        ≡ readOutcome width (r .entry .pages) slots (volume (now (r .entry .words)) (now (contents .entry)) (now (state .entry))) page (now (out .entry)) ⌝ }
+        ≡ readOutcome width (sizesOf (r .entry .pages) slots) (volume (now (r .entry .words)) (now (contents .entry)) (now (state .entry))) page (now (out .entry)) ⌝ }
 {
     copy_page(r.words, r.pages, slots, contents, state, page, out)
 }
@@ -102,7 +92,7 @@ pub fn read(
     out: &mut [u8],
 ) -> u64
     ensures { λ r. ⌜ returned r (now (out .exit))
-        ≡ readOutcome width pages slots (volume (now (words .entry)) (now (contents .entry)) (now (state .entry))) page (now (out .entry)) ⌝ }
+        ≡ readOutcome width (sizesOf pages slots) (volume (now (words .entry)) (now (contents .entry)) (now (state .entry))) page (now (out .entry)) ⌝ }
 {
     read_page(new(words, pages), slots, contents, state, page, out)
 }

@@ -1,15 +1,14 @@
 -- Storing or blanking slot k changes slot k to that record and bytes and no other slot; and what a list of steps leaves.
-use Prim.Native.Nat.{ℕ, zero, suc, _+_, _*_, _≤_, _<_}
+use Prim.Native.Nat.{ℕ, suc, _+_, _*_, _≤_, _<_}
 use native.Mathlib.Omega.{arith}
-use native.Mathlib.Numerals.{add-one}
-use mathlib.Core.Path.{_≡_, refl, sym, ap, _∙_, subst, fun-ext}
+use mathlib.Core.Path.{_≡_, refl, sym, ap, _∙_, subst}
 use mathlib.Core.Logic.{⊎-elim}
 use mathlib.Core.List.{List, [], _∷_, _++_, map, List·Memᴰ, List·Memᴰ·head, List·Memᴰ·tail, List·Memᴰ·not-nil, List·Memᴰ·cases-cons}
 use lib.ListN.{length, take, getD, replicate, length-replicate}
 use Rattle.bounded.specs.Limits.{highestVersion}
 use Rattle.bounded.specs.Choice.{on-eq}
 use Rattle.bounded.specs.Parts.{part, putPart, update}
-use Rattle.bounded.specs.PartsLaws.{update-same, update-other, length-putPart, part-put-same, part-put-other}
+use Rattle.bounded.specs.PartsLaws.{parts-put, update-map, update-same, update-other, length-putPart}
 use Rattle.record.specs.declared.Record.{Record}
 use Rattle.record.specs.declared.Slot.{Slot}
 use Rattle.record.specs.declared.Slot.the-variants.{Blank, Holds}
@@ -24,23 +23,8 @@ pub record Sized (w S : ℕ) (f : Flash) : Type 0 where
 
 -- ---- one part written
 
--- writing part k of n changes the parts, as a function, at k alone
-pub parts-put : (w n k : ℕ) (s l : List ℕ) → k < n → length s ≡ w → length l ≡ w * n → (λ i. part w i (putPart w k s l)) ≡ update (λ i. part w i l) k s
-parts-put w n k s l h e q =
-    fun-ext (λ i. on-eq i k
-    (λ d. subst (λ (x : ℕ). part w x (putPart w k s l) ≡ update (λ i. part w i l) k s x) (sym d)
-    (part-put-same w n k s l h e q ∙ sym (update-same (λ i. part w i l) k s)))
-    (λ d. part-put-other w n k i s l h e q d ∙ sym (update-other (λ i. part w i l) k s i d)))
-
--- a function of each value, after an update
-pub update-map : {A B : Type 0} (g : A → B) (f : ℕ → A) (k : ℕ) (x : A) → (λ i. g (update f k x i)) ≡ update (λ i. g (f i)) k (g x)
-update-map g f k x =
-    fun-ext (λ i. on-eq i k
-    (λ d. subst (λ (j : ℕ). g (update f k x j) ≡ update (λ i. g (f i)) k (g x) j) (sym d) (ap g (update-same f k x) ∙ sym (update-same (λ i. g (f i)) k (g x))))
-    (λ d. ap g (update-other f k x i d) ∙ sym (update-other (λ i. g (f i)) k (g x) i d)))
-
 -- the slots and the bytes after slot k's words or bytes are written
-pub slots-put : (S k : ℕ) (r : Record) (words : List ℕ) → k < S → length words ≡ 5 * S → slotAt (putPart 5 k (wordsOf r) words) ≡ update (slotAt words) k (slotOf (wordsOf r))
+slots-put : (S k : ℕ) (r : Record) (words : List ℕ) → k < S → length words ≡ 5 * S → slotAt (putPart 5 k (wordsOf r) words) ≡ update (slotAt words) k (slotOf (wordsOf r))
 unfolding slotAt
 slots-put S k r words h q =
     ap {B = ℕ → Slot} (λ (t : ℕ → List ℕ) i. slotOf (t i)) (parts-put 5 S k (wordsOf r) words h (words-length r) q)
@@ -90,15 +74,6 @@ module _ (w S : ℕ) (f : Flash) (size : Sized w S f) (k : ℕ) (inside : k < S)
   unfolding apply putSlot
   blank-bytes = bytes-put w S k (replicate w 255) (f .contents) inside (length-replicate w 255) (size .contents-sized)
 
--- words and contents with slot k written are the flash after the step
-pub stored-flash : (w : ℕ) (f : Flash) (k : ℕ) (r : Record) (bytes words contents : List ℕ) → words ≡ putPart 5 k (wordsOf r) (f .words) → contents ≡ putPart w k bytes (f .contents) → record { words = words; contents = contents } ≡ apply w f (Step.Store k r bytes)
-unfolding apply putSlot
-stored-flash w f k r bytes words contents e h = rw (e, h)
-
-pub blanked-flash : (w : ℕ) (f : Flash) (k : ℕ) (words contents : List ℕ) → words ≡ putPart 5 k (wordsOf blankRecord) (f .words) → contents ≡ putPart w k (replicate w 255) (f .contents) → record { words = words; contents = contents } ≡ apply w f (Step.Blank k)
-unfolding apply putSlot
-blanked-flash w f k words contents e h = rw (e, h)
-
 -- equal tables have equal slots
 at-slot : {A : Type 0} {f g : ℕ → A} → f ≡ g → (i : ℕ) → f i ≡ g i
 at-slot {A} e i = ap (λ (t : ℕ → A). t i) e
@@ -115,15 +90,6 @@ pub blanks-none : (w : ℕ) (f : Flash) (slots : List ℕ) → applyAll w f (map
 unfolding applyAll
 blanks-none w f [] = refl
 blanks-none w f (k ∷ slots) = refl
-
-pub blanks-more : (w : ℕ) (f : Flash) (slots : List ℕ) (i : ℕ) → i < length slots → applyAll w f (map Step.Blank (take (i + 1) slots)) ≡ apply w (applyAll w f (map Step.Blank (take i slots))) (Step.Blank (getD slots i 0))
-unfolding applyAll
-blanks-more w f slots i h = rw add-one (one-more f slots i h)
-  where
-    one-more : (f : Flash) (slots : List ℕ) (i : ℕ) → i < length slots → applyAll w f (map Step.Blank (take (suc i) slots)) ≡ apply w (applyAll w f (map Step.Blank (take i slots))) (Step.Blank (getD slots i 0))
-    one-more f [] i h = absurd (omega arith)
-    one-more f (k ∷ slots) zero h = blanks-none w (apply w f (Step.Blank k)) slots
-    one-more f (k ∷ slots) (suc i) h = one-more (apply w f (Step.Blank k)) slots i (omega arith)
 
 -- slot i is "blank with bytes 255"
 pub record Blanked (w : ℕ) (f : Flash) (i : ℕ) : Type 0 where

@@ -3,7 +3,7 @@ use Prim.Native.Nat.{ℕ, _≤_, _<_}
 use native.Mathlib.Omega.{arith}
 use mathlib.Core.Path.{_≡_, refl, sym, ap, _∙_}
 use mathlib.Core.Logic.{_⊎_, inl, inr, _↔_}
-use mathlib.Core.List.{List, [], _∷_}
+use mathlib.Core.List.{List}
 use mathlib.Core.Bool.{Bool, true, false, not, _&&_, _||_, false≢true}
 use lib.Dec.{ltb, leb, eqb}
 use lib.ListN.{length, getD}
@@ -15,7 +15,7 @@ use Rattle.bounded.specs.BelowLaws.{all-at, all-of, all-fails, some-of, some-at
 use Rattle.record.specs.declared.Record.{Record}
 use Rattle.record.specs.declared.Slot.{Slot}
 use Rattle.record.specs.declared.Slot.the-variants.{Blank, Holds}
-use Rattle.record.specs.Slot.{wordsOf, recordOf, allBlank, slotOf, blankRecord, formattedRecord, plannedRecord, recordSound, slotSound, isBlank, holds, someRecord, straddles}
+use Rattle.record.specs.Slot.{wordsOf, recordOf, allBlank, slotOf, blankRecord, plannedRecord, recordSound, isBlank, holds, someRecord, straddles}
 
 -- ---- soundness
 
@@ -92,20 +92,6 @@ module _ (P : ℕ) (r : Record) where
   pub sound-exactly : (recordSound P r ≡ true) ↔ SoundRecord P r
   sound-exactly = (sound-facts, sound-test)
 
--- the record that format stores, and the one that a write plans from a sound state, are sound
-pub formatted-sound : (P i : ℕ) → i < P → recordSound P (formattedRecord i) ≡ true
-unfolding formattedRecord
-formatted-sound P i h =
-    sound-test P (formattedRecord i) (record {
-      page-below = h;
-      next-below = h;
-      v-most = omega arith;
-      c-most = omega arith;
-      nv-most = omega arith;
-      c-before-v = inr (refl, refl);
-      own-link = λ e. refl;
-    })
-
 pub planned-sound :
     (P page used committed next usedOfNext : ℕ)
     → page < P
@@ -170,17 +156,6 @@ pub record-of-words : (r : Record) → recordOf (wordsOf r) ≡ r
 unfolding recordOf wordsOf
 record-of-words r = refl
 
--- five words are those of the record that they are
-pub words-of-record : (ws : List ℕ) → length ws ≡ 5 → wordsOf (recordOf ws) ≡ ws
-unfolding wordsOf recordOf
-words-of-record [] e = absurd (omega arith)
-words-of-record (a ∷ []) e = absurd (omega arith)
-words-of-record (a ∷ b ∷ []) e = absurd (omega arith)
-words-of-record (a ∷ b ∷ c ∷ []) e = absurd (omega arith)
-words-of-record (a ∷ b ∷ c ∷ d ∷ []) e = absurd (omega arith)
-words-of-record (a ∷ b ∷ c ∷ d ∷ x ∷ []) e = refl
-words-of-record (a ∷ b ∷ c ∷ d ∷ x ∷ y ∷ ws) e = absurd (omega arith)
-
 -- ---- slots
 
 -- "A blank slot has 4,294,967,295 in all five words. Any other slot is a record."
@@ -232,11 +207,6 @@ unfolding isBlank
 is-blank-exactly Blank = (λ e. refl, λ e. refl)
 is-blank-exactly (Holds r) = (λ e. absurd (false≢true e), λ e. absurd (let z : _≡_ {A = ℕ} 0 1 = cc in omega arith))
 
--- what a sound slot holds is a sound record
-pub held-sound : (P : ℕ) {s : Slot} (r : Record) → s ≡ Holds r → slotSound P s ≡ true → recordSound P r ≡ true
-unfolding slotSound
-held-sound P r e h = rw e at h
-
 -- ---- records in a table
 
 -- the slot holds a record that passes
@@ -267,3 +237,13 @@ module _ (S : ℕ) (t : ℕ → Slot) (f : Record → Bool) where
   -- "some record …"
   pub some-record-exactly : (someRecord S t f ≡ true) ↔ SomeRecord S t f
   some-record-exactly = (some-record-at, some-record-of)
+
+-- "some record" that passes a test which is exactly Q
+pub some-record :
+    (S : ℕ) (t : ℕ → Slot) (f : Record → Bool) {Q : Record → Type 0}
+    → ((r : Record) → (f r ≡ true) ↔ Q r)
+    → (someRecord S t f ≡ true) ↔ ((k : ℕ) × (r : Record) × (k < S) × (t k ≡ Holds r) × Q r)
+some-record S t f i = (
+  λ e. let w = some-record-at S t f e in (w .0, w .1, w .2, w .3, i (w .1) .0 (w .4)),
+  λ w. some-record-of S t f (w .0, w .1, w .2, w .3, i (w .1) .1 (w .4)),
+)

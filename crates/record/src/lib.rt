@@ -40,11 +40,11 @@ fn c_before_v(c: u32, v: u32) -> bool
 impl Record {
     // "A blank slot has 4,294,967,295 in all five words."
     pub const BLANK: Record = Record {
-        p: 4294967295,
-        v: 4294967295,
-        c: 4294967295,
-        np: 4294967295,
-        nv: 4294967295,
+        p: sizes::NO_NUMBER,
+        v: sizes::NO_NUMBER,
+        c: sizes::NO_NUMBER,
+        np: sizes::NO_NUMBER,
+        nv: sizes::NO_NUMBER,
     };
 
     // The record of a page at format.
@@ -102,13 +102,13 @@ impl Record {
         if self.np >= pages {
             return false;
         }
-        if self.v > 4294967294 {
+        if self.v > sizes::HIGHEST_VERSION {
             return false;
         }
-        if self.c > 4294967294 {
+        if self.c > sizes::HIGHEST_VERSION {
             return false;
         }
-        if self.nv > 4294967294 {
+        if self.nv > sizes::HIGHEST_VERSION {
             return false;
         }
         if !c_before_v(self.c, self.v) {

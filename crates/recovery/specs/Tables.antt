@@ -9,9 +9,13 @@ use lib.Dec.{ltb, eqb}
 use lib.ListN.{length, getD, set}
 use borrow.Author.Tests.{lt-ltb, le-ltb}
 use Rattle.bounded.specs.Below.{allBelow, someBelow, maxBelow}
-use Rattle.bounded.specs.Choice.{on-test}
+use Rattle.bounded.specs.Choice.{on-test, both-left, both-right}
 use Rattle.bounded.specs.BelowLaws.{all-cong}
+use Rattle.bounded.specs.Tabulate.{tabulate, tabulate-at, tabulate-cong, raise-tabulate}
 use Rattle.outcome.specs.Outcome.{_⇒_otherwise_}
+use Rattle.sizes.specs.declared.Sizes.{Sizes}
+use Rattle.sizes.specs.Sizes.{sizesOk, wordsFit, stateFits}
+use Rattle.sizes.specs.SizesLaws.{sizes-facts, words-fit-exactly, state-fits-exactly}
 use Rattle.record.specs.declared.Record.{Record}
 use Rattle.record.specs.declared.Slot.{Slot}
 use Rattle.record.specs.declared.Slot.the-variants.{Blank, Holds}
@@ -23,16 +27,14 @@ use Rattle.state.specs.Change.{atRest}
 use Rattle.table.specs.Table.{tableSound, someClash, hasRecord, hasVersion, highest, highestVersionOf, versionIn}
 use Rattle.table.specs.TableLaws.{sound-at, highest-is, highest-held}
 use Rattle.table.specs.HighestSlot.{highestSlot, named, highest-read, highest-slot-exists, beyond-blank}
-use Rattle.bounded.specs.Tabulate.{tabulate, tabulate-at, tabulate-cong, raise-tabulate}
-use Rattle.rules.specs.Volume.{sizesOk, wordsFit, stateFits}
 use Rattle.follow.specs.declared.Verdict.the-variants.{Committed, Uncommitted, On}
 use Rattle.follow.specs.declared.End.{End}
 use Rattle.follow.specs.declared.End.the-variants as ends
-use Rattle.rules.specs.Verdict.{isStraddled, linkVerdict, slotVerdict, verdict}
 use Rattle.follow.specs.Follow.{follow, isAstray, StaysInside}
+use Rattle.follow.specs.Codes.{codeOf, coded, coded-back, follow-same}
+use Rattle.rules.specs.Verdict.{isStraddled, linkVerdict, slotVerdict, verdict}
 use Rattle.rules.specs.Recover.{walkOf, backPointer, committedBy, committedOf, mentioned, usedOf, recovered, recoverAnswer}
 use Rattle.rules.specs.laws.Recover.{verdict-inside}
-use Rattle.follow.specs.Codes.{codeOf, coded, coded-back, follow-same}
 
 -- a page without a record has committed version 0
 pub committed-blank : (e : End) → committedBy e Blank ≡ 0
@@ -148,14 +150,27 @@ pub answer-by-links : (P S : ℕ) (t : ℕ → Slot) → tableSound P S t ≡ tr
 unfolding tableAnswer
 answer-by-links P S t a b c = rw (a, b, c)
 
-pub answer-by-table : (P S : ℕ) (words state : List ℕ) → sizesOk P S ≡ true → wordsFit S words ≡ true → stateFits P state ≡ true → tableAnswer P S (slotAt words) ≡ recoverAnswer P S words state
+pub answer-by-table : (sizes : Sizes) (words state : List ℕ) → (sizesOk sizes && (wordsFit (sizes .slots) words && stateFits (sizes .pages) state)) ≡ true → tableAnswer (sizes .pages) (sizes .slots) (slotAt words) ≡ recoverAnswer sizes words state
 unfolding linksAnswer tableAnswer recoverAnswer
-answer-by-table P S words state a b c = rw (a, b, c)
+answer-by-table sizes words state e = rw e
+
+-- the sizes are right
+pub record RecoverFits (P S : ℕ) (words state : List ℕ) : Type 0 where
+  pub slots-in : 5 * S ≤ length words
+  pub pages-most : P ≤ 256
+  pub state-sized : length state ≡ 4 * P
+
+pub recover-fits : (sizes : Sizes) (words state : List ℕ) → (sizesOk sizes && (wordsFit (sizes .slots) words && stateFits (sizes .pages) state)) ≡ true → RecoverFits (sizes .pages) (sizes .slots) words state
+recover-fits sizes words state e =
+    let f = both-right (sizesOk sizes) (wordsFit (sizes .slots) words && stateFits (sizes .pages) state) e in
+    let s = sizes-facts sizes (both-left (sizesOk sizes) (wordsFit (sizes .slots) words && stateFits (sizes .pages) state) e) in
+    let w = words-fit-exactly (sizes .slots) words .0 (both-left (wordsFit (sizes .slots) words) (stateFits (sizes .pages) state) f) in
+    record { slots-in = omega arith; pages-most = s .pages-most; state-sized = state-fits-exactly (sizes .pages) state .0 (both-right (wordsFit (sizes .slots) words) (stateFits (sizes .pages) state) f) }
 
 -- the sizes are wrong
-pub answer-by-sizes : (P S : ℕ) (words state : List ℕ) → (sizesOk P S && (wordsFit S words && stateFits P state)) ≡ false → 1 ≡ recoverAnswer P S words state
+pub answer-by-sizes : (sizes : Sizes) (words state : List ℕ) → (sizesOk sizes && (wordsFit (sizes .slots) words && stateFits (sizes .pages) state)) ≡ false → 1 ≡ recoverAnswer sizes words state
 unfolding recoverAnswer
-answer-by-sizes P S words state e = rw e
+answer-by-sizes sizes words state e = rw e
 
 -- an accepted table is sound
 pub accepted-sound : (P S : ℕ) (t : ℕ → Slot) → tableAnswer P S t ≡ 0 → tableSound P S t ≡ true

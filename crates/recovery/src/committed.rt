@@ -4,14 +4,15 @@ use super::link::highest_of;
 use super::link::verdict_codes;
 use follow::End;
 use record::Slot;
+use sizes::Sizes;
 ghost use mathlib.Core.Path.{_≡_};
 ghost use mathlib.Core.Bool.{false};
 ghost use Prim.Native.Nat.{_*_, _≤_, _<_};
 ghost use lib.ListN.{length, getD, set};
 ghost use Rattle.bounded.specs.Below.{allBelow, someBelow};
+ghost use Rattle.bounded.specs.Tabulate.{tabulate};
 ghost use Rattle.record.specs.Slot.{slotAt};
 ghost use Rattle.table.specs.Table.{hasVersion};
-ghost use Rattle.bounded.specs.Tabulate.{tabulate};
 ghost use Rattle.follow.specs.Follow.{isAstray};
 ghost use Rattle.rules.specs.Recover.{walkOf, committedBy, committedOf};
 ghost use Rattle.recovery.specs.Tables.{Surveyed, verdictCodes, linksAnswer};
@@ -32,44 +33,42 @@ fn committed_by(end: End, top: Slot) -> u32
 
 // Stores a page's committed version; says whether its links run astray.
 fn commit_page(
+    sizes: Sizes,
     words: &[u32],
-    pages: u32,
-    slots: u32,
     top: &[u32; 256],
     codes: &[u32; 256],
     page: u32,
     committed: &mut [u32; 256],
 ) -> bool
-    requires { ⌜ Surveyed pages slots (now words) (now top) ⌝ }
-    requires { ⌜ page < pages ⌝ }
-    requires { ⌜ now codes ≡ verdictCodes slots (slotAt (now words)) ⌝ }
-    ensures { λ r. ⌜ r ≡ isAstray (walkOf pages slots (slotAt (now (words .entry))) page .end) ⌝ }
-    ensures { λ _. ⌜ now (committed .exit) ≡ set (now (committed .entry)) page (committedOf pages slots (slotAt (now (words .entry))) page) ⌝ }
+    requires { ⌜ Surveyed (sizes .pages) (sizes .slots) (now words) (now top) ⌝ }
+    requires { ⌜ page < sizes .pages ⌝ }
+    requires { ⌜ now codes ≡ verdictCodes (sizes .slots) (slotAt (now words)) ⌝ }
+    ensures { λ r. ⌜ r ≡ isAstray (walkOf (sizes .pages) (sizes .slots) (slotAt (now (words .entry))) page .end) ⌝ }
+    ensures { λ _. ⌜ now (committed .exit) ≡ set (now (committed .entry)) page (committedOf (sizes .pages) (sizes .slots) (slotAt (now (words .entry))) page) ⌝ }
 {
-    let walk = follow::follow_from(codes, pages, page);
+    let walk = follow::follow_from(codes, sizes.pages, page);
     let end = walk.end;
-    committed[page as usize] = committed_by(end, highest_of(words, pages, slots, top, page));
+    committed[page as usize] = committed_by(end, highest_of(sizes, words, top, page));
     end.is_astray()
 }
 
 // Each page's committed version; says whether some page's links run astray.
 fn committed_versions(
+    sizes: Sizes,
     words: &[u32],
-    pages: u32,
-    slots: u32,
     top: &[u32; 256],
     codes: &[u32; 256],
     committed: &mut [u32; 256],
 ) -> bool
-    requires { ⌜ Surveyed pages slots (now words) (now top) ⌝ }
-    requires { ⌜ now codes ≡ verdictCodes slots (slotAt (now words)) ⌝ }
-    ensures { λ r. ⌜ r ≡ someBelow pages (λ p. isAstray (walkOf pages slots (slotAt (now (words .entry))) p .end)) ⌝ }
-    ensures { λ r. ⌜ (r ≡ false → now (committed .exit) ≡ tabulate 256 (committedOf pages slots (slotAt (now (words .entry))))) ⌝ }
+    requires { ⌜ Surveyed (sizes .pages) (sizes .slots) (now words) (now top) ⌝ }
+    requires { ⌜ now codes ≡ verdictCodes (sizes .slots) (slotAt (now words)) ⌝ }
+    ensures { λ r. ⌜ r ≡ someBelow (sizes .pages) (λ p. isAstray (walkOf (sizes .pages) (sizes .slots) (slotAt (now (words .entry))) p .end)) ⌝ }
+    ensures { λ r. ⌜ (r ≡ false → now (committed .exit) ≡ tabulate 256 (committedOf (sizes .pages) (sizes .slots) (slotAt (now (words .entry))))) ⌝ }
 {
     *committed = [0; 256];
     let mut page = 0;
-    while page < pages {
-        if commit_page(words, pages, slots, top, codes, page, committed) {
+    while page < sizes.pages {
+        if commit_page(sizes, words, top, codes, page, committed) {
             return true;
         }
         page += 1;
@@ -78,14 +77,14 @@ fn committed_versions(
 }
 
 // Each page has a record with the version in the table.
-fn versions_present(words: &[u32], pages: u32, slots: u32, versions: &[u32; 256]) -> bool
-    requires { ⌜ 5 * slots ≤ length (now words) ⌝ }
-    requires { ⌜ pages ≤ 256 ⌝ }
-    ensures { λ r. ⌜ r ≡ allBelow pages (λ p. hasVersion slots (slotAt (now (words .entry))) p (getD (now (versions .entry)) p 0)) ⌝ }
+fn versions_present(sizes: Sizes, words: &[u32], versions: &[u32; 256]) -> bool
+    requires { ⌜ 5 * sizes .slots ≤ length (now words) ⌝ }
+    requires { ⌜ sizes .pages ≤ 256 ⌝ }
+    ensures { λ r. ⌜ r ≡ allBelow (sizes .pages) (λ p. hasVersion (sizes .slots) (slotAt (now (words .entry))) p (getD (now (versions .entry)) p 0)) ⌝ }
 {
     let mut page: u32 = 0;
-    while page < pages {
-        if table::lowest_slot(words, slots, page, versions[page as usize]) >= slots {
+    while page < sizes.pages {
+        if table::lowest_slot(sizes.slots, words, page, versions[page as usize]) >= sizes.slots {
             return false;
         }
         page += 1;
@@ -95,22 +94,21 @@ fn versions_present(words: &[u32], pages: u32, slots: u32, versions: &[u32; 256]
 
 // The answer by the links, 4 or 14, where each page has a record. An accepted table's committed versions are filled in.
 pub fn links_answer(
+    sizes: Sizes,
     words: &[u32],
-    pages: u32,
-    slots: u32,
     top: &[u32; 256],
     committed: &mut [u32; 256],
 ) -> u32
-    requires { ⌜ Surveyed pages slots (now words) (now top) ⌝ }
-    ensures { λ r. ⌜ r ≡ linksAnswer pages slots (slotAt (now (words .entry))) ⌝ }
-    ensures { λ r. ⌜ (r ≡ 0 → now (committed .exit) ≡ tabulate 256 (committedOf pages slots (slotAt (now (words .entry))))) ⌝ }
+    requires { ⌜ Surveyed (sizes .pages) (sizes .slots) (now words) (now top) ⌝ }
+    ensures { λ r. ⌜ r ≡ linksAnswer (sizes .pages) (sizes .slots) (slotAt (now (words .entry))) ⌝ }
+    ensures { λ r. ⌜ (r ≡ 0 → now (committed .exit) ≡ tabulate 256 (committedOf (sizes .pages) (sizes .slots) (slotAt (now (words .entry))))) ⌝ }
 {
     let mut codes = [0; 256];
-    verdict_codes(words, pages, slots, top, &mut codes);
-    if committed_versions(words, pages, slots, top, &codes, committed) {
+    verdict_codes(sizes, words, top, &mut codes);
+    if committed_versions(sizes, words, top, &codes, committed) {
         return 4;
     }
-    if !versions_present(words, pages, slots, committed) {
+    if !versions_present(sizes, words, committed) {
         return 14;
     }
     0

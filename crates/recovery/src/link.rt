@@ -3,6 +3,7 @@
 use follow::Verdict;
 use record::Record;
 use record::Slot;
+use sizes::Sizes;
 ghost use mathlib.Core.Path.{_≡_};
 ghost use Prim.Native.Nat.{_*_, _≤_, _<_};
 ghost use lib.ListN.{length};
@@ -22,7 +23,7 @@ fn slot_straddles(slot: Slot, link: Record) -> bool
 }
 
 // "any record straddles J's link": the search ends at the first that does.
-fn is_straddled(words: &[u32], slots: u32, link: Record) -> bool
+fn is_straddled(slots: u32, words: &[u32], link: Record) -> bool
     requires { ⌜ 5 * slots ≤ length (now words) ⌝ }
     ensures { λ r. ⌜ r ≡ isStraddled slots (slotAt (now (words .entry))) link ⌝ }
 {
@@ -47,23 +48,23 @@ fn version_in(slot: Slot) -> u32
 }
 
 // A page's highest record, by the table of highest slots.
-pub fn highest_of(words: &[u32], pages: u32, slots: u32, top: &[u32; 256], page: u32) -> Slot
-    requires { ⌜ Surveyed pages slots (now words) (now top) ⌝ }
+pub fn highest_of(sizes: Sizes, words: &[u32], top: &[u32; 256], page: u32) -> Slot
+    requires { ⌜ Surveyed (sizes .pages) (sizes .slots) (now words) (now top) ⌝ }
     requires { ⌜ page < 256 ⌝ }
-    ensures { λ r. ⌜ r ≡ highest slots (slotAt (now (words .entry))) page ⌝ }
+    ensures { λ r. ⌜ r ≡ highest (sizes .slots) (slotAt (now (words .entry))) page ⌝ }
 {
-    table::named_slot(words, slots, top[page as usize])
+    table::named_slot(sizes.slots, words, top[page as usize])
 }
 
 // What the link of a record says.
-fn link_verdict(words: &[u32], pages: u32, slots: u32, top: &[u32; 256], link: Record) -> Verdict
-    requires { ⌜ Surveyed pages slots (now words) (now top) ⌝ }
+fn link_verdict(sizes: Sizes, words: &[u32], top: &[u32; 256], link: Record) -> Verdict
+    requires { ⌜ Surveyed (sizes .pages) (sizes .slots) (now words) (now top) ⌝ }
     requires { ⌜ link .np < 256 ⌝ }
-    ensures { λ r. ⌜ r ≡ linkVerdict slots (slotAt (now (words .entry))) link ⌝ }
+    ensures { λ r. ⌜ r ≡ linkVerdict (sizes .slots) (slotAt (now (words .entry))) link ⌝ }
 {
-    let hv = version_in(highest_of(words, pages, slots, top, link.np));
+    let hv = version_in(highest_of(sizes, words, top, link.np));
     if link.nv < hv {
-        if is_straddled(words, slots, link) {
+        if is_straddled(sizes.slots, words, link) {
             return Verdict::Uncommitted;
         }
         return Verdict::Committed;
@@ -75,32 +76,26 @@ fn link_verdict(words: &[u32], pages: u32, slots: u32, top: &[u32; 256], link: R
 }
 
 // What the link of a page's highest record says.
-fn verdict_of(words: &[u32], pages: u32, slots: u32, top: &[u32; 256], page: u32) -> Verdict
-    requires { ⌜ Surveyed pages slots (now words) (now top) ⌝ }
+fn verdict_of(sizes: Sizes, words: &[u32], top: &[u32; 256], page: u32) -> Verdict
+    requires { ⌜ Surveyed (sizes .pages) (sizes .slots) (now words) (now top) ⌝ }
     requires { ⌜ page < 256 ⌝ }
-    ensures { λ r. ⌜ r ≡ verdict slots (slotAt (now (words .entry))) page ⌝ }
+    ensures { λ r. ⌜ r ≡ verdict (sizes .slots) (slotAt (now (words .entry))) page ⌝ }
 {
-    let Slot::Holds(link) = highest_of(words, pages, slots, top, page) else {
+    let Slot::Holds(link) = highest_of(sizes, words, top, page) else {
         return Verdict::Uncommitted;
     };
-    link_verdict(words, pages, slots, top, link)
+    link_verdict(sizes, words, top, link)
 }
 
 // Each page's verdict, computed once.
-pub fn verdict_codes(
-    words: &[u32],
-    pages: u32,
-    slots: u32,
-    top: &[u32; 256],
-    codes: &mut [u32; 256],
-)
-    requires { ⌜ Surveyed pages slots (now words) (now top) ⌝ }
-    ensures { λ _. ⌜ now (codes .exit) ≡ verdictCodes slots (slotAt (now (words .entry))) ⌝ }
+pub fn verdict_codes(sizes: Sizes, words: &[u32], top: &[u32; 256], codes: &mut [u32; 256])
+    requires { ⌜ Surveyed (sizes .pages) (sizes .slots) (now words) (now top) ⌝ }
+    ensures { λ _. ⌜ now (codes .exit) ≡ verdictCodes (sizes .slots) (slotAt (now (words .entry))) ⌝ }
 {
     *codes = [257; 256];
     let mut page: u32 = 0;
-    while page < pages {
-        codes[page as usize] = verdict_of(words, pages, slots, top, page).code();
+    while page < sizes.pages {
+        codes[page as usize] = verdict_of(sizes, words, top, page).code();
         page += 1;
     }
 }

@@ -7,10 +7,11 @@ use lib.ListN.{length, getD}
 use Rattle.bounded.specs.Limits.{highestVersion}
 use Rattle.bounded.specs.Below.{someBelow}
 use Rattle.outcome.specs.Outcome.{_⇒_otherwise_, Outcome, settled}
+use Rattle.sizes.specs.declared.Sizes.{Sizes}
+use Rattle.sizes.specs.Sizes.{sizesOk, stateFits, listOk}
 use Rattle.state.specs.declared.PageState.{PageState}
 use Rattle.state.specs.State.{stateAt, stateWords, stateSound, inFlight}
 use Rattle.state.specs.Change.{launched}
-use Rattle.rules.specs.Volume.{sizesOk, stateFits, listOk}
 
 -- "a listed page" that passes
 unfoldable pub somePage : List ℕ → (ℕ → PageState) → (PageState → Bool) → Bool
@@ -20,15 +21,15 @@ somePage pages st f = someBelow (length pages) (λ i. f (st (getD pages i 0)))
 unfoldable pub usedUp : PageState → Bool
 usedUp s = eqb (s .used) highestVersion
 
-unfoldable pub launchAnswer : (P S : ℕ) (state pages : List ℕ) → ℕ
-launchAnswer P S state pages =
-    not (sizesOk P S && stateFits P state) ⇒ 1 otherwise
-    not (stateSound P (stateAt state)) ⇒ 5 otherwise
-    not (listOk P pages) ⇒ 6 otherwise
+unfoldable pub launchAnswer : (sizes : Sizes) (state pages : List ℕ) → ℕ
+launchAnswer sizes state pages =
+    not (sizesOk sizes && stateFits (sizes .pages) state) ⇒ 1 otherwise
+    not (stateSound (sizes .pages) (stateAt state)) ⇒ 5 otherwise
+    not (listOk (sizes .pages) pages) ⇒ 6 otherwise
     somePage pages (stateAt state) inFlight ⇒ 7 otherwise
     somePage pages (stateAt state) usedUp ⇒ 8 otherwise
     0
 
 -- "Flash is untouched." It alters the state alone.
-unfoldable pub launchOutcome : (P S : ℕ) (state pages : List ℕ) → Outcome (List ℕ)
-launchOutcome P S state pages = settled (launchAnswer P S state pages) 0 0 state (stateWords P (launched pages (stateAt state)))
+unfoldable pub launchOutcome : (sizes : Sizes) (state pages : List ℕ) → Outcome (List ℕ)
+launchOutcome sizes state pages = settled (launchAnswer sizes state pages) 0 0 state (stateWords (sizes .pages) (launched pages (stateAt state)))

@@ -20,16 +20,16 @@ unfoldable pub isExposed : (ℕ → PageState) → Record → Bool
 isExposed st r = ltb (st (r .p) .committed) (r .v)
 
 -- a record with "the same page and c with a higher v" than K
-unfoldable pub outreaches : (K r : Record) → Bool
-outreaches K r = eqb (r .p) (K .p) && (eqb (r .c) (K .c) && ltb (K .v) (r .v))
+unfoldable pub outdoneBy : (K r : Record) → Bool
+outdoneBy K r = eqb (r .p) (K .p) && (eqb (r .c) (K .c) && ltb (K .v) (r .v))
 
 -- an "exposed record's link is straddled by K"
-unfoldable pub isShielded : (ℕ → PageState) → (K r : Record) → Bool
-isShielded st K r = isExposed st r && straddles K r
+unfoldable pub supports : (ℕ → PageState) → (K r : Record) → Bool
+supports st K r = isExposed st r && straddles K r
 
 -- "An obsolete K is needed if no record has the same page and c with a higher v, and some exposed record's link is straddled by K."
 unfoldable pub isNeeded : ℕ → (ℕ → Slot) → (ℕ → PageState) → Record → Bool
-isNeeded S t st K = not (someRecord S t (outreaches K)) && someRecord S t (isShielded st K)
+isNeeded S t st K = not (someRecord S t (outdoneBy K)) && someRecord S t (supports st K)
 
 -- "one whose page is in flight with v = used"
 unfoldable pub isCurrent : (ℕ → PageState) → Record → Bool

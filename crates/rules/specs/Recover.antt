@@ -1,10 +1,12 @@
 -- The call recover.
 use Prim.Native.Nat.{ℕ, max}
 use mathlib.Core.List.{List}
-use mathlib.Core.Bool.{Bool, true, false, cond, not, _&&_, _||_}
+use mathlib.Core.Bool.{cond, not, _&&_, _||_}
 use lib.Dec.{eqb}
 use Rattle.bounded.specs.Below.{allBelow, someBelow, maxBelow}
 use Rattle.outcome.specs.Outcome.{_⇒_otherwise_, Outcome, settled}
+use Rattle.sizes.specs.declared.Sizes.{Sizes}
+use Rattle.sizes.specs.Sizes.{sizesOk, wordsFit, stateFits}
 use Rattle.record.specs.declared.Slot.{Slot}
 use Rattle.record.specs.declared.Slot.the-variants.{Blank, Holds}
 use Rattle.record.specs.Slot.{slotAt}
@@ -12,12 +14,11 @@ use Rattle.state.specs.declared.PageState.{PageState}
 use Rattle.state.specs.State.{stateWords}
 use Rattle.state.specs.Change.{atRest}
 use Rattle.table.specs.Table.{tableSound, someClash, hasRecord, hasVersion, highest, versionIn}
-use Rattle.rules.specs.Volume.{sizesOk, wordsFit, stateFits}
 use Rattle.follow.specs.declared.End.{End}
 use Rattle.follow.specs.declared.End.the-variants as ends
 use Rattle.follow.specs.declared.Walk.{Walk}
-use Rattle.rules.specs.Verdict.{verdict}
 use Rattle.follow.specs.Follow.{follow, isAstray}
+use Rattle.rules.specs.Verdict.{verdict}
 
 -- the walk from page p's highest record
 unfoldable pub walkOf : (P S : ℕ) → (ℕ → Slot) → ℕ → Walk
@@ -52,15 +53,15 @@ unfolding atRest
 recovered P S t p = atRest (committedOf P S t p) (usedOf S t p)
 
 -- Recovery reads only the slot table: of the state it sees the length, and the old state "may hold anything".
-unfoldable pub recoverAnswer : (P S : ℕ) (words state : List ℕ) → ℕ
-recoverAnswer P S words state =
-    not (sizesOk P S && (wordsFit S words && stateFits P state)) ⇒ 1 otherwise
-    not (tableSound P S (slotAt words)) ⇒ 2 otherwise
-    (someClash S (slotAt words) || not (allBelow P (hasRecord S (slotAt words)))) ⇒ 3 otherwise
-    someBelow P (λ p. isAstray (walkOf P S (slotAt words) p .end)) ⇒ 4 otherwise
-    not (allBelow P (λ p. hasVersion S (slotAt words) p (committedOf P S (slotAt words) p))) ⇒ 14 otherwise
+unfoldable pub recoverAnswer : (sizes : Sizes) (words state : List ℕ) → ℕ
+recoverAnswer sizes words state =
+    not (sizesOk sizes && (wordsFit (sizes .slots) words && stateFits (sizes .pages) state)) ⇒ 1 otherwise
+    not (tableSound (sizes .pages) (sizes .slots) (slotAt words)) ⇒ 2 otherwise
+    (someClash (sizes .slots) (slotAt words) || not (allBelow (sizes .pages) (hasRecord (sizes .slots) (slotAt words)))) ⇒ 3 otherwise
+    someBelow (sizes .pages) (λ p. isAstray (walkOf (sizes .pages) (sizes .slots) (slotAt words) p .end)) ⇒ 4 otherwise
+    not (allBelow (sizes .pages) (λ p. hasVersion (sizes .slots) (slotAt words) p (committedOf (sizes .pages) (sizes .slots) (slotAt words) p))) ⇒ 14 otherwise
     0
 
 -- "Recover: fills the sheet from the slot table". It alters the state alone.
-unfoldable pub recoverOutcome : (P S : ℕ) (words state : List ℕ) → Outcome (List ℕ)
-recoverOutcome P S words state = settled (recoverAnswer P S words state) 0 0 state (stateWords P (recovered P S (slotAt words)))
+unfoldable pub recoverOutcome : (sizes : Sizes) (words state : List ℕ) → Outcome (List ℕ)
+recoverOutcome sizes words state = settled (recoverAnswer sizes words state) 0 0 state (stateWords (sizes .pages) (recovered (sizes .pages) (sizes .slots) (slotAt words)))

@@ -5,6 +5,7 @@ use mathlib.Core.Bool.{cond, not, _&&_}
 use lib.Dec.{ltb, eqb}
 use lib.ListN.{length}
 use Rattle.outcome.specs.Outcome.{_⇒_otherwise_, Outcome, settled}
+use Rattle.sizes.specs.declared.Sizes.{Sizes}
 use Rattle.record.specs.declared.Record.{Record}
 use Rattle.record.specs.Slot.{slotAt, plannedRecord, isBlank}
 use Rattle.record.specs.Flash.{Step, apply}
@@ -19,12 +20,12 @@ unfoldable pub planOf : (ℕ → PageState) → ℕ → Record
 unfolding plannedRecord
 planOf st p = plannedRecord p (st p .used) (st p .committed) (st p .next) (st (st p .next) .used)
 
-unfoldable pub writeAnswer : (w P S : ℕ) → Volume → (page slot : ℕ) (bytes : List ℕ) → ℕ
-writeAnswer w P S v page slot bytes =
-    not (volumeFits w P S v && eqb (length bytes) w) ⇒ 1 otherwise
-    not (tableSound P S (slotAt (v .flash .words))) ⇒ 2 otherwise
-    not (stateSound P (stateAt (v .state))) ⇒ 5 otherwise
-    not (ltb page P && ltb slot S) ⇒ 6 otherwise
+unfoldable pub writeAnswer : (w : ℕ) (sizes : Sizes) → Volume → (page slot : ℕ) (bytes : List ℕ) → ℕ
+writeAnswer w sizes v page slot bytes =
+    not (volumeFits w sizes v && eqb (length bytes) w) ⇒ 1 otherwise
+    not (tableSound (sizes .pages) (sizes .slots) (slotAt (v .flash .words))) ⇒ 2 otherwise
+    not (stateSound (sizes .pages) (stateAt (v .state))) ⇒ 5 otherwise
+    not (ltb page (sizes .pages) && ltb slot (sizes .slots)) ⇒ 6 otherwise
     not (inFlight (stateAt (v .state) page)) ⇒ 9 otherwise
     isWritten (stateAt (v .state) page) ⇒ 10 otherwise
     not (isBlank (slotAt (v .flash .words) slot)) ⇒ 11 otherwise
@@ -46,6 +47,6 @@ writeChange w P v page slot bytes =
     }
 
 -- Refused, "done … 0".
-unfoldable pub writeOutcome : (w P S : ℕ) → Volume → (page slot : ℕ) (bytes : List ℕ) → Outcome Volume
-writeOutcome w P S v page slot bytes =
-    settled (writeAnswer w P S v page slot bytes) 0 (writeDone P (stateAt (v .state)) page) v (writeChange w P v page slot bytes)
+unfoldable pub writeOutcome : (w : ℕ) (sizes : Sizes) → Volume → (page slot : ℕ) (bytes : List ℕ) → Outcome Volume
+writeOutcome w sizes v page slot bytes =
+    settled (writeAnswer w sizes v page slot bytes) 0 (writeDone (sizes .pages) (stateAt (v .state)) page) v (writeChange w (sizes .pages) v page slot bytes)

@@ -2,6 +2,7 @@
 pub mod Computing
 pub mod Bounds
 pub mod Launch
+pub mod Write
 pub mod Erase
 pub mod Recover
 pub mod Star

@@ -1,7 +1,7 @@
 -- What the definitions say, as facts.
-pub mod Sizes
-pub mod Lists
+pub mod Volume
 pub mod Outcomes
 pub mod Accepted
+pub mod Chains
 pub mod Permission
 pub mod Recover

@@ -9,13 +9,13 @@ use lib.ListN.{length, take, drop, length-take}
 use lib.Seq.{take-all}
 use borrow.Author.Tests.{ne-eqb, eq-eqb, lt-ltb}
 use Rattle.bounded.specs.Choice.{on-lt}
-use Rattle.rules.specs.Volume.{Volume}
-use Rattle.memory.specs.MemoryLaws.{front-lent}
+use Rattle.bounded.specs.Fronts.{front-lent}
 use Rattle.text.specs.Print.{shown, added}
 use Rattle.text.specs.PrintLaws.{added-none}
 use Rattle.line.specs.Line.{Said, lineMeans}
+use Rattle.rules.specs.Volume.{Volume}
 use Rattle.script.specs.declared.step.Run.{Run}
-use Rattle.script.specs.Script.{Standing, standing, turnTo, idleTurn, turn}
+use Rattle.script.specs.Script.{Standing, standing, printing, idleTurn, turn}
 use Rattle.script.specs.StepLaws.{Went}
 use Rattle.script.specs.Feed.{maxEntries, carried, fed}
 
@@ -50,13 +50,6 @@ module _ (w room : ℕ) (s : Standing) (held : List ℕ) (byte : ℕ) where
   fed-byte o d = let q : eqb byte 10 ≡ false = ne-eqb byte 10 d in rw (o, q)
 
 module _ (w : ℕ) (run s : Run) (m m₁ : Volume) (out out₁ : List ℕ) where
-  -- a line said as it means
-  pub line-carried :
-      (says : Said) (line : List ℕ) (k : ℕ) → says ≡ lineMeans k line → k ≡ maxEntries → Went run s m₁ out out₁ (turn w (standing run m) says)
-      → Went run s m₁ out out₁ (carried w (standing run m) line)
-  unfolding carried
-  line-carried says line k e n h = rw (← n, ← e) h
-
   -- A run that carried out the line it held, and holds nothing.
   abbrev pub Ended : List ℕ → Type 0
   Ended buffer =
@@ -64,10 +57,10 @@ module _ (w : ℕ) (run s : Run) (m m₁ : Volume) (out out₁ : List ℕ) where
       × ((shown out₁ (s .at) ≡ added out (run .at) (carried w (standing run m) (shown buffer (run .held)) .prints)) × (s .held ≡ 0))
 
   pub held-carried :
-      (buffer : List ℕ) (r : Run) (k : ℕ) → r ≡ holdingTo run 0 → k ≡ min (run .held) (length buffer)
-      → Went r s m₁ out out₁ (carried w (standing r m) (take (k - 0) (drop 0 buffer))) → Ended buffer
-  unfolding standing shown
-  held-carried buffer r k e n h = rw (← front-lent (run .held) k buffer n) (rw e at h)
+      (buffer : List ℕ) (r : Run) (says : Said) (n k : ℕ) → r ≡ holdingTo run 0 → n ≡ min (run .held) (length buffer)
+      → says ≡ lineMeans k (take (n - 0) (drop 0 buffer)) → k ≡ maxEntries → Went r s m₁ out out₁ (turn w (standing r m) says) → Ended buffer
+  unfolding standing shown carried
+  held-carried buffer r says n k e en es ek h = rw (← front-lent (run .held) n buffer en, ← ek, ← es) (rw e at h)
 
   module _ (buffer buffer₁ : List ℕ) (byte : ℕ) where
     -- what a byte did
@@ -91,7 +84,7 @@ module _ (w : ℕ) (run s : Run) (m m₁ : Volume) (out out₁ : List ℕ) where
 
     pub took-byte :
         run .over ≡ false → ¬ (byte ≡ 10) → m₁ ≡ m → out₁ ≡ out → (held : ℕ) → s ≡ holdingTo run held → shown buffer₁ held ≡ added buffer (run .held) (byte ∷ []) → Took
-    unfolding standing idleTurn turnTo added
+    unfolding standing idleTurn printing added
     took-byte o d em eo held e h =
         let f = fed-byte w (length buffer) (standing run m) (shown buffer (run .held)) byte o d in
         rw (f, em, eo, e) (refl, (added-none out (run .at), h))

@@ -1,3 +1,5 @@
+pub mod Memory
+pub mod MemoryLaws
 pub mod Script
 pub mod StepLaws
 pub mod Feed

@@ -10,16 +10,20 @@ use lib.Seq.{take-all}
 use borrow.Author.Tests.{eq-eqb, ne-eqb}
 use Rattle.bounded.specs.Choice.{on-eq}
 use Rattle.bounded.specs.Parts.{joinFrom, joinParts}
-use Rattle.outcome.specs.Outcome.{Outcome, held, settled-answer}
-use Rattle.rules.specs.Volume.{Volume, volumeFits}
-use Rattle.rules.specs.Format.{formatted as formattedVolume, formatAnswer, formatOutcome}
-use Rattle.rules.specs.laws.Sizes.{fits-facts}
-use Rattle.memory.specs.Memory.{inUse, leaving}
+use Rattle.outcome.specs.Outcome.{Outcome}
+use Rattle.outcome.specs.OutcomeLaws.{held, settled-answer}
+use Rattle.sizes.specs.Sizes.{sizesOf}
+use Rattle.sizes.specs.declared.Sizes.{Sizes}
 use Rattle.text.specs.Scan.{bytes}
 use Rattle.text.specs.Print.{shown, added, decimalIn, decimal}
 use Rattle.line.specs.Line.{Said}
+use Rattle.rules.specs.Volume.{Volume, volumeFits}
+use Rattle.rules.specs.Format.{formatted as formattedVolume, formatAnswer, formatOutcome}
+use Rattle.rules.specs.laws.Volume.{fits-facts}
 use Rattle.listing.specs.Listing.{answerText, stateText, fieldsText, pageText, listAnswer, listText}
-use Rattle.script.specs.Script.{Standing, Turn, turnTo, idleTurn, answered, doneText, doneWith, refusedTurn, formatted, formatTurn, cutTurn, lineTurn, isEarly, turn}
+use Rattle.dispatch.specs.Dispatch.{lineOutcome}
+use Rattle.script.specs.Memory.{inUse}
+use Rattle.script.specs.Script.{Standing, Turn, withMemory, printing, idleTurn, refusedTurn, doneText, formatted, told, volumeTurn, onFormat, sizesFor, inFront, lineTurn, isEarly, turn}
 
 -- the most bytes that a turn prints
 abbrev pub mostPrinted : ℕ
@@ -86,46 +90,38 @@ join-room most (suc n) i f h =
     let z : most * suc n ≡ most + most * n = omega arith in
     omega arith
 
-list-room : (w P S : ℕ) (v : Volume) → P ≤ 256 → length (listText w P S v) ≤ mostPrinted
+list-room : (w : ℕ) (sizes : Sizes) (v : Volume) → sizes .pages ≤ 256 → length (listText w sizes v) ≤ mostPrinted
 unfolding listText joinParts pageText
-list-room w P S v h =
-    let j = join-room 80 P 0 (pageText w P S v) (λ (k : ℕ). fields-room k _ _ _) in
+list-room w sizes v h =
+    let j = join-room 80 (sizes .pages) 0 (pageText w sizes v) (λ (k : ℕ). fields-room k _ _ _) in
     let a = answer-room 0 in
-    let r = answer-room (listAnswer w P S v) in
-    let e = length-append (joinFrom P 0 (pageText w P S v)) (answerText 0) in
-    either-way (eqb (listAnswer w P S v) 0) (λ (l : List ℕ). length l ≤ mostPrinted) (joinFrom P 0 (pageText w P S v) ++ answerText 0) (answerText (listAnswer w P S v)) (omega arith) (omega arith)
+    let r = answer-room (listAnswer w sizes v) in
+    let e = length-append (joinFrom (sizes .pages) 0 (pageText w sizes v)) (answerText 0) in
+    either-way (eqb (listAnswer w sizes v) 0) (λ (l : List ℕ). length l ≤ mostPrinted) (joinFrom (sizes .pages) 0 (pageText w sizes v) ++ answerText 0) (answerText (listAnswer w sizes v)) (omega arith) (omega arith)
 
 refused-room : (s : Standing) → length (refusedTurn s .prints) ≤ mostPrinted
 unfolding refusedTurn bytes
 refused-room s = omega arith
 
 idle-room : (s : Standing) → length (idleTurn s .prints) ≤ mostPrinted
-unfolding idleTurn turnTo
+unfolding idleTurn printing
 idle-room s = omega arith
 
-answered-room : (s : Standing) (o : Outcome Volume) → length (answered s o .prints) ≤ mostPrinted
-unfolding answered turnTo
-answered-room s o = let h = answer-room (o .answer) in omega arith
-
-done-with-room : (s : Standing) (o : Outcome Volume) → length (doneWith s o .prints) ≤ mostPrinted
-unfolding doneWith turnTo
-done-with-room s o = let h = done-room (o .answer) (o .second) in omega arith
-
-formatted-room : (s : Standing) (P S : ℕ) (o : Outcome Volume) → length (formatted s P S o .prints) ≤ mostPrinted
-unfolding formatted
-formatted-room s P S o = let h = answer-room (o .answer) in omega arith
+told-room : (w : ℕ) (s : Standing) (says : Said) (answer second : ℕ) → s .pages ≤ 256 → length (told w s says answer second .prints) ≤ mostPrinted
+unfolding told printing formatted
+told-room w s (Said.Format P S) answer second h = let k = answer-room answer in omega arith
+told-room w s (Said.Launch pages) answer second h = let k = answer-room answer in omega arith
+told-room w s (Said.Write page slot fill) answer second h = let k = done-room answer second in omega arith
+told-room w s (Said.Withdraw page) answer second h = let k = answer-room answer in omega arith
+told-room w s (Said.Erase slots) answer second h = let k = answer-room answer in omega arith
+told-room w s Said.Recover answer second h = let k = answer-room answer in omega arith
+told-room w s Said.Cut answer second h = let k = answer-room answer in omega arith
+told-room w s Said.Listing answer second h = list-room w (sizesOf (s .pages) (s .slots)) (s .memory) h
+told-room w s Said.Malformed answer second h = refused-room s
 
 line-room : (w : ℕ) (s : Standing) (says : Said) → s .pages ≤ 256 → length (lineTurn w s says .prints) ≤ mostPrinted
-unfolding lineTurn formatTurn cutTurn turnTo
-line-room w s (Said.Format P S) h = formatted-room s P S _
-line-room w s (Said.Launch pages) h = answered-room s _
-line-room w s (Said.Write page slot fill) h = done-with-room s _
-line-room w s (Said.Withdraw page) h = answered-room s _
-line-room w s (Said.Erase slots) h = answered-room s _
-line-room w s Said.Recover h = answered-room s _
-line-room w s Said.Cut h = let k = answer-room 0 in omega arith
-line-room w s Said.Listing h = list-room w (s .pages) (s .slots) (inUse w (s .pages) (s .slots) (s .memory)) h
-line-room w s Said.Malformed h = refused-room s
+unfolding lineTurn inFront volumeTurn withMemory
+line-room w s says h = told-room w _ says _ _ h
 
 -- A turn on a volume of at most 256 pages prints no more than that.
 pub turn-room : (w : ℕ) (s : Standing) (says : Said) → s .pages ≤ 256 → length (turn w s says .prints) ≤ mostPrinted
@@ -145,18 +141,19 @@ all-shown w s says out at h room =
     take-all (length out) (take at out ++ turn w s says .prints) (omega arith)
 
 -- A run never has a volume of more than 256 pages: only an accepted format gives it another.
-format-pages : (w P S : ℕ) (v : Volume) → formatOutcome w P S v .answer ≡ 0 → P ≤ 256
+format-pages : (w : ℕ) (sizes : Sizes) (v : Volume) → formatOutcome w sizes v .answer ≡ 0 → sizes .pages ≤ 256
 unfolding formatOutcome formatAnswer
-format-pages w P S v e =
-    let a = held (volumeFits w P S v) _ _ (sym (settled-answer (formatAnswer w P S v) 0 0 v (formattedVolume w P S)) ∙ e) in
-    fits-facts w P S v (a .0) .sizes .pages-most
+format-pages w sizes v e =
+    let a = held (volumeFits w sizes v) _ _ (sym (settled-answer (formatAnswer w sizes v) 0 0 v (formattedVolume w sizes)) ∙ e) in
+    fits-facts w sizes v (a .0) .bounds .pages-most
 
 line-pages : (w : ℕ) (s : Standing) (says : Said) → s .pages ≤ 256 → lineTurn w s says .leaves .pages ≤ 256
-unfolding lineTurn formatTurn formatted leaving answered doneWith cutTurn refusedTurn turnTo
+unfolding lineTurn sizesFor onFormat inFront volumeTurn lineOutcome told printing formatted refusedTurn withMemory
 line-pages w s (Said.Format P S) h =
-    let o : Outcome Volume = formatOutcome w P S (inUse w P S (s .memory)) in
+    let v = inUse w (sizesOf P S) (s .memory) in
+    let o : Outcome Volume = formatOutcome w (sizesOf P S) v in
     on-eq (o .answer) 0
-    (λ (e : o .answer ≡ 0). let q : eqb (o .answer) 0 ≡ true = eq-eqb _ _ e in rw q (format-pages w P S (inUse w P S (s .memory)) e))
+    (λ (e : o .answer ≡ 0). let q : eqb (o .answer) 0 ≡ true = eq-eqb _ _ e in rw q (format-pages w (sizesOf P S) v e))
     (λ (d : ¬ (o .answer ≡ 0)). let q : eqb (o .answer) 0 ≡ false = ne-eqb _ _ d in rw q h)
 line-pages w s (Said.Launch pages) h = h
 line-pages w s (Said.Write page slot fill) h = h
@@ -168,7 +165,7 @@ line-pages w s Said.Listing h = h
 line-pages w s Said.Malformed h = h
 
 pub turn-pages : (w : ℕ) (s : Standing) (says : Said) → s .pages ≤ 256 → turn w s says .leaves .pages ≤ 256
-unfolding turn idleTurn turnTo refusedTurn
+unfolding turn idleTurn printing refusedTurn
 turn-pages w s says h =
     let Q : Turn → Type 0 = λ t. t .leaves .pages ≤ 256 in
     either-way (s .over) Q (idleTurn s) (cond (isEarly (s .pages) says) (refusedTurn s) (lineTurn w s says)) h

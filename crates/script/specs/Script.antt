@@ -1,19 +1,19 @@
 -- A script's run line by line: what each line prints and what it leaves, by the calls' outcome definitions.
-use Prim.Native.Nat.{ℕ, _*_}
+use Prim.Native.Nat.{ℕ}
 use mathlib.Core.List.{List, [], _++_}
 use mathlib.Core.Bool.{Bool, true, false, cond, not, _&&_}
 use lib.Dec.{eqb}
-use lib.ListN.{take, replicate}
 use Rattle.outcome.specs.Outcome.{Outcome}
-use Rattle.rules.specs.Volume.{Volume}
-use Rattle.rules.specs.Format.{formatOutcome}
-use Rattle.atomicity.specs.Call.{Call, perform}
-use Rattle.memory.specs.Memory.{inUse, stateBack, volumeBack, leaving, lost}
+use Rattle.sizes.specs.Sizes.{sizesOf}
+use Rattle.sizes.specs.declared.Sizes.{Sizes}
 use Rattle.text.specs.Scan.{bytes}
 use Rattle.text.specs.Print.{decimal}
 use Rattle.line.specs.Line.{Said}
+use Rattle.rules.specs.Volume.{Volume}
 use Rattle.listing.specs.Listing.{answerText, listText}
+use Rattle.dispatch.specs.Dispatch.{lineOutcome}
 use Rattle.script.specs.declared.step.Run.{Run}
+use Rattle.script.specs.Memory.{inUse, volumeBack}
 
 -- Where a run stands: the sizes of its volume, both 0 before a format has answered 0; memory, which the volume is in front of; whether the run has ended.
 pub record Standing : Type 0 where
@@ -35,28 +35,17 @@ pub record Turn : Type 0 where
   pub prints : List ℕ
   pub leaves : Standing
 
--- a turn that changes memory alone
-unfoldable pub turnTo : Standing → Volume → List ℕ → Turn
-turnTo s memory text = record { prints = text; leaves = record { pages = s .pages; slots = s .slots; memory = memory; over = s .over } }
+-- where the run stands with another memory
+unfoldable pub withMemory : Standing → Volume → Standing
+withMemory s memory = record { pages = s .pages; slots = s .slots; memory = memory; over = s .over }
+
+-- a turn that prints a text and leaves the run where it stands
+unfoldable pub printing : Standing → List ℕ → Turn
+printing s text = record { prints = text; leaves = s }
 
 -- a turn that prints nothing and changes nothing
 unfoldable pub idleTurn : Standing → Turn
-idleTurn s = turnTo s (s .memory) []
-
--- a call on the volume in front of memory
-unfoldable pub called : (w : ℕ) → Standing → Call → Outcome Volume
-called w s call = leaving (volumeBack w (s .pages) (s .slots) (s .memory)) (perform w (s .pages) (s .slots) (inUse w (s .pages) (s .slots) (s .memory)) call)
-
--- "An accepted call … prints answer=0 …. A refused call prints answer= and its number"
-unfoldable pub answered : Standing → Outcome Volume → Turn
-answered s o = turnTo s (o .left) (answerText (o .answer))
-
--- "answer=0 done=0": "write with its done after it"; refused, "for write with done=0"
-unfoldable pub doneText : (answer done : ℕ) → List ℕ
-doneText answer done = bytes "answer=" ++ (decimal answer ++ (bytes " done=" ++ (decimal done ++ bytes "\n")))
-
-unfoldable pub doneWith : Standing → Outcome Volume → Turn
-doneWith s o = turnTo s (o .left) (doneText (o .answer) (o .second))
+idleTurn s = printing s []
 
 -- "prints answer=line and ends the run"
 unfoldable pub refusedTurn : Standing → Turn
@@ -66,57 +55,78 @@ refusedTurn s =
       leaves = record { pages = s .pages; slots = s .slots; memory = s .memory; over = true };
     }
 
--- a format on memory: accepted, the run goes on with a volume of these sizes; "A refused later format leaves the volume as it was."
-unfoldable pub formatted : Standing → (P S : ℕ) → Outcome Volume → Turn
-formatted s P S o =
+-- "answer=0 done=0": "write with its done after it"; refused, "for write with done=0"
+unfoldable pub doneText : (answer done : ℕ) → List ℕ
+doneText answer done = bytes "answer=" ++ (decimal answer ++ (bytes " done=" ++ (decimal done ++ bytes "\n")))
+
+-- a format's answer: accepted, the run goes on with a volume of these sizes; "A refused later format leaves the volume as it was."
+unfoldable pub formatted : Standing → (P S answer : ℕ) → Turn
+formatted s P S answer =
     record {
-      prints = answerText (o .answer);
+      prints = answerText answer;
       leaves =
           record {
-            pages = cond (eqb (o .answer) 0) P (s .pages);
-            slots = cond (eqb (o .answer) 0) S (s .slots);
-            memory = o .left;
+            pages = cond (eqb answer 0) P (s .pages);
+            slots = cond (eqb answer 0) S (s .slots);
+            memory = s .memory;
             over = s .over;
           };
     }
 
-unfoldable pub formatTurn : (w : ℕ) → Standing → (P S : ℕ) → Turn
-formatTurn w s P S = formatted s P S (leaving (volumeBack w P S (s .memory)) (formatOutcome w P S (inUse w P S (s .memory))))
+-- What a line prints, by its call's answer and second number, where memory is the volume that the call left; and where it leaves the run.
+-- "An accepted call, cut included, prints answer=0, write with its done after it, list as its last line. A refused call prints answer= and its number, for write with done=0."
+unfoldable pub told : (w : ℕ) → Standing → Said → (answer second : ℕ) → Turn
+told w s (Said.Format P S) answer second = formatted s P S answer
+told w s (Said.Launch pages) answer second = printing s (answerText answer)
+told w s (Said.Write page slot fill) answer second = printing s (doneText answer second)
+told w s (Said.Withdraw page) answer second = printing s (answerText answer)
+told w s (Said.Erase slots) answer second = printing s (answerText answer)
+told w s Said.Recover answer second = printing s (answerText answer)
+told w s Said.Cut answer second = printing s (answerText answer)
+told w s Said.Listing answer second = printing s (listText w (sizesOf (s .pages) (s .slots)) (s .memory))
+told w s Said.Malformed answer second = refusedTurn s
 
--- "cut sets every sheet word to 4,294,967,295"
-unfoldable pub cutTurn : Standing → Turn
-cutTurn s =
-    turnTo s
-    (record { flash = s .memory .flash; state = stateBack (s .pages) (s .memory .state) (lost (take (4 * s .pages) (s .memory .state))) })
-    (answerText 0)
+-- what a line does where it may stand, on a volume of sizes z that is all of memory
+unfoldable pub volumeTurn : (w : ℕ) → Sizes → Standing → Said → Turn
+volumeTurn w z s says = tell (lineOutcome w z (s .memory) says)
+  where
+    tell : Outcome Volume → Turn
+    tell o = told w (withMemory s (o .left)) says (o .answer) (o .second)
 
--- what a line does where it may stand
+-- what is said of a format by its sizes, and of another line
+unfoldable pub onFormat : {A : Type 0} → Said → (ℕ → ℕ → A) → A → A
+onFormat (Said.Format P S) f other = f P S
+onFormat (Said.Launch pages) f other = other
+onFormat (Said.Write page slot fill) f other = other
+onFormat (Said.Withdraw page) f other = other
+onFormat (Said.Erase slots) f other = other
+onFormat Said.Recover f other = other
+onFormat Said.Cut f other = other
+onFormat Said.Listing f other = other
+onFormat Said.Malformed f other = other
+
+-- the sizes of the volume that a line works on: a format's own, else the run's
+unfoldable pub sizesFor : Standing → Said → Sizes
+sizesFor s says = onFormat says sizesOf (sizesOf (s .pages) (s .slots))
+
+-- what a line does on the volume of sizes z in front of memory, with what is behind that put back
+unfoldable pub inFront : (w : ℕ) (z : Sizes) → Standing → Said → Turn
+inFront w z s says = putBack (volumeTurn w z (withMemory s (inUse w z (s .memory))) says)
+  where
+    putBack : Turn → Turn
+    putBack t = record { prints = t .prints; leaves = withMemory (t .leaves) (volumeBack w z (s .memory) (t .leaves .memory)) }
+
+-- what a line does where it may stand: it works on the volume of its sizes in front of memory, and what is behind that stays
 unfoldable pub lineTurn : (w : ℕ) → Standing → Said → Turn
-lineTurn w s (Said.Format P S) = formatTurn w s P S
-lineTurn w s (Said.Launch pages) = answered s (called w s (Call.Launch pages))
-lineTurn w s (Said.Write page slot fill) = doneWith s (called w s (Call.Write page slot (replicate w fill)))
-lineTurn w s (Said.Withdraw page) = answered s (called w s (Call.Withdraw page))
-lineTurn w s (Said.Erase slots) = answered s (called w s (Call.Erase slots))
-lineTurn w s Said.Recover = answered s (called w s Call.Recover)
-lineTurn w s Said.Cut = cutTurn s
-lineTurn w s Said.Listing = turnTo s (s .memory) (listText w (s .pages) (s .slots) (inUse w (s .pages) (s .slots) (s .memory)))
-lineTurn w s Said.Malformed = refusedTurn s
-
-unfoldable pub isFormat : Said → Bool
-isFormat (Said.Format P S) = true
-isFormat (Said.Launch pages) = false
-isFormat (Said.Write page slot fill) = false
-isFormat (Said.Withdraw page) = false
-isFormat (Said.Erase slots) = false
-isFormat Said.Recover = false
-isFormat Said.Cut = false
-isFormat Said.Listing = false
-isFormat Said.Malformed = false
+lineTurn w s says = inFront w (sizesFor s says) s says
 
 -- "a line other than format before a format has answered 0"
+unfoldable pub isFormat : Said → Bool
+isFormat says = onFormat says (λ P S. true) false
+
 unfoldable pub isEarly : ℕ → Said → Bool
-isEarly pages said = eqb pages 0 && not (isFormat said)
+isEarly pages says = eqb pages 0 && not (isFormat says)
 
 -- What a line does: the bytes it prints and where it leaves the run. After a line that "prints answer=line and ends the run" no line does anything.
 unfoldable pub turn : (w : ℕ) → Standing → Said → Turn
-turn w s said = cond (s .over) (idleTurn s) (cond (isEarly (s .pages) said) (refusedTurn s) (lineTurn w s said))
+turn w s says = cond (s .over) (idleTurn s) (cond (isEarly (s .pages) says) (refusedTurn s) (lineTurn w s says))

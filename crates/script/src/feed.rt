@@ -2,32 +2,12 @@
 ghost use mathlib.Core.Path.{_≡_};
 ghost use lib.ListN.{length};
 ghost use Rattle.bounded.specs.Limits.{width};
-ghost use Rattle.rules.specs.Volume.{volume};
 ghost use Rattle.text.specs.Print.{shown, added};
+ghost use Rattle.rules.specs.Volume.{volume};
 ghost use Rattle.script.specs.Script.{standing};
 ghost use Rattle.script.specs.Feed.{carried, fed};
 use super::step;
 use super::step::Run;
-
-// A line carried out.
-fn run_line(
-    run: Run,
-    text: &[u8],
-    words: &mut [u32],
-    contents: &mut [u8],
-    state: &mut [u32],
-    out: &mut [u8],
-) -> Run
-    ensures stands { λ s. ⌜ standing s (volume (now (words .exit)) (now (contents .exit)) (now (state .exit)))
-        ≡ carried width (standing run (volume (now (words .entry)) (now (contents .entry)) (now (state .entry)))) (now (text .entry)) .leaves ⌝ }
-    ensures prints { λ s. ⌜ shown (now (out .exit)) (s .at) ≡ added (now (out .entry)) (run .at)
-        (carried width (standing run (volume (now (words .entry)) (now (contents .entry)) (now (state .entry)))) (now (text .entry)) .prints) ⌝ }
-    ensures holds { λ s. ⌜ s .held ≡ run .held ⌝ }
-{
-    let mut list = [0u32; 64];
-    let said = line::line_of(text, &mut list);
-    step::step(run, said, &list, words, contents, state, out)
-}
 
 // The line that is held, carried out.
 pub fn end_line(
@@ -44,8 +24,10 @@ pub fn end_line(
         (carried width (standing run (volume (now (words .entry)) (now (contents .entry)) (now (state .entry)))) (shown (now (buffer .entry)) (run .held)) .prints) ⌝ }
     ensures holds { λ s. ⌜ s .held ≡ 0 ⌝ }
 {
-    let n = memory::least(run.held, buffer.len());
-    run_line(run.holding(0), &buffer[0..n], words, contents, state, out)
+    let n = dispatch::least(run.held, buffer.len());
+    let mut list = [0u32; 64];
+    let line = line::line_of(&buffer[0..n], &mut list);
+    step::step(run.holding(0), line, &list, words, contents, state, out)
 }
 
 // The next byte of a script, which does nothing once the run is over.

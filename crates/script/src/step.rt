@@ -4,13 +4,15 @@ ghost use mathlib.Core.Path.{_≡_};
 ghost use mathlib.Core.List.{List};
 ghost use mathlib.Core.Bool.{true};
 ghost use Rattle.bounded.specs.Limits.{width};
-ghost use Rattle.rules.specs.Volume.{Volume, volume};
+ghost use Rattle.sizes.specs.Sizes.{sizesOf};
 ghost use Rattle.text.specs.Print.{shown, added};
 ghost use Rattle.line.specs.Line.{said};
+ghost use Rattle.rules.specs.Volume.{Volume, volume};
 ghost use Rattle.listing.specs.Listing.{answerText, listText};
-ghost use Rattle.memory.specs.Memory.{inUse};
-ghost use Rattle.script.specs.Script.{standing, startRun, doneText, refusedTurn, formatTurn, lineTurn, isFormat, isEarly, turn};
+ghost use Rattle.script.specs.Script.{standing, startRun, refusedTurn, doneText, formatted, told, volumeTurn, sizesFor, turn};
+ghost use Rattle.script.specs.StepLaws.{inTime};
 use line::Line;
+use sizes::Sizes;
 use text::print;
 
 // Where a run stands: the volume's sizes, both 0 before a format has answered 0; the place in the buffer for output; the bytes
@@ -108,23 +110,12 @@ fn refuse(run: Run, out: &mut [u8]) -> Run
     run.ended(print::put_text(out, run.at, b"answer=line\n"))
 }
 
-// "A refused later format leaves the volume as it was."
-fn format_step(
-    run: Run,
-    pages: u32,
-    slots: u32,
-    words: &mut [u32],
-    contents: &mut [u8],
-    state: &mut [u32],
-    out: &mut [u8],
-) -> Run
-    ensures stands { λ s. ⌜ standing s (volume (now (words .exit)) (now (contents .exit)) (now (state .exit)))
-        ≡ formatTurn width (standing run (volume (now (words .entry)) (now (contents .entry)) (now (state .entry)))) pages slots .leaves ⌝ }
-    ensures prints { λ s. ⌜ shown (now (out .exit)) (s .at) ≡ added (now (out .entry)) (run .at)
-        (formatTurn width (standing run (volume (now (words .entry)) (now (contents .entry)) (now (state .entry)))) pages slots .prints) ⌝ }
+// A format's answer. "A refused later format leaves the volume as it was": the run goes on with the sizes of one that is accepted.
+fn say_format(run: Run, pages: u32, slots: u32, out: &mut [u8], r: u64) -> Run
+    ensures stands { λ s. ⌜ ((memory : Volume) → standing s memory ≡ formatted (standing run memory) pages slots (r % 2 ^ 32) .leaves) ⌝ }
+    ensures prints { λ s. ⌜ shown (now (out .exit)) (s .at) ≡ added (now (out .entry)) (run .at) (answerText (r % 2 ^ 32)) ⌝ }
     ensures holds { λ s. ⌜ s .held ≡ run .held ⌝ }
 {
-    let r = memory::format(pages, slots, words, contents, state);
     let next = say(run, out, r);
     if outcome::answer_of(r) != 0 {
         return next;
@@ -143,50 +134,53 @@ fn say_done(run: Run, out: &mut [u8], r: u64) -> Run
     run.printed(print::put_text(out, b, b"\n"))
 }
 
-// The pages of the volume in front of memory, listed.
-fn list_step(run: Run, words: &[u32], contents: &[u8], state: &[u32], out: &mut [u8]) -> Run
+// The pages of the volume listed.
+fn say_list(run: Run, words: &[u32], contents: &[u8], state: &[u32], out: &mut [u8]) -> Run
     ensures stands { λ s. ⌜ ((memory : Volume) → standing s memory ≡ standing run memory) ⌝ }
     ensures prints { λ s. ⌜ shown (now (out .exit)) (s .at) ≡ added (now (out .entry)) (run .at)
-        (listText width (run .pages) (run .slots) (inUse width (run .pages) (run .slots) (volume (now (words .entry)) (now (contents .entry)) (now (state .entry))))) ⌝ }
+        (listText width (sizesOf (run .pages) (run .slots)) (volume (now (words .entry)) (now (contents .entry)) (now (state .entry)))) ⌝ }
     ensures holds { λ s. ⌜ s .held ≡ run .held ⌝ }
 {
-    let w = memory::least(5 * (run.slots as usize), words.len());
-    let b = memory::least(volume::WIDTH * (run.slots as usize), contents.len());
-    let s = memory::least(4 * (run.pages as usize), state.len());
-    run.printed(listing::list(
-        run.pages,
-        run.slots,
-        &words[0..w],
-        &contents[0..b],
-        &state[0..s],
-        out,
-        run.at,
-    ))
+    let sizes = Sizes {
+        pages: run.pages,
+        slots: run.slots,
+    };
+    run.printed(listing::list(sizes, words, contents, state, out, run.at))
 }
 
-// The line is a format.
-fn is_format(line: Line) -> bool
-    ensures { λ r. ⌜ ((list : List ℕ) → r ≡ isFormat (said line list)) ⌝ }
+// What is said of a line whose call left this volume and gave back `r`.
+fn tell(
+    run: Run,
+    line: Line,
+    words: &[u32],
+    contents: &[u8],
+    state: &[u32],
+    out: &mut [u8],
+    r: u64,
+) -> Run
+    ensures stands { λ s. ⌜ ((list : List ℕ) → standing s (volume (now (words .entry)) (now (contents .entry)) (now (state .entry)))
+        ≡ told width (standing run (volume (now (words .entry)) (now (contents .entry)) (now (state .entry)))) (said line list) (r % 2 ^ 32) (r / 2 ^ 32) .leaves) ⌝ }
+    ensures prints { λ s. ⌜ ((list : List ℕ) → shown (now (out .exit)) (s .at) ≡ added (now (out .entry)) (run .at)
+        (told width (standing run (volume (now (words .entry)) (now (contents .entry)) (now (state .entry)))) (said line list) (r % 2 ^ 32) (r / 2 ^ 32) .prints)) ⌝ }
+    ensures holds { λ s. ⌜ s .held ≡ run .held ⌝ }
 {
     match line {
-        Line::Format { pages: _, slots: _ } => true,
-        _ => false,
+        Line::Format { pages, slots } => say_format(run, pages, slots, out, r),
+        Line::Write {
+            page: _,
+            slot: _,
+            fill: _,
+        } => say_done(run, out, r),
+        Line::List => say_list(run, words, contents, state, out),
+        Line::Malformed => refuse(run, out),
+        _ => say(run, out, r),
     }
 }
 
-// "a line other than format before a format has answered 0"
-fn is_early(pages: u32, line: Line) -> bool
-    ensures { λ r. ⌜ ((list : List ℕ) → r ≡ isEarly pages (said line list)) ⌝ }
-{
-    if pages > 0 {
-        return false;
-    }
-    !is_format(line)
-}
-
-// A line other than one that comes too early, carried out.
-fn line_step(
+// A line carried out on a volume of its sizes.
+fn volume_step(
     run: Run,
+    sizes: Sizes,
     line: Line,
     list: &[u32],
     words: &mut [u32],
@@ -195,60 +189,43 @@ fn line_step(
     out: &mut [u8],
 ) -> Run
     ensures stands { λ s. ⌜ standing s (volume (now (words .exit)) (now (contents .exit)) (now (state .exit)))
-        ≡ lineTurn width (standing run (volume (now (words .entry)) (now (contents .entry)) (now (state .entry)))) (said line (now (list .entry))) .leaves ⌝ }
+        ≡ volumeTurn width sizes (standing run (volume (now (words .entry)) (now (contents .entry)) (now (state .entry)))) (said line (now (list .entry))) .leaves ⌝ }
     ensures prints { λ s. ⌜ shown (now (out .exit)) (s .at) ≡ added (now (out .entry)) (run .at)
-        (lineTurn width (standing run (volume (now (words .entry)) (now (contents .entry)) (now (state .entry)))) (said line (now (list .entry))) .prints) ⌝ }
+        (volumeTurn width sizes (standing run (volume (now (words .entry)) (now (contents .entry)) (now (state .entry)))) (said line (now (list .entry))) .prints) ⌝ }
     ensures holds { λ s. ⌜ s .held ≡ run .held ⌝ }
 {
+    let r = dispatch::call(sizes, line, list, words, contents, state);
+    tell(run, line, words, contents, state, out, r)
+}
+
+// "a line other than format before a format has answered 0" is as a malformed one.
+fn in_time(pages: u32, line: Line) -> Line
+    ensures { λ r. ⌜ ((list : List ℕ) → said r list ≡ inTime pages (said line list)) ⌝ }
+{
+    if pages > 0 {
+        return line;
+    }
     match line {
-        Line::Format { pages, slots } => format_step(
-            run,
-            pages,
-            slots,
-            words,
-            contents,
-            state,
-            out,
-        ),
-        Line::Launch { count } => {
-            let r = memory::launch(run.pages, run.slots, state, list, count);
-            say(run, out, r)
-        }
-        Line::Write { page, slot, fill } => {
-            let r = memory::write(
-                run.pages,
-                run.slots,
-                words,
-                contents,
-                state,
-                page,
-                slot,
-                fill,
-            );
-            say_done(run, out, r)
-        }
-        Line::Withdraw { page } => {
-            let r = memory::withdraw(run.pages, run.slots, state, page);
-            say(run, out, r)
-        }
-        Line::Erase { count } => {
-            let r = memory::erase(run.pages, run.slots, words, contents, state, list, count);
-            say(run, out, r)
-        }
-        Line::Recover => {
-            let r = memory::recover(run.pages, run.slots, words, state);
-            say(run, out, r)
-        }
-        Line::Cut => {
-            memory::cut(run.pages, state);
-            say(run, out, 0)
-        }
-        Line::List => list_step(run, words, contents, state, out),
-        Line::Malformed => refuse(run, out),
+        Line::Format { pages: _, slots: _ } => line,
+        _ => Line::Malformed,
     }
 }
 
-// One line carried out, unless the run is over.
+// The sizes of the volume that a line works on: a format's own, else the run's.
+fn sizes_for(run: Run, line: Line) -> Sizes
+    ensures { λ r. ⌜ ((memory : Volume) (list : List ℕ) → r ≡ sizesFor (standing run memory) (said line list)) ⌝ }
+{
+    match line {
+        Line::Format { pages, slots } => Sizes { pages, slots },
+        _ => Sizes {
+            pages: run.pages,
+            slots: run.slots,
+        },
+    }
+}
+
+// One line carried out, unless the run is over: it works on the front of memory that a volume of its sizes has. A buffer that lacks it has the wrong
+// length, which the call refuses.
 pub fn step(
     run: Run,
     line: Line,
@@ -267,8 +244,19 @@ pub fn step(
     if run.over {
         return run;
     }
-    if is_early(run.pages, line) {
-        return refuse(run, out);
-    }
-    line_step(run, line, list, words, contents, state, out)
+    let says = in_time(run.pages, line);
+    let sizes = sizes_for(run, says);
+    let w = dispatch::least(5 * (sizes.slots as usize), words.len());
+    let b = dispatch::least(sizes::WIDTH * (sizes.slots as usize), contents.len());
+    let s = dispatch::least(4 * (sizes.pages as usize), state.len());
+    volume_step(
+        run,
+        sizes,
+        says,
+        list,
+        &mut words[0..w],
+        &mut contents[0..b],
+        &mut state[0..s],
+        out,
+    )
 }

@@ -8,7 +8,7 @@ use lib.Dec.{eqb}
 use borrow.Author.Tests.{eqb-true, eq-eqb}
 use Rattle.bounded.specs.Choice.{on-lt, on-eq, never, same-test}
 use Rattle.bounded.specs.Below.{someBelow, firstBelow}
-use Rattle.bounded.specs.BelowLaws.{all-cong, all-at, all-of, some-of, some-at, some-cong, first-passes, first-none-before, first-found}
+use Rattle.bounded.specs.BelowLaws.{all-at, all-of, some-of, some-at, some-cong, first-passes, first-none-before, first-found}
 use Rattle.bounded.specs.PartsLaws.{update-same, update-other}
 use Rattle.bounded.specs.Pigeonhole.{comes-back}
 use Rattle.state.specs.declared.PageState.{PageState}
@@ -51,12 +51,6 @@ along-cong st st′ h p (suc k) = ap (λ (x : ℕ). st x .next) (along-cong st s
 pub on-cycle-cong : (P : ℕ) (st st′ : ℕ → PageState) → ((q : ℕ) → st q .next ≡ st′ q .next) → (p q : ℕ) → onCycle P st p q ≡ onCycle P st′ p q
 unfolding onCycle
 on-cycle-cong P st st′ h p q = some-cong P (λ k l. ap (λ (x : ℕ). eqb x q) (along-cong st st′ h p k))
-
--- whether a cycle is written depends on next and written alone
-pub cycle-written-cong : (P : ℕ) (st st′ : ℕ → PageState) → ((q : ℕ) → st q .next ≡ st′ q .next) → ((q : ℕ) → isWritten (st q) ≡ isWritten (st′ q)) → (p : ℕ) → cycleWritten P st p ≡ cycleWritten P st′ p
-unfolding cycleWritten
-cycle-written-cong P st st′ h w p =
-    all-cong P (λ k l. w (along st p k) ∙ ap (λ (x : ℕ). isWritten (st′ x)) (along-cong st st′ h p k))
 
 -- the marked page, and any other
 pub marked-at : (st : ℕ → PageState) (p : ℕ) → marked st p p ≡ writtenPage (st p)
@@ -106,10 +100,6 @@ module _ (P : ℕ) (st : ℕ → PageState) (sound : StateFacts P st) where
   along-below st′ h p zero f = refl
   along-below st′ h p (suc k) f =
       ap (λ (s : PageState). s .next) (h (along st p k) (along-flies p k f .below)) ∙ ap (λ (x : ℕ). st′ x .next) (along-below st′ h p k f)
-
-  pub on-cycle-below : (st′ : ℕ → PageState) → ((q : ℕ) → q < P → st q ≡ st′ q) → (p q : ℕ) → Flies P st p → onCycle P st p q ≡ onCycle P st′ p q
-  unfolding onCycle
-  on-cycle-below st′ h p q f = some-cong P (λ k l. ap (λ (x : ℕ). eqb x q) (along-below st′ h p k f))
 
   -- next sends no two pages in flight to one
   pub next-apart : (p q : ℕ) → Flies P st p → Flies P st q → st p .next ≡ st q .next → p ≡ q

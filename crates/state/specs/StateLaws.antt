@@ -10,7 +10,7 @@ use mathlib.Core.Bool.{Bool, true, false, not, _&&_, _||_}
 use lib.Dec.{ltb, leb, eqb}
 use lib.ListN.{length, getD, take, drop, set}
 use lib.Seq.{sets-eq}
-use borrow.Author.Tests.{ltb-true, leb-true, eqb-true, eqb-false, lt-ltb, le-leb, eq-eqb, ne-eqb, not-true, not-false}
+use borrow.Author.Tests.{ltb-true, leb-true, eqb-true, lt-ltb, le-leb, eq-eqb, ne-eqb, not-true}
 use Rattle.bounded.specs.Limits.{noNumber, highestVersion}
 use Rattle.bounded.specs.Choice.{on-lt, on-eq, on-test, never, both, both-left, both-right, either, either-left, either-right, not-yes, not-no}
 use Rattle.bounded.specs.Below.{allBelow}
@@ -18,7 +18,7 @@ use Rattle.bounded.specs.BelowLaws.{all-at, all-of}
 use Rattle.bounded.specs.Parts.{part, putAt, putPart, update}
 use Rattle.bounded.specs.PartsLaws.{update-same, update-other, part-put-same, part-put-other, part-length, part-at, length-putPart, length-joinParts, part-joinParts, joinParts-cong, joinParts-parts}
 use Rattle.state.specs.declared.PageState.{PageState}
-use Rattle.state.specs.State.{pageWords, pageOf, stateAt, stateWords, inFlight, isWritten, versionsSound, flightSound, writtenSound, pageSound, shareNext, nextsApart, stateSound}
+use Rattle.state.specs.State.{pageWords, pageOf, stateAt, stateWords, inFlight, versionsSound, flightSound, writtenSound, pageSound, shareNext, nextsApart, stateSound}
 
 -- ---- words
 
@@ -61,11 +61,6 @@ stateWords-at P words e =
 pub stateWords-cong : (P : ℕ) (st st′ : ℕ → PageState) → ((p : ℕ) → p < P → st p ≡ st′ p) → stateWords P st ≡ stateWords P st′
 unfolding stateWords
 stateWords-cong P st st′ h = joinParts-cong P (λ p. pageWords (st p)) (λ p. pageWords (st′ p)) (λ p l. ap pageWords (h p l))
-
--- words of one state are of states that agree below P
-pub stateWords-apart : (P : ℕ) (st st′ : ℕ → PageState) → stateWords P st ≡ stateWords P st′ → (p : ℕ) → p < P → st p ≡ st′ p
-stateWords-apart P st st′ e p h =
-    sym (stateAt-words P st p h) ∙ ap (λ (ws : List ℕ). stateAt ws p) e ∙ stateAt-words P st′ p h
 
 -- page p's words stand from 4p on
 pub stateAt-reads : (words : List ℕ) (p : ℕ) → stateAt words p ≡ record { committed = getD words (4 * p) 0; used = getD words (4 * p + 1) 0; next = getD words (4 * p + 2) 0; written = getD words (4 * p + 3) 0 }
@@ -122,29 +117,13 @@ pub when-of : (a b : Bool) → (a ≡ true → b ≡ true) → (not a || b) ≡ 
 when-of true b h = h refl
 when-of false b h = refl
 
-pub flies-number : (s : PageState) → inFlight s ≡ true → ¬ (s .next ≡ noNumber)
-unfolding inFlight
-flies-number s e = eqb-false (s .next) noNumber (not-true (eqb (s .next) noNumber) e)
-
 pub number-flies : (s : PageState) → ¬ (s .next ≡ noNumber) → inFlight s ≡ true
 unfolding inFlight
 number-flies s h = not-no (ne-eqb (s .next) noNumber h)
 
-pub rests-none : (s : PageState) → inFlight s ≡ false → s .next ≡ noNumber
-unfolding inFlight
-rests-none s e = eqb-true (s .next) noNumber (not-false (eqb (s .next) noNumber) e)
-
 pub none-rests : (s : PageState) → s .next ≡ noNumber → inFlight s ≡ false
 unfolding inFlight
 none-rests s h = not-yes (eq-eqb (s .next) noNumber h)
-
-pub written-one : (s : PageState) → isWritten s ≡ true → s .written ≡ 1
-unfolding isWritten
-written-one s e = eqb-true (s .written) 1 e
-
-pub one-written : (s : PageState) → s .written ≡ 1 → isWritten s ≡ true
-unfolding isWritten
-one-written s h = eq-eqb (s .written) 1 h
 
 -- two pages in flight with the same next page
 pub share-next-means : (s u : PageState) → shareNext s u ≡ true → (inFlight s ≡ true) × (inFlight u ≡ true) × (s .next ≡ u .next)
@@ -285,9 +264,3 @@ facts-cong P st st′ h f = record {
   });
   apart = λ p q lp lq fp fq e. f .apart p q lp lq (ap inFlight (h p lp) ∙ fp) (ap inFlight (h q lq) ∙ fq) (ap (λ (s : PageState). s .next) (h p lp) ∙ e ∙ ap (λ (s : PageState). s .next) (sym (h q lq)));
 }
-
--- a sound state, written down, reads as sound
-pub words-sound : (P : ℕ) (st : ℕ → PageState) → StateFacts P st → stateSound P (stateAt (stateWords P st)) ≡ true
-words-sound P st f =
-    facts-state-sound P (stateAt (stateWords P st))
-    (facts-cong P st (stateAt (stateWords P st)) (λ p l. sym (stateAt-words P st p l)) f)

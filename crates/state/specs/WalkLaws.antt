@@ -17,7 +17,7 @@ use Rattle.state.specs.State.{pageWords, stateAt, stateWords}
 use Rattle.state.specs.StateLaws.{StateFacts, state-sound-facts, stateAt-words, stateWords-at, stateWords-cong, put-stateWords, length-stateWords}
 use Rattle.state.specs.Cycle.{along, onCycle}
 use Rattle.state.specs.CycleLaws.{Flies, along-zero, along-suc, lap-positive, lap-le, lap-home, lap-first, lap-apart, in-lap, on-cycle-at, on-cycle-lap, on-cycle-flies, on-cycle-refl, on-cycle-next}
-use Rattle.state.specs.Walk.{pagesIn, lap, steps, walked, left, Walkable, Walking, Launchable}
+use Rattle.state.specs.Walk.{pagesIn, lap, steps, walked, left, Walkable, Walking}
 
 pub pages-in : (P : ℕ) (words : List ℕ) → length words ≡ 4 * P → pagesIn words ≡ P
 unfolding pagesIn
@@ -26,11 +26,6 @@ pages-in P words e = omega arith
 -- what a call has tested for P pages holds for the pages that the words are of
 pub walkable-in : (P : ℕ) (words : List ℕ) (page : ℕ) → Walkable P words page → Walkable (pagesIn words) words page
 walkable-in P words page w = subst (λ (n : ℕ). Walkable n words page) (sym (pages-in P words (w .fits))) w
-
-pub launchable-in : (P : ℕ) (words pages : List ℕ) → length words ≡ 4 * P → Launchable P (stateAt words) pages → (length words ≡ 4 * pagesIn words) × Launchable (pagesIn words) (stateAt words) pages
-launchable-in P words pages e ok =
-    let same = sym (pages-in P words e) in
-    (e ∙ ap (λ (n : ℕ). 4 * n) same, subst (λ (n : ℕ). Launchable n (stateAt words) pages) same ok)
 
 pub walkable-facts : (P : ℕ) (words : List ℕ) (page : ℕ) → Walkable P words page → StateFacts P (stateAt words)
 walkable-facts P words page w = state-sound-facts P (stateAt words) (w .sound)

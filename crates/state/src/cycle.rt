@@ -59,6 +59,6 @@ pub fn write_page(state: &mut [u32], page: u32) -> bool
         return true;
     }
     let s = page_at(state, page);
-    put_page(state, page, s.marked());
+    put_page(state, page, s.written_page());
     false
 }

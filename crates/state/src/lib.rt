@@ -10,14 +10,8 @@ ghost use lib.ListN.{length};
 ghost use Rattle.bounded.specs.Below.{allBelow};
 ghost use Rattle.bounded.specs.Parts.{putPart};
 ghost use Rattle.state.specs.State.{pageWords, stateAt, inFlight, isWritten, versionsSound, flightSound, writtenSound, pageSound, shareNext, nextsApart, stateSound};
-ghost use Rattle.state.specs.Change.{launchedPage, writtenPage};
+ghost use Rattle.state.specs.Change.{atRest, launchedPage, writtenPage};
 ghost use Rattle.state.specs.Walk.{endedPage};
-
-// "4,294,967,295: not in flight"
-const NOT_IN_FLIGHT: u32 = 4294967295;
-
-// "used is at most 4,294,967,294"
-const HIGHEST_VERSION: u32 = 4294967294;
 
 // One page's words: "the last committed version, the last used version, the next page in its current ring
 // (4,294,967,295: not in flight), and written (0 or 1)".
@@ -55,10 +49,22 @@ pub fn put_page(state: &mut [u32], page: u32, s: PageState)
 }
 
 impl PageState {
+    // At rest: not in flight, written 0.
+    pub fn at_rest(committed: u32, used: u32) -> PageState
+        ensures { λ r. ⌜ r ≡ atRest committed used ⌝ }
+    {
+        PageState {
+            committed,
+            used,
+            next: sizes::NO_NUMBER,
+            written: 0,
+        }
+    }
+
     pub fn in_flight(self) -> bool
         ensures { λ r. ⌜ r ≡ inFlight self ⌝ }
     {
-        self.next != NOT_IN_FLIGHT
+        self.next != sizes::NO_NUMBER
     }
 
     pub fn is_written(self) -> bool
@@ -81,7 +87,7 @@ impl PageState {
     }
 
     // "The page becomes written."
-    pub fn marked(self) -> PageState
+    pub fn written_page(self) -> PageState
         ensures { λ r. ⌜ r ≡ writtenPage self ⌝ }
     {
         PageState {
@@ -96,21 +102,10 @@ impl PageState {
     pub fn ended(self, commits: bool) -> PageState
         ensures { λ r. ⌜ r ≡ endedPage commits self ⌝ }
     {
-        let used = self.used;
         if commits {
-            return PageState {
-                committed: used,
-                used: used,
-                next: NOT_IN_FLIGHT,
-                written: 0,
-            };
+            return PageState::at_rest(self.used, self.used);
         }
-        PageState {
-            committed: self.committed,
-            used: used,
-            next: NOT_IN_FLIGHT,
-            written: 0,
-        }
+        PageState::at_rest(self.committed, self.used)
     }
 
     // "committed is at most used, used is at most 4,294,967,294"
@@ -120,11 +115,11 @@ impl PageState {
         if self.committed > self.used {
             return false;
         }
-        self.used <= HIGHEST_VERSION
+        self.used <= sizes::HIGHEST_VERSION
     }
 
     // "a page in flight has committed below used, its next page is below P and also in flight"
-    fn flight_sound(self, state: &[u32], pages: u32) -> bool
+    fn flight_sound(self, pages: u32, state: &[u32]) -> bool
         requires { ⌜ 4 * pages ≤ length (now state) ⌝ }
         ensures { λ r. ⌜ r ≡ flightSound pages (stateAt (now (state .entry))) self ⌝ }
     {
@@ -167,7 +162,7 @@ impl PageState {
     }
 }
 
-fn page_sound(state: &[u32], pages: u32, page: u32) -> bool
+fn page_sound(pages: u32, state: &[u32], page: u32) -> bool
     requires { ⌜ (4 * pages ≤ length (now state)) × (page < pages) ⌝ }
     ensures { λ r. ⌜ r ≡ pageSound pages (stateAt (now (state .entry))) page ⌝ }
 {
@@ -175,19 +170,19 @@ fn page_sound(state: &[u32], pages: u32, page: u32) -> bool
     if !s.versions_sound() {
         return false;
     }
-    if !s.flight_sound(state, pages) {
+    if !s.flight_sound(pages, state) {
         return false;
     }
     s.written_sound()
 }
 
-fn pages_sound(state: &[u32], pages: u32) -> bool
+fn pages_sound(pages: u32, state: &[u32]) -> bool
     requires { ⌜ 4 * pages ≤ length (now state) ⌝ }
     ensures { λ r. ⌜ r ≡ allBelow pages (pageSound pages (stateAt (now (state .entry)))) ⌝ }
 {
     let mut page = 0;
     while page < pages {
-        if !page_sound(state, pages, page) {
+        if !page_sound(pages, state, page) {
             return false;
         }
         page += 1;
@@ -211,7 +206,7 @@ fn next_apart(state: &[u32], page: u32) -> bool
     true
 }
 
-fn nexts_apart(state: &[u32], pages: u32) -> bool
+fn nexts_apart(pages: u32, state: &[u32]) -> bool
     requires { ⌜ 4 * pages ≤ length (now state) ⌝ }
     ensures { λ r. ⌜ r ≡ nextsApart pages (stateAt (now (state .entry))) ⌝ }
 {
@@ -226,12 +221,12 @@ fn nexts_apart(state: &[u32], pages: u32) -> bool
 }
 
 // The state is sound.
-pub fn state_sound(state: &[u32], pages: u32) -> bool
+pub fn state_sound(pages: u32, state: &[u32]) -> bool
     requires { ⌜ 4 * pages ≤ length (now state) ⌝ }
     ensures { λ r. ⌜ r ≡ stateSound pages (stateAt (now (state .entry))) ⌝ }
 {
-    if !pages_sound(state, pages) {
+    if !pages_sound(pages, state) {
         return false;
     }
-    nexts_apart(state, pages)
+    nexts_apart(pages, state)
 }

@@ -10,13 +10,13 @@ use lib.Dec.{ltb}
 use lib.ListN.{getD, set}
 use borrow.Author.Tests.{lt-ltb, le-ltb, ltb-true, eq-eqb, ne-eqb}
 use Rattle.bounded.specs.Choice.{on-lt, on-eq, on-test, same-test}
+use Rattle.bounded.specs.Tabulate.{tabulate, tabulate-at, tabulate-cong, set-tabulate}
 use Rattle.record.specs.declared.Record.{Record}
 use Rattle.record.specs.declared.Slot.{Slot}
 use Rattle.record.specs.declared.Slot.the-variants.{Blank, Holds}
 use Rattle.record.specs.Slot.{holds}
 use Rattle.record.specs.SlotLaws.{sound-facts, holds-exactly}
 use Rattle.table.specs.Table.{tableSound, ofPage, above, better, highest, hasRecord}
-use Rattle.bounded.specs.Tabulate.{tabulate, tabulate-at, tabulate-cong, set-tabulate}
 use Rattle.table.specs.TableLaws.{blank-holds, sound-at, highest-is, highest-held, highest-page, highest-exists}
 
 -- what a slot number names in a table of S slots: the slot, or blank where it is no slot

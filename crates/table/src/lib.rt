@@ -6,20 +6,21 @@ ghost use lib.ListN.{length};
 ghost use Rattle.record.specs.Slot.{slotAt, holds};
 ghost use mathlib.Core.Bool.{true};
 ghost use Rattle.bounded.specs.Below.{someBelow};
+ghost use Rattle.bounded.specs.Tabulate.{tabulate};
 ghost use Rattle.table.specs.Table.{tableSound, ofVersion, clash, someClash, lowestSlot, above};
 ghost use Rattle.table.specs.HighestSlot.{named, highestSlot};
-ghost use Rattle.bounded.specs.Tabulate.{tabulate};
 use record::Record;
 use record::Slot;
+use sizes::Sizes;
 
 // No "slot neither blank nor sound".
-pub fn table_sound(words: &[u32], pages: u32, slots: u32) -> bool
-    requires { ⌜ 5 * slots ≤ length (now words) ⌝ }
-    ensures { λ r. ⌜ r ≡ tableSound pages slots (slotAt (now (words .entry))) ⌝ }
+pub fn table_sound(sizes: Sizes, words: &[u32]) -> bool
+    requires { ⌜ 5 * sizes .slots ≤ length (now words) ⌝ }
+    ensures { λ r. ⌜ r ≡ tableSound (sizes .pages) (sizes .slots) (slotAt (now (words .entry))) ⌝ }
 {
     let mut k = 0;
-    while k < slots {
-        if !record::slot_at(words, k).is_sound(pages) {
+    while k < sizes.slots {
+        if !record::slot_at(words, k).is_sound(sizes.pages) {
             return false;
         }
         k += 1;
@@ -41,7 +42,7 @@ pub fn holds_version(slot: Slot, page: u32, version: u32) -> bool
 }
 
 // "the lowest slot holding the page at" a version; the number of slots where there is none.
-pub fn lowest_slot(words: &[u32], slots: u32, page: u32, version: u32) -> u32
+pub fn lowest_slot(slots: u32, words: &[u32], page: u32, version: u32) -> u32
     requires { ⌜ 5 * slots ≤ length (now words) ⌝ }
     ensures { λ r. ⌜ r ≡ lowestSlot slots (slotAt (now (words .entry))) page version ⌝ }
 {
@@ -82,7 +83,7 @@ fn some_clash_below(words: &[u32], k: u32) -> bool
 }
 
 // Two slots of the table clash.
-pub fn some_clash(words: &[u32], slots: u32) -> bool
+pub fn some_clash(slots: u32, words: &[u32]) -> bool
     requires { ⌜ 5 * slots ≤ length (now words) ⌝ }
     ensures { λ r. ⌜ r ≡ someClash slots (slotAt (now (words .entry))) ⌝ }
 {
@@ -97,7 +98,7 @@ pub fn some_clash(words: &[u32], slots: u32) -> bool
 }
 
 // What a slot number names: the slot, or blank where it is no slot of the table.
-pub fn named_slot(words: &[u32], slots: u32, slot: u32) -> Slot
+pub fn named_slot(slots: u32, words: &[u32], slot: u32) -> Slot
     requires { ⌜ 5 * slots ≤ length (now words) ⌝ }
     ensures { λ r. ⌜ r ≡ named slots (slotAt (now (words .entry))) slot ⌝ }
 {
@@ -118,34 +119,34 @@ fn is_above(best: Slot, record: Record) -> bool
 }
 
 // Slot k's record, where it is above its page's highest so far, becomes its page's highest.
-fn raise_highest(words: &[u32], pages: u32, slots: u32, k: u32, top: &mut [u32; 256])
-    requires { ⌜ 5 * slots ≤ length (now words) ⌝ }
-    requires { ⌜ pages ≤ 256 ⌝ }
-    requires { ⌜ k < slots ⌝ }
-    requires { ⌜ tableSound pages slots (slotAt (now words)) ≡ true ⌝ }
-    requires { ⌜ now top ≡ tabulate 256 (highestSlot slots k (slotAt (now words))) ⌝ }
-    ensures { λ _. ⌜ now (top .exit) ≡ tabulate 256 (highestSlot slots (k + 1) (slotAt (now (words .entry)))) ⌝ }
+fn raise_highest(sizes: Sizes, words: &[u32], k: u32, top: &mut [u32; 256])
+    requires { ⌜ 5 * sizes .slots ≤ length (now words) ⌝ }
+    requires { ⌜ sizes .pages ≤ 256 ⌝ }
+    requires { ⌜ k < sizes .slots ⌝ }
+    requires { ⌜ tableSound (sizes .pages) (sizes .slots) (slotAt (now words)) ≡ true ⌝ }
+    requires { ⌜ now top ≡ tabulate 256 (highestSlot (sizes .slots) k (slotAt (now words))) ⌝ }
+    ensures { λ _. ⌜ now (top .exit) ≡ tabulate 256 (highestSlot (sizes .slots) (k + 1) (slotAt (now (words .entry)))) ⌝ }
 {
     let Slot::Holds(record) = record::slot_at(words, k) else {
         return;
     };
     let p = record.p as usize;
-    if is_above(named_slot(words, slots, top[p]), record) {
+    if is_above(named_slot(sizes.slots, words, top[p]), record) {
         top[p] = k;
     }
 }
 
 // Each page's slot with its highest record, in one pass over the slots: entry p is page p's, `slots` where p has no record.
-pub fn highest_slots(words: &[u32], pages: u32, slots: u32, top: &mut [u32; 256])
-    requires { ⌜ 5 * slots ≤ length (now words) ⌝ }
-    requires { ⌜ pages ≤ 256 ⌝ }
-    requires { ⌜ tableSound pages slots (slotAt (now words)) ≡ true ⌝ }
-    ensures { λ _. ⌜ now (top .exit) ≡ tabulate 256 (highestSlot slots slots (slotAt (now (words .entry)))) ⌝ }
+pub fn highest_slots(sizes: Sizes, words: &[u32], top: &mut [u32; 256])
+    requires { ⌜ 5 * sizes .slots ≤ length (now words) ⌝ }
+    requires { ⌜ sizes .pages ≤ 256 ⌝ }
+    requires { ⌜ tableSound (sizes .pages) (sizes .slots) (slotAt (now words)) ≡ true ⌝ }
+    ensures { λ _. ⌜ now (top .exit) ≡ tabulate 256 (highestSlot (sizes .slots) (sizes .slots) (slotAt (now (words .entry)))) ⌝ }
 {
-    *top = [slots; 256];
+    *top = [sizes.slots; 256];
     let mut k = 0;
-    while k < slots {
-        raise_highest(words, pages, slots, k, top);
+    while k < sizes.slots {
+        raise_highest(sizes, words, k, top);
         k += 1;
     }
 }

@@ -33,7 +33,7 @@ module _ (text line : List ℕ) (i place : ℕ) where
     behind-next e = rw (add-one i, add-one place, drop-cons text i 0 h, drop-cons line place 0 l, eq-eqb _ _ e)
 
 -- none either way
-pub both-none : {A : Type 0} {x y : Option A} (b : Bool) → x ≡ none → y ≡ none → cond b x y ≡ none
+both-none : {A : Type 0} {x y : Option A} (b : Bool) → x ≡ none → y ≡ none → cond b x y ≡ none
 both-none true e h = e
 both-none false e h = h
 

@@ -6,12 +6,13 @@ use mathlib.Core.Bool.{cond}
 use lib.Dec.{ltb}
 use lib.ListN.{length, replicate, length-replicate}
 use borrow.Author.Tests.{lt-ltb, le-ltb}
+use Rattle.bounded.specs.Fill.{filled, filled-all}
+use Rattle.sizes.specs.declared.Sizes.{Sizes}
 use Rattle.record.specs.Slot.{wordsOf, formattedRecord, blankRecord}
 use Rattle.record.specs.SlotLaws.{words-length}
 use Rattle.state.specs.declared.PageState.{PageState}
 use Rattle.state.specs.State.{pageWords, stateWords}
 use Rattle.state.specs.StateLaws.{length-pageWords}
-use Rattle.bounded.specs.Fill.{filled, filled-all}
 use Rattle.rules.specs.Format.{formattedWords, formattedContents}
 
 -- "slot i below P holds (i, 0, 0, i, 0) …; all other slots are blank": the words of slot k
@@ -50,13 +51,13 @@ module _ (P k : ℕ) where
   bytes-of-free w h = rw (le-ltb k P h)
 
 -- all slots written
-pub words-formatted : (P S : ℕ) (words : List ℕ) → length words ≡ 5 * S → filled 5 (freshWords P) S words ≡ formattedWords P S
+pub words-formatted : (sizes : Sizes) (words : List ℕ) → length words ≡ 5 * sizes .slots → filled 5 (freshWords (sizes .pages)) (sizes .slots) words ≡ formattedWords sizes
 unfolding formattedWords freshWords
-words-formatted P S words e = filled-all 5 (freshWords P) words S e (length-freshWords P)
+words-formatted sizes words e = filled-all 5 (freshWords (sizes .pages)) words (sizes .slots) e (length-freshWords (sizes .pages))
 
-pub contents-formatted : (w P S : ℕ) (contents : List ℕ) → length contents ≡ w * S → filled w (freshBytes w P) S contents ≡ formattedContents w P S
+pub contents-formatted : (w : ℕ) (sizes : Sizes) (contents : List ℕ) → length contents ≡ w * (sizes .slots) → filled w (freshBytes w (sizes .pages)) (sizes .slots) contents ≡ formattedContents w sizes
 unfolding formattedContents freshBytes
-contents-formatted w P S contents e = filled-all w (freshBytes w P) contents S e (λ k. length-freshBytes P k w)
+contents-formatted w sizes contents e = filled-all w (freshBytes w (sizes .pages)) contents (sizes .slots) e (λ k. length-freshBytes (sizes .pages) k w)
 
 -- all pages of a state written, each as st says
 pub state-filled : (P : ℕ) (st : ℕ → PageState) (state : List ℕ) → length state ≡ 4 * P → filled 4 (λ p. pageWords (st p)) P state ≡ stateWords P st

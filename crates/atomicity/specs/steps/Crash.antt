@@ -7,6 +7,7 @@ use lib.Dec.{eqb}
 use borrow.Author.Tests.{eq-eqb, ne-eqb}
 use Rattle.bounded.specs.Choice.{on-eq, on-test}
 use Rattle.outcome.specs.Outcome.{Outcome}
+use Rattle.sizes.specs.declared.Sizes.{Sizes}
 use Rattle.record.specs.Flash.{Flash, Step, applyAll}
 use Rattle.record.specs.FlashLaws.{Sized}
 use Rattle.state.specs.State.{stateAt}
@@ -14,8 +15,8 @@ use Rattle.rules.specs.Volume.{Volume}
 use Rattle.rules.specs.Erase.{eraseSteps}
 use Rattle.rules.specs.Write.{writeStep, writeChange}
 use Rattle.rules.specs.laws.Outcomes.{write-done}
-use Rattle.protocol.specs.Shared.{commOf}
 use Rattle.rules.specs.laws.Accepted.{erase-tests}
+use Rattle.protocol.specs.Shared.{commOf}
 use Rattle.atomicity.specs.Call.{Call, perform, plannedStages, flashStages}
 use Rattle.atomicity.specs.Run.{doneOf, cutShort, wasDone}
 use Rattle.atomicity.specs.Model.{Told, Model, accept, closeAll, enter, learns}
@@ -26,13 +27,13 @@ use Rattle.atomicity.specs.steps.Blanking.{chosen, done-blanks, chosen-l
 use Rattle.atomicity.specs.steps.Erase.{Free, erasable-free, erased-sized, erased-core, erased-apart}
 use Rattle.atomicity.specs.steps.Calls.{accepted}
 
-module _ (w P S : ℕ) where
+module _ (w : ℕ) (sizes : Sizes) where
   -- what is left of a volume by a crash: its flash
   pub record Crashed (f : Flash) (m : Model) : Type 0 where
-    pub sized : Sized w S f
-    pub lost : Lost w P S f m
+    pub sized : Sized w (sizes .slots) f
+    pub lost : Lost w sizes f m
 
-  pub crash-known : (v : Volume) (m : Model) → Known w P S v m → Crashed (v .flash) (closeAll m)
+  pub crash-known : (v : Volume) (m : Model) → Known w sizes v m → Crashed (v .flash) (closeAll m)
   unfolding closeAll
   crash-known v m k = record { sized = k .fits .flash-sized; lost = record { comm = commOf (stateAt (v .state)); no-twins = k .live .no-twins; core = k .live .core; closed = refl } }
 
@@ -42,44 +43,44 @@ module _ (w P S : ℕ) where
 
   -- the flash after the steps done of a call
   abbrev pub crashFlash : Volume → Call → (stage : ℕ) (done : ℕ → Bool) → Flash
-  crashFlash v call stage done = applyAll w (v .flash) (cutShort stage done (flashStages w P S v call))
+  crashFlash v call stage done = applyAll w (v .flash) (cutShort stage done (flashStages w sizes v call))
 
   -- a call that has no stages leaves the flash as it was: one that is refused, and one that plans none
-  unstaged : (v : Volume) (call : Call) (stage : ℕ) (done : ℕ → Bool) → flashStages w P S v call ≡ [] → crashFlash v call stage done ≡ v .flash
+  unstaged : (v : Volume) (call : Call) (stage : ℕ) (done : ℕ → Bool) → flashStages w sizes v call ≡ [] → crashFlash v call stage done ≡ v .flash
   unfolding cutShort applyAll
   unstaged v call stage done e = rw e
 
-  refused-flash : (v : Volume) (call : Call) (stage : ℕ) (done : ℕ → Bool) → ¬ (answer-is w P S v call ≡ 0) → crashFlash v call stage done ≡ v .flash
-  refused-flash v call stage done n = unstaged v call stage done (refused-stages w P S v call n)
+  refused-flash : (v : Volume) (call : Call) (stage : ℕ) (done : ℕ → Bool) → ¬ (answer-is w sizes v call ≡ 0) → crashFlash v call stage done ≡ v .flash
+  refused-flash v call stage done n = unstaged v call stage done (refused-stages w sizes v call n)
 
   pub no-stages : (v : Volume) (call : Call) (stage : ℕ) (done : ℕ → Bool) → plannedStages v call ≡ [] → crashFlash v call stage done ≡ v .flash
   no-stages v call stage done e =
-      on-eq (answer-is w P S v call) 0
-      (λ a. unstaged v call stage done (accepted-stages w P S v call a ∙ e))
+      on-eq (answer-is w sizes v call) 0
+      (λ a. unstaged v call stage done (accepted-stages w sizes v call a ∙ e))
       (λ n. refused-flash v call stage done n)
 
   -- an accepted call with one stage: the steps of it that were done
   one-stage :
       (v : Volume) (call : Call) (stage : ℕ) (done : ℕ → Bool) (steps : List Step)
-      → answer-is w P S v call ≡ 0
+      → answer-is w sizes v call ≡ 0
       → plannedStages v call ≡ steps ∷ []
       → crashFlash v call stage done ≡ applyAll w (v .flash) (doneOf (wasDone stage done 0) 0 steps)
   one-stage v call stage done steps a e =
-      ap (λ (l : List (List Step)). applyAll w (v .flash) (cutShort stage done l)) (accepted-stages w P S v call a ∙ e)
+      ap (λ (l : List (List Step)). applyAll w (v .flash) (cutShort stage done l)) (accepted-stages w sizes v call a ∙ e)
       ∙ ap (applyAll w (v .flash)) (cut-one stage done steps)
 
   -- a crash that leaves the flash as it was, with every open ring closed
-  leaves-flash : (v : Volume) (m : Model) (f : Flash) → Known w P S v m → f ≡ v .flash → Crashed f (closeAll m)
+  leaves-flash : (v : Volume) (m : Model) (f : Flash) → Known w sizes v m → f ≡ v .flash → Crashed f (closeAll m)
   leaves-flash v m f k e = subst (λ (x : Flash). Crashed x (closeAll m)) (sym e) (crash-known v m k)
 
   -- a crashed erasure: any part of the listed slots is blanked
-  crash-erase : (v : Volume) (m : Model) (slots : List ℕ) (stage : ℕ) (done : ℕ → Bool) → Known w P S v m → Crashed (crashFlash v (Call.Erase slots) stage done) (closeAll m)
+  crash-erase : (v : Volume) (m : Model) (slots : List ℕ) (stage : ℕ) (done : ℕ → Bool) → Known w sizes v m → Crashed (crashFlash v (Call.Erase slots) stage done) (closeAll m)
   unfolding closeAll plannedStages eraseSteps answer-is
   crash-erase v m slots stage done k =
-      on-eq (answer-is w P S v (Call.Erase slots)) 0
-      (λ e. let all = erasable-free w P S v slots (erase-tests w P S v slots e) in
+      on-eq (answer-is w sizes v (Call.Erase slots)) 0
+      (λ e. let all = erasable-free w sizes v slots (erase-tests w sizes v slots e) in
       let part : List ℕ = chosen (wasDone stage done 0) 0 slots in
-      let free : Free S v part = record {
+      let free : Free (sizes .slots) v part = record {
         inside = λ i l. all .inside i (chosen-listed (wasDone stage done 0) 0 slots i l);
         allowed = λ i l. all .allowed i (chosen-listed (wasDone stage done 0) 0 slots i l);
       } in
@@ -87,11 +88,11 @@ module _ (w P S : ℕ) where
       one-stage v (Call.Erase slots) stage done (eraseSteps slots) e refl ∙ ap (applyAll w (v .flash)) (done-blanks (wasDone stage done 0) 0 slots) in
       subst (λ (x : Flash). Crashed x (closeAll m)) (sym is)
       (record {
-        sized = erased-sized w P S v m (k .fits .flash-sized) part free;
+        sized = erased-sized w sizes v m (k .fits .flash-sized) part free;
         lost = record {
           comm = commOf (stateAt (v .state));
-          no-twins = erased-apart w P S v m (k .fits .flash-sized) part free (k .live);
-          core = erased-core w P S v m (k .fits .flash-sized) part free (k .live);
+          no-twins = erased-apart w sizes v m (k .fits .flash-sized) part free (k .live);
+          core = erased-core w sizes v m (k .fits .flash-sized) part free (k .live);
           closed = refl;
         };
       }))
@@ -100,22 +101,22 @@ module _ (w P S : ℕ) where
   -- a crashed write: its slot is stored whole, or left as it was
   crash-write :
       (v : Volume) (m : Model) (page slot : ℕ) (bytes : List ℕ) (stage : ℕ) (done : ℕ → Bool)
-      → Known w P S v m
-      → Crashed (crashFlash v (Call.Write page slot bytes) stage done) (learns m (Told.CrashedWrite page bytes (eqb (perform w P S v (Call.Write page slot bytes) .answer) 0 && wasDone stage done 0 0)))
+      → Known w sizes v m
+      → Crashed (crashFlash v (Call.Write page slot bytes) stage done) (learns m (Told.CrashedWrite page bytes (eqb (perform w sizes v (Call.Write page slot bytes) .answer) 0 && wasDone stage done 0 0)))
   unfolding learns answer-is plannedStages doneOf applyAll perform writeChange accept
   crash-write v m page slot bytes stage done k =
-      on-eq (answer-is w P S v call) 0
-      (λ e. let t = eq-eqb (perform w P S v call .answer) 0 (performs w P S v call ∙ e) in
+      on-eq (answer-is w sizes v call) 0
+      (λ e. let t = eq-eqb (perform w sizes v call .answer) 0 (performs w sizes v call ∙ e) in
       let steps = one-stage v call stage done (writeStep (stateAt (v .state)) page slot bytes ∷ []) e refl in
       on-test (wasDone stage done 0 0)
       (λ d. let q : stored ≡ true = rw (t, d) in
-      let is : crashed ≡ perform w P S v call .left .flash = steps ∙ rw d (sym (ap (λ (o : Outcome Volume). o .left .flash) (write-done w P S v page slot bytes e))) in
+      let is : crashed ≡ perform w sizes v call .left .flash = steps ∙ rw d (sym (ap (λ (o : Outcome Volume). o .left .flash) (write-done w sizes v page slot bytes e))) in
       told-of q (subst (λ (x : Flash). Crashed x (closeAll (enter page bytes (m .kept) (m .rings)))) (sym is)
-      (crash-known (perform w P S v call .left) (enter page bytes (m .kept) (m .rings)) (accepted w P S v m k call e))))
+      (crash-known (perform w sizes v call .left) (enter page bytes (m .kept) (m .rings)) (accepted w sizes v m k call e))))
       (λ d. let q : stored ≡ false = rw (t, d) in
       let is : crashed ≡ v .flash = steps ∙ rw d in
       told-of q (leaves-flash v m crashed k is)))
-      (λ n. let q : stored ≡ false = rw (ne-eqb (perform w P S v call .answer) 0 (λ e. n (sym (performs w P S v call) ∙ e))) in
+      (λ n. let q : stored ≡ false = rw (ne-eqb (perform w sizes v call .answer) 0 (λ e. n (sym (performs w sizes v call) ∙ e))) in
       told-of q (leaves-flash v m crashed k (refused-flash v call stage done n)))
     where
       call : Call
@@ -125,12 +126,12 @@ module _ (w P S : ℕ) where
       crashed = crashFlash v call stage done
 
       stored : Bool
-      stored = eqb (perform w P S v call .answer) 0 && wasDone stage done 0 0
+      stored = eqb (perform w sizes v call .answer) 0 && wasDone stage done 0 0
 
       told-of : {b : Bool} → stored ≡ b → Crashed crashed (closeAll (cond b (enter page bytes (m .kept) (m .rings)) m)) → Crashed crashed (closeAll (cond stored (enter page bytes (m .kept) (m .rings)) m))
       told-of q c = subst (λ (b : Bool). Crashed crashed (closeAll (cond b (enter page bytes (m .kept) (m .rings)) m))) (sym q) c
 
-  pub crash-in : (v : Volume) (m : Model) (call : Call) (stage : ℕ) (done : ℕ → Bool) → Known w P S v m → Crashed (crashFlash v call stage done) (learns m (toldOfCrash call (perform w P S v call .answer) stage done))
+  pub crash-in : (v : Volume) (m : Model) (call : Call) (stage : ℕ) (done : ℕ → Bool) → Known w sizes v m → Crashed (crashFlash v call stage done) (learns m (toldOfCrash call (perform w sizes v call .answer) stage done))
   unfolding learns toldOfCrash plannedStages
   crash-in v m (Call.Launch pages) stage done k = leaves-flash v m (crashFlash v (Call.Launch pages) stage done) k (no-stages v (Call.Launch pages) stage done refl)
   crash-in v m (Call.Write page slot bytes) stage done k = crash-write v m page slot bytes stage done k

@@ -3,19 +3,20 @@ use Prim.Native.Nat.{ℕ, _<_}
 use mathlib.Core.Path.{_≡_, subst}
 use mathlib.Core.List.{List, map, List·Memᴰ}
 use mathlib.Core.Bool.{true}
+use Rattle.sizes.specs.declared.Sizes.{Sizes}
+use Rattle.sizes.specs.Lists.{list-facts}
 use Rattle.record.specs.Slot.{slotAt}
 use Rattle.record.specs.Flash.{Flash, Step, applyAll}
 use Rattle.record.specs.FlashLaws.{Sized, blanks-sized}
 use Rattle.state.specs.State.{stateAt}
 use Rattle.rules.specs.Volume.{Volume}
-use Rattle.rules.specs.laws.Lists.{list-facts}
 use Rattle.rules.specs.Permission.{mayErase}
 use Rattle.rules.specs.laws.Permission.{may-erase-all}
+use Rattle.rules.specs.laws.Accepted.{EraseTests}
 use Rattle.protocol.specs.View.{NoTwins}
 use Rattle.protocol.specs.Shared.{commOf}
 use Rattle.protocol.specs.BackPointer.{Core}
 use Rattle.protocol.specs.Fewer.{core-fewer, live-erased}
-use Rattle.rules.specs.laws.Accepted.{EraseTests}
 use Rattle.atomicity.specs.Model.{Model}
 use Rattle.atomicity.specs.steps.Invariant.{Held, Live}
 use Rattle.atomicity.specs.steps.Blanking.{member-at, blanking-apart, blanking-erases}
@@ -25,35 +26,35 @@ pub record Free (S : ℕ) (v : Volume) (slots : List ℕ) : Type 0 where
   pub inside : (k : ℕ) → List·Memᴰ k slots → k < S
   pub allowed : (k : ℕ) → List·Memᴰ k slots → mayErase S (slotAt (v .flash .words)) (stateAt (v .state)) k ≡ true
 
-pub erasable-free : (w P S : ℕ) (v : Volume) (slots : List ℕ) → EraseTests w P S v slots → Free S v slots
-erasable-free w P S v slots e =
+pub erasable-free : (w : ℕ) (sizes : Sizes) (v : Volume) (slots : List ℕ) → EraseTests w sizes v slots → Free (sizes .slots) v slots
+erasable-free w sizes v slots e =
     record {
-      inside = λ k m. let i = member-at slots k m in subst (λ (x : ℕ). x < S) (i .2) (list-facts S slots (e .listed) .in-range (i .0) (i .1));
+      inside = λ k m. let i = member-at slots k m in subst (λ (x : ℕ). x < (sizes .slots)) (i .2) (list-facts (sizes .slots) slots (e .listed) .in-range (i .0) (i .1));
       allowed = λ k m. let i = member-at slots k m in
-          subst (λ (x : ℕ). mayErase S (slotAt (v .flash .words)) (stateAt (v .state)) x ≡ true) (i .2)
-          (may-erase-all S (slotAt (v .flash .words)) (stateAt (v .state)) slots .0 (e .permitted) (i .0) (i .1));
+          subst (λ (x : ℕ). mayErase (sizes .slots) (slotAt (v .flash .words)) (stateAt (v .state)) x ≡ true) (i .2)
+          (may-erase-all (sizes .slots) (slotAt (v .flash .words)) (stateAt (v .state)) slots .0 (e .permitted) (i .0) (i .1));
     }
 
-module _ (w P S : ℕ) (v : Volume) (m : Model) (size : Sized w S (v .flash)) (slots : List ℕ) (free : Free S v slots) where
+module _ (w : ℕ) (sizes : Sizes) (v : Volume) (m : Model) (size : Sized w (sizes .slots) (v .flash)) (slots : List ℕ) (free : Free (sizes .slots) v slots) where
   abbrev blanked : Flash
   blanked = applyAll w (v .flash) (map Step.Blank slots)
 
-  pub erased-sized : Sized w S blanked
-  erased-sized = blanks-sized w S slots (v .flash) size (free .inside)
+  pub erased-sized : Sized w (sizes .slots) blanked
+  erased-sized = blanks-sized w (sizes .slots) slots (v .flash) size (free .inside)
 
-  module _ (l : Live w P S (v .flash) (stateAt (v .state)) m) where
-    pub erased-core : Core (Held w S blanked) (commOf (stateAt (v .state))) P (m .kept)
-    erased-core = core-fewer (blanking-erases w S (v .flash) size slots (free .inside) (stateAt (v .state)) (free .allowed)) (l .core)
+  module _ (l : Live w sizes (v .flash) (stateAt (v .state)) m) where
+    pub erased-core : Core (Held w (sizes .slots) blanked) (commOf (stateAt (v .state))) (sizes .pages) (m .kept)
+    erased-core = core-fewer (blanking-erases w (sizes .slots) (v .flash) size slots (free .inside) (stateAt (v .state)) (free .allowed)) (l .core)
 
-    pub erased-apart : NoTwins S (slotAt (blanked .words))
-    erased-apart = blanking-apart w S (v .flash) size slots (free .inside) (l .no-twins)
+    pub erased-apart : NoTwins (sizes .slots) (slotAt (blanked .words))
+    erased-apart = blanking-apart w (sizes .slots) (v .flash) size slots (free .inside) (l .no-twins)
 
-    pub erased-live : Live w P S blanked (stateAt (v .state)) m
+    pub erased-live : Live w sizes blanked (stateAt (v .state)) m
     erased-live =
         record {
           sound = l .sound;
           no-twins = erased-apart;
           core = erased-core;
-          live = live-erased (blanking-erases w S (v .flash) size slots (free .inside) (stateAt (v .state)) (free .allowed)) (l .core) (l .sound) (l .live);
+          live = live-erased (blanking-erases w (sizes .slots) (v .flash) size slots (free .inside) (stateAt (v .state)) (free .allowed)) (l .core) (l .sound) (l .live);
           rings = l .rings;
         }

@@ -10,6 +10,8 @@ use lib.ListN.{replicate, length-replicate}
 use borrow.Author.Tests.{lt-ltb, le-ltb}
 use Rattle.bounded.specs.Choice.{on-lt, never}
 use Rattle.bounded.specs.PartsLaws.{part-joinParts, length-joinParts}
+use Rattle.sizes.specs.declared.Sizes.{Sizes}
+use Rattle.sizes.specs.SizesLaws.{SizesFacts}
 use Rattle.record.specs.declared.Record.{Record}
 use Rattle.record.specs.declared.Slot.the-variants.{Blank, Holds}
 use Rattle.record.specs.Slot.{wordsOf, slotOf, slotAt, bytesAt, formattedRecord, blankRecord, recordSound}
@@ -20,7 +22,7 @@ use Rattle.state.specs.State.{stateAt, inFlight}
 use Rattle.state.specs.StateLaws.{StateFacts, length-stateWords}
 use Rattle.state.specs.Change.{atRest, freshState}
 use Rattle.table.specs.TableLaws.{blank-holds}
-use Rattle.rules.specs.laws.Sizes.{Sizes, Fits}
+use Rattle.rules.specs.laws.Volume.{Fits}
 use Rattle.rules.specs.Format.{formattedWords, formattedContents, formatted}
 use Rattle.protocol.specs.View.{NoTwins, recordView}
 use Rattle.protocol.specs.Shared.{SharedLive, commOf}
@@ -31,43 +33,43 @@ use Rattle.atomicity.specs.rings.Close.{no-rings-match}
 use Rattle.atomicity.specs.steps.Invariant.{Held, Live}
 use Rattle.atomicity.specs.steps.StateWords.{live-words}
 
-module _ (w P S : ℕ) (sizes : Sizes P S) where
+module _ (w : ℕ) (sizes : Sizes) (bounds : SizesFacts (sizes .pages) (sizes .slots)) where
   abbrev words : List ℕ
-  words = formattedWords P S
+  words = formattedWords sizes
 
   abbrev contents : List ℕ
-  contents = formattedContents w P S
+  contents = formattedContents w sizes
 
   -- what slot k is given
   recordFor : ℕ → Record
-  recordFor k = cond (ltb k P) (formattedRecord k) blankRecord
+  recordFor k = cond (ltb k (sizes .pages)) (formattedRecord k) blankRecord
 
-  slot-is : (k : ℕ) → k < S → slotAt words k ≡ slotOf (wordsOf (recordFor k))
+  slot-is : (k : ℕ) → k < (sizes .slots) → slotAt words k ≡ slotOf (wordsOf (recordFor k))
   unfolding slotAt formattedWords recordFor
-  slot-is k h = ap slotOf (part-joinParts 5 S k (λ k. wordsOf (recordFor k)) (λ j. words-length (recordFor j)) h)
+  slot-is k h = ap slotOf (part-joinParts 5 (sizes .slots) k (λ k. wordsOf (recordFor k)) (λ j. words-length (recordFor j)) h)
 
-  slot-of-page : (k : ℕ) → k < S → k < P → slotAt words k ≡ Holds (formattedRecord k)
+  slot-of-page : (k : ℕ) → k < (sizes .slots) → k < (sizes .pages) → slotAt words k ≡ Holds (formattedRecord k)
   unfolding recordFor formattedRecord
-  slot-of-page k h l = slot-is k h ∙ rw (lt-ltb k P l) (slot-of-words (formattedRecord k) (omega arith))
+  slot-of-page k h l = slot-is k h ∙ rw (lt-ltb k (sizes .pages) l) (slot-of-words (formattedRecord k) (omega arith))
 
-  slot-beyond : (k : ℕ) → k < S → P ≤ k → slotAt words k ≡ Blank
+  slot-beyond : (k : ℕ) → k < (sizes .slots) → (sizes .pages) ≤ k → slotAt words k ≡ Blank
   unfolding recordFor
-  slot-beyond k h l = slot-is k h ∙ rw (le-ltb k P l) slot-of-blank
+  slot-beyond k h l = slot-is k h ∙ rw (le-ltb k (sizes .pages) l) slot-of-blank
 
-  bytes-of-page : (k : ℕ) → k < S → k < P → bytesAt w contents k ≡ replicate w 0
+  bytes-of-page : (k : ℕ) → k < (sizes .slots) → k < (sizes .pages) → bytesAt w contents k ≡ replicate w 0
   unfolding bytesAt formattedContents
   bytes-of-page k h l =
-      part-joinParts w S k (λ k. replicate w (cond (ltb k P) 0 255)) (λ j. length-replicate w (cond (ltb j P) 0 255)) h
-      ∙ ap (λ (b : Bool). replicate w (cond b 0 255)) (lt-ltb k P l)
+      part-joinParts w (sizes .slots) k (λ k. replicate w (cond (ltb k (sizes .pages)) 0 255)) (λ j. length-replicate w (cond (ltb j (sizes .pages)) 0 255)) h
+      ∙ ap (λ (b : Bool). replicate w (cond b 0 255)) (lt-ltb k (sizes .pages) l)
 
   -- a record stands in the slot of its page, and is the formatted one
   record Given (k : ℕ) (r : Record) : Type 0 where
-    below : k < P
+    below : k < (sizes .pages)
     is : r ≡ formattedRecord k
 
-  given : (k : ℕ) (r : Record) → k < S → slotAt words k ≡ Holds r → Given k r
+  given : (k : ℕ) (r : Record) → k < (sizes .slots) → slotAt words k ≡ Holds r → Given k r
   given k r h e =
-      on-lt k P
+      on-lt k (sizes .pages)
       (λ l. record { below = l; is = (let f = slot-of-page k h l in cc) })
       (λ l. absurd (blank-holds (slot-beyond k h l) e))
 
@@ -77,20 +79,20 @@ module _ (w P S : ℕ) (sizes : Sizes P S) where
       let e = g .is in
       (ap (λ (x : Record). x .p) e, ap (λ (x : Record). x .v) e, ap (λ (x : Record). x .c) e, ap (λ (x : Record). x .np) e, ap (λ (x : Record). x .nv) e)
 
-  formatted-sized : Sized w S (formatted w P S .flash)
+  formatted-sized : Sized w (sizes .slots) (formatted w sizes .flash)
   unfolding formatted formattedWords formattedContents
   formatted-sized =
       record {
-        words-sized = length-joinParts 5 S (λ k. wordsOf (cond (ltb k P) (formattedRecord k) blankRecord)) (λ j. words-length (cond (ltb j P) (formattedRecord j) blankRecord));
-        contents-sized = length-joinParts w S (λ k. replicate w (cond (ltb k P) 0 255)) (λ j. length-replicate w (cond (ltb j P) 0 255));
+        words-sized = length-joinParts 5 (sizes .slots) (λ k. wordsOf (cond (ltb k (sizes .pages)) (formattedRecord k) blankRecord)) (λ j. words-length (cond (ltb j (sizes .pages)) (formattedRecord j) blankRecord));
+        contents-sized = length-joinParts w (sizes .slots) (λ k. replicate w (cond (ltb k (sizes .pages)) 0 255)) (λ j. length-replicate w (cond (ltb j (sizes .pages)) 0 255));
       }
 
-  pub formatted-fits : Fits w P S (formatted w P S)
+  pub formatted-fits : Fits w sizes (formatted w sizes)
   unfolding formatted
-  formatted-fits = record { sizes = sizes; flash-sized = formatted-sized; state-sized = length-stateWords P freshState }
+  formatted-fits = record { bounds = bounds; flash-sized = formatted-sized; state-sized = length-stateWords (sizes .pages) freshState }
 
   -- every record's version and link version is 0
-  versions : (r : Record) (b : List ℕ) → Held w S (record { words = words; contents = contents }) r b → (r .p < P) × (r .v ≡ 0) × (r .c ≡ 0) × (r .np ≡ r .p) × (r .nv ≡ 0)
+  versions : (r : Record) (b : List ℕ) → Held w (sizes .slots) (record { words = words; contents = contents }) r b → (r .p < (sizes .pages)) × (r .v ≡ 0) × (r .c ≡ 0) × (r .np ≡ r .p) × (r .nv ≡ 0)
   versions r b h =
       let g = given (h .0) r (h .1) (h .2) in
       let i = page-is (h .0) r g in
@@ -106,7 +108,7 @@ module _ (w P S : ℕ) (sizes : Sizes P S) where
   unfolding freshState atRest
   fresh-versions p = (refl, refl)
 
-  fresh-facts : StateFacts P freshState
+  fresh-facts : StateFacts (sizes .pages) freshState
   unfolding freshState atRest inFlight
   fresh-facts =
       record {
@@ -125,16 +127,16 @@ module _ (w P S : ℕ) (sizes : Sizes P S) where
   abbrev flash : Flash
   flash = record { words = words; contents = contents }
 
-  start-apart : NoTwins S (slotAt words)
+  start-apart : NoTwins (sizes .slots) (slotAt words)
   start-apart =
       λ j k a b lj lk ea eb p v. let i = page-is j a (given j a lj ea) .0 in let u = page-is k b (given k b lk eb) .0 in omega arith
 
-  start-core : Core (Held w S flash) (commOf freshState) P (freshModel w .kept)
+  start-core : Core (Held w (sizes .slots) flash) (commOf freshState) (sizes .pages) (freshModel w .kept)
   unfolding freshModel recordSound formattedRecord
   start-core =
       record {
         shared = record {
-          all-sound = λ r b h. let v = versions r b h in sound-test P r (record {
+          all-sound = λ r b h. let v = versions r b h in sound-test (sizes .pages) r (record {
             page-below = v .0;
             next-below = (let l = v .0 in let e = v .3 in omega arith);
             v-most = (let e = v .1 in omega arith);
@@ -148,7 +150,7 @@ module _ (w P S : ℕ) (sizes : Sizes P S) where
               let u = given (i .0) s (i .1) (i .2) in
               let k : h .0 ≡ i .0 = sym (page-is (h .0) r g .0) ∙ p ∙ page-is (i .0) s u .0 in
               (g .is ∙ ap formattedRecord k ∙ sym (u .is), sym (h .3) ∙ ap (bytesAt w contents) k ∙ i .3);
-          committed-kept = λ p l. let s = sizes .slots-least in
+          committed-kept = λ p l. let s = bounds .slots-least in
               (formattedRecord p, (p, omega arith, slot-of-page p (omega arith) l, bytes-of-page p (omega arith) l), (refl, sym (fresh-versions p .0)));
           committed-link = λ r b h e. let v = versions r b h .4 in omega arith;
           links-apart = λ r s b d h i e g p n. let v = versions r b h .3 in let u = versions s d i .3 in omega arith;
@@ -161,7 +163,7 @@ module _ (w P S : ℕ) (sizes : Sizes P S) where
         };
       }
 
-  start-live : SharedLive recordView P (Held w S flash) freshState (IsEntered [])
+  start-live : SharedLive recordView (sizes .pages) (Held w (sizes .slots) flash) freshState (IsEntered [])
   start-live =
       record {
         within-used = record {
@@ -170,11 +172,10 @@ module _ (w P S : ℕ) (sizes : Sizes P S) where
         };
         written-stored = λ p h y. absurd (never y (fresh-rests p));
         unwritten-absent = λ p h y. absurd (never y (fresh-rests p));
-        unwritten-not-entered = λ p h y. absurd (never y (fresh-rests p));
         link-planned = λ p h y. absurd (never y (fresh-rests p));
       }
 
-  start : Live w P S flash freshState (freshModel w)
+  start : Live w sizes flash freshState (freshModel w)
   unfolding freshModel
   start =
       record {
@@ -182,10 +183,10 @@ module _ (w P S : ℕ) (sizes : Sizes P S) where
         no-twins = start-apart;
         core = start-core;
         live = start-live;
-        rings = no-rings-match P freshState (λ p h. fresh-rests p);
+        rings = no-rings-match (sizes .pages) freshState (λ p h. fresh-rests p);
       }
 
   -- the volume that an accepted format leaves
-  pub formatted-live : Live w P S (formatted w P S .flash) (stateAt (formatted w P S .state)) (freshModel w)
+  pub formatted-live : Live w sizes (formatted w sizes .flash) (stateAt (formatted w sizes .state)) (freshModel w)
   unfolding formatted
-  formatted-live = live-words w P S flash freshState (freshModel w) start
+  formatted-live = live-words w sizes flash freshState (freshModel w) start

@@ -3,6 +3,7 @@ use Prim.Native.Nat.{ℕ}
 use mathlib.Core.Path.{_≡_}
 use mathlib.Core.List.{List, []}
 use mathlib.Core.Bool.{true, false}
+use Rattle.sizes.specs.declared.Sizes.{Sizes}
 use Rattle.record.specs.declared.Record.{Record}
 use Rattle.record.specs.Slot.{slotAt, bytesAt}
 use Rattle.record.specs.Flash.{Flash}
@@ -10,7 +11,7 @@ use Rattle.state.specs.declared.PageState.{PageState}
 use Rattle.state.specs.State.{stateAt}
 use Rattle.state.specs.StateLaws.{StateFacts}
 use Rattle.rules.specs.Volume.{Volume}
-use Rattle.rules.specs.laws.Sizes.{Fits}
+use Rattle.rules.specs.laws.Volume.{Fits}
 use Rattle.protocol.specs.View.{InSlots, NoTwins, recordView}
 use Rattle.protocol.specs.Shared.{SharedLive, commOf}
 use Rattle.protocol.specs.BackPointer.{Core}
@@ -22,28 +23,28 @@ use Rattle.atomicity.specs.rings.Match.{IsEntered, RingsMatch}
 abbrev pub Held : (w S : ℕ) → Flash → Record → List ℕ → Type 0
 Held w S f = InSlots S (slotAt (f .words)) (bytesAt w (f .contents))
 
-module _ (w P S : ℕ) where
+module _ (w : ℕ) (sizes : Sizes) where
   -- The state st is known: it is sound, its committed versions are those of the records, and its flights are the model's open rings.
   pub record Live (f : Flash) (st : ℕ → PageState) (m : Model) : Type 0 where
-    pub sound : StateFacts P st
-    pub no-twins : NoTwins S (slotAt (f .words))
-    pub core : Core (Held w S f) (commOf st) P (m .kept)
-    pub live : SharedLive recordView P (Held w S f) st (IsEntered (m .rings))
-    pub rings : RingsMatch P st (m .rings)
+    pub sound : StateFacts (sizes .pages) st
+    pub no-twins : NoTwins (sizes .slots) (slotAt (f .words))
+    pub core : Core (Held w (sizes .slots) f) (commOf st) (sizes .pages) (m .kept)
+    pub live : SharedLive recordView (sizes .pages) (Held w (sizes .slots) f) st (IsEntered (m .rings))
+    pub rings : RingsMatch (sizes .pages) st (m .rings)
 
   -- The state is lost: some committed versions are those of the records, and the model has no open ring.
   pub record Lost (f : Flash) (m : Model) : Type 0 where
     pub comm : ℕ → ℕ
-    pub no-twins : NoTwins S (slotAt (f .words))
-    pub core : Core (Held w S f) comm P (m .kept)
+    pub no-twins : NoTwins (sizes .slots) (slotAt (f .words))
+    pub core : Core (Held w (sizes .slots) f) comm (sizes .pages) (m .kept)
     pub closed : m .rings ≡ []
 
   -- the invariant of a volume whose state is known
   pub record Known (v : Volume) (m : Model) : Type 0 where
-    pub fits : Fits w P S v
+    pub fits : Fits w sizes v
     pub live : Live (v .flash) (stateAt (v .state)) m
 
   -- the invariant of a run
   pub data Holding (x : World) (m : Model) : Type 0 where
-    known : x .lost ≡ false → Fits w P S (x .volume) → Live (x .volume .flash) (stateAt (x .volume .state)) m → Holding x m
-    unknown : x .lost ≡ true → Fits w P S (x .volume) → Lost (x .volume .flash) m → Holding x m
+    known : x .lost ≡ false → Fits w sizes (x .volume) → Live (x .volume .flash) (stateAt (x .volume .state)) m → Holding x m
+    unknown : x .lost ≡ true → Fits w sizes (x .volume) → Lost (x .volume .flash) m → Holding x m

@@ -9,9 +9,11 @@ use lib.Dec.{ltb, leb, eqb}
 use lib.ListN.{length, getD}
 use borrow.Author.Tests.{ltb-true, leb-true, eqb-false, not-true}
 use Rattle.bounded.specs.Limits.{noNumber, highestVersion}
-use Rattle.bounded.specs.Choice.{never, both-left, both-right}
+use Rattle.bounded.specs.Choice.{both-left, both-right}
 use Rattle.bounded.specs.Below.{allBelow}
 use Rattle.bounded.specs.BelowLaws.{all-at, some-not-at}
+use Rattle.sizes.specs.declared.Sizes.{Sizes}
+use Rattle.sizes.specs.Sizes.{noRepeats, inRange, listOk}
 use Rattle.record.specs.Flash.{Flash}
 use Rattle.state.specs.declared.PageState.{PageState}
 use Rattle.state.specs.State.{inFlight, isWritten}
@@ -19,14 +21,12 @@ use Rattle.state.specs.StateLaws.{StateFacts}
 use Rattle.state.specs.Change.{following, launchedPage, launched}
 use Rattle.state.specs.Walk.{Launchable}
 use Rattle.state.specs.LaunchLaws.{launched-sound}
-use Rattle.rules.specs.Volume.{noRepeats, inRange, listOk}
 use Rattle.rules.specs.Launch.{somePage, usedUp}
 use Rattle.protocol.specs.View.{recordView}
 use Rattle.protocol.specs.SameSet.{core-same, StateChanges, live-changes}
 use Rattle.atomicity.specs.Call.{Call}
 use Rattle.atomicity.specs.Model.{Model, newRing, accept}
 use Rattle.atomicity.specs.rings.Match.{IsEntered}
-use Rattle.atomicity.specs.rings.Cycle.{entered-flies}
 use Rattle.atomicity.specs.rings.Launch.{launched-listed, launched-cases, launched-flying, launch-match, launch-entered}
 use Rattle.atomicity.specs.steps.Invariant.{Live}
 
@@ -68,51 +68,49 @@ listed-launchable P st pages sound ok rest left = record {
 
 -- ---- the step
 
-module _ (w P S : ℕ) (fits : P ≤ noNumber) (f : Flash) (st : ℕ → PageState) (m : Model) (l : Live w P S f st m)
-    (pages : List ℕ) (some : 1 ≤ length pages) (ok : Launchable P st pages) where
+module _ (w : ℕ) (sizes : Sizes) (fits : (sizes .pages) ≤ noNumber) (f : Flash) (st : ℕ → PageState) (m : Model) (l : Live w sizes f st m)
+    (pages : List ℕ) (some : 1 ≤ length pages) (ok : Launchable (sizes .pages) st pages) where
   -- a listed page's state is the launched one
   listed-is : (p i : ℕ) → i < length pages → getD pages i 0 ≡ p → launched pages st p ≡ launchedPage (st p) (following pages i)
-  listed-is p i h e = subst (λ (q : ℕ). launched pages st q ≡ launchedPage (st q) (following pages i)) e (launched-listed P st pages ok i h)
+  listed-is p i h e = subst (λ (q : ℕ). launched pages st q ≡ launchedPage (st q) (following pages i)) e (launched-listed (sizes .pages) st pages ok i h)
 
-  same-comm : (p : ℕ) → p < P → st p .committed ≡ launched pages st p .committed
+  same-comm : (p : ℕ) → p < (sizes .pages) → st p .committed ≡ launched pages st p .committed
   unfolding launchedPage
   same-comm p h =
-      launched-cases P st pages ok p
+      launched-cases (sizes .pages) st pages ok p
       (λ i b e r. sym (ap (λ (s : PageState). s .committed) (listed-is p i b e)))
       (λ e. sym (ap (λ (s : PageState). s .committed) e))
 
-  changes : StateChanges P st (launched pages st) (IsEntered (m .rings)) (IsEntered (m .rings ++ newRing pages ∷ []))
+  changes : StateChanges (sizes .pages) st (launched pages st) (IsEntered (m .rings)) (IsEntered (m .rings ++ newRing pages ∷ []))
   unfolding launchedPage isWritten
   changes =
       record {
         used-rises = λ p h.
-            launched-cases P st pages ok p
+            launched-cases (sizes .pages) st pages ok p
             (λ i b e r. let q = ap (λ (s : PageState). s .used) (listed-is p i b e) in omega arith)
             (λ e. let q = ap (λ (s : PageState). s .used) e in omega arith);
         flights = λ p h y.
-            launched-cases P st pages ok p
+            launched-cases (sizes .pages) st pages ok p
             (λ i b e r. inl (record {
               fresh = (let q = ap (λ (s : PageState). s .used) (listed-is p i b e) in omega arith);
               not-written = ap isWritten (listed-is p i b e);
-              none-entered = λ d n. never (entered-flies P st (m .rings) (l .rings) p d (launch-entered pages (m .rings) p d .0 n) .flies) r;
             }))
             (λ e. let z : inFlight (st p) ≡ true = ap inFlight (sym e) ∙ y in
             inr (record {
               unchanged = e;
-              next-used = ap (λ (s : PageState). s .used) (launched-flying P st pages ok (st p .next) (l .sound .page p h .next-flies z));
-              before = λ q i g n. launched-flying P st pages ok q g;
+              next-used = ap (λ (s : PageState). s .used) (launched-flying (sizes .pages) st pages ok (st p .next) (l .sound .page p h .next-flies z));
+              before = λ q i g n. launched-flying (sizes .pages) st pages ok q g;
               entered = λ d n. launch-entered pages (m .rings) p d .1 n;
-              entered-before = λ d n. launch-entered pages (m .rings) p d .0 n;
             }));
       }
 
-  pub launched-live : Live w P S f (launched pages st) (accept m (Call.Launch pages))
+  pub launched-live : Live w sizes f (launched pages st) (accept m (Call.Launch pages))
   unfolding accept
   launched-live =
       record {
-        sound = launched-sound P fits st (l .sound) pages ok;
+        sound = launched-sound (sizes .pages) fits st (l .sound) pages ok;
         no-twins = l .no-twins;
         core = core-same (record { forth = λ r b h. h; back = λ r b h. h; same-comm = same-comm; same-kept = λ p h. refl }) (l .core);
         live = live-changes recordView changes (l .core .shared .all-sound) (l .live);
-        rings = launch-match P st pages ok some fits (m .rings) (l .rings);
+        rings = launch-match (sizes .pages) st pages ok some fits (m .rings) (l .rings);
       }

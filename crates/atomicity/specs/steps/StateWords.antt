@@ -4,6 +4,7 @@ use native.Mathlib.Omega.{arith}
 use mathlib.Core.Path.{_≡_, refl, sym, ap, _∙_}
 use mathlib.Core.List.{List}
 use mathlib.Core.Logic.{inr}
+use Rattle.sizes.specs.declared.Sizes.{Sizes}
 use Rattle.record.specs.Flash.{Flash}
 use Rattle.state.specs.declared.PageState.{PageState}
 use Rattle.state.specs.State.{stateAt, stateWords, inFlight}
@@ -15,8 +16,8 @@ use Rattle.atomicity.specs.rings.Match.{IsEntered}
 use Rattle.atomicity.specs.rings.Cycle.{rings-match-cong}
 use Rattle.atomicity.specs.steps.Invariant.{Live}
 
-module _ (P : ℕ) (st st′ : ℕ → PageState) (same : (p : ℕ) → p < P → st′ p ≡ st p) where
-  goes-on : StateFacts P st → (E : ℕ → List ℕ → Type 0) → StateChanges P st st′ E E
+module _ (sizes : Sizes) (st st′ : ℕ → PageState) (same : (p : ℕ) → p < (sizes .pages) → st′ p ≡ st p) where
+  goes-on : StateFacts (sizes .pages) st → (E : ℕ → List ℕ → Type 0) → StateChanges (sizes .pages) st st′ E E
   goes-on s E =
       record {
         used-rises = λ p h. let e = ap (λ (x : PageState). x .used) (same p h) in omega arith;
@@ -27,20 +28,19 @@ module _ (P : ℕ) (st st′ : ℕ → PageState) (same : (p : ℕ) → p < P �
               next-used = ap (λ (x : PageState). x .used) (same (st p .next) (s .page p h .next-below f));
               before = λ q i z e. same q i;
               entered = λ b e. e;
-              entered-before = λ b e. e;
             });
       }
 
-  live-below : (w S : ℕ) (f : Flash) (m : Model) → Live w P S f st m → Live w P S f st′ m
-  live-below w S f m l =
+  live-below : (w : ℕ) (f : Flash) (m : Model) → Live w sizes f st m → Live w sizes f st′ m
+  live-below w f m l =
       record {
-        sound = facts-cong P st st′ (λ p h. sym (same p h)) (l .sound);
+        sound = facts-cong (sizes .pages) st st′ (λ p h. sym (same p h)) (l .sound);
         no-twins = l .no-twins;
         core = core-same (record { forth = λ r b h. h; back = λ r b h. h; same-comm = λ p h. sym (ap (λ (x : PageState). x .committed) (same p h)); same-kept = λ p h. refl }) (l .core);
         live = live-changes recordView (goes-on (l .sound) (IsEntered (m .rings))) (l .core .shared .all-sound) (l .live);
-        rings = rings-match-cong P st (m .rings) (l .rings) st′ same;
+        rings = rings-match-cong (sizes .pages) st (m .rings) (l .rings) st′ same;
       }
 
 -- the state that the words of st say
-pub live-words : (w P S : ℕ) (f : Flash) (st : ℕ → PageState) (m : Model) → Live w P S f st m → Live w P S f (stateAt (stateWords P st)) m
-live-words w P S f st m l = live-below P st (stateAt (stateWords P st)) (λ p h. stateAt-words P st p h) w S f m l
+pub live-words : (w : ℕ) (sizes : Sizes) (f : Flash) (st : ℕ → PageState) (m : Model) → Live w sizes f st m → Live w sizes f (stateAt (stateWords (sizes .pages) st)) m
+live-words w sizes f st m l = live-below sizes st (stateAt (stateWords (sizes .pages) st)) (λ p h. stateAt-words (sizes .pages) st p h) w f m l

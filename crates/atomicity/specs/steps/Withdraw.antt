@@ -5,6 +5,7 @@ use mathlib.Core.Path.{_≡_, refl, sym, ap, subst}
 use mathlib.Core.Logic.{inr}
 use mathlib.Core.Bool.{true, false}
 use Rattle.bounded.specs.Choice.{never, on-test}
+use Rattle.sizes.specs.declared.Sizes.{Sizes}
 use Rattle.record.specs.Flash.{Flash}
 use Rattle.state.specs.declared.PageState.{PageState}
 use Rattle.state.specs.State.{inFlight}
@@ -20,28 +21,28 @@ use Rattle.atomicity.specs.rings.Match.{IsEntered}
 use Rattle.atomicity.specs.rings.Close.{close-entered, withdraw-match}
 use Rattle.atomicity.specs.steps.Invariant.{Live}
 
-module _ (w P S : ℕ) (f : Flash) (st : ℕ → PageState) (m : Model) (l : Live w P S f st m) (page : ℕ) (y : Flies P st page) where
-  on-it : (q : ℕ) → onCycle P st page q ≡ true → withdrawn P st page q ≡ withdrawnPage (st q)
+module _ (w : ℕ) (sizes : Sizes) (f : Flash) (st : ℕ → PageState) (m : Model) (l : Live w sizes f st m) (page : ℕ) (y : Flies (sizes .pages) st page) where
+  on-it : (q : ℕ) → onCycle (sizes .pages) st page q ≡ true → withdrawn (sizes .pages) st page q ≡ withdrawnPage (st q)
   unfolding withdrawn
   on-it q e = rw e
 
-  off-it : (q : ℕ) → onCycle P st page q ≡ false → withdrawn P st page q ≡ st q
+  off-it : (q : ℕ) → onCycle (sizes .pages) st page q ≡ false → withdrawn (sizes .pages) st page q ≡ st q
   unfolding withdrawn
   off-it q e = rw e
 
-  same-versions : (q : ℕ) → (withdrawn P st page q .committed ≡ st q .committed) × (withdrawn P st page q .used ≡ st q .used)
+  same-versions : (q : ℕ) → (withdrawn (sizes .pages) st page q .committed ≡ st q .committed) × (withdrawn (sizes .pages) st page q .used ≡ st q .used)
   unfolding withdrawnPage atRest
   same-versions q =
-      on-test (onCycle P st page q)
+      on-test (onCycle (sizes .pages) st page q)
       (λ e. (ap (λ (s : PageState). s .committed) (on-it q e), ap (λ (s : PageState). s .used) (on-it q e)))
       (λ e. (ap (λ (s : PageState). s .committed) (off-it q e), ap (λ (s : PageState). s .used) (off-it q e)))
 
   -- a page still in flight is on another cycle
-  still-off : (q : ℕ) → inFlight (withdrawn P st page q) ≡ true → onCycle P st page q ≡ false
+  still-off : (q : ℕ) → inFlight (withdrawn (sizes .pages) st page q) ≡ true → onCycle (sizes .pages) st page q ≡ false
   unfolding withdrawnPage atRest inFlight
-  still-off q z = on-test (onCycle P st page q) (λ e. absurd (never z (ap inFlight (on-it q e)))) (λ e. e)
+  still-off q z = on-test (onCycle (sizes .pages) st page q) (λ e. absurd (never z (ap inFlight (on-it q e)))) (λ e. e)
 
-  changes : StateChanges P st (withdrawn P st page) (IsEntered (m .rings)) (IsEntered (closeRing page (m .rings)))
+  changes : StateChanges (sizes .pages) st (withdrawn (sizes .pages) st page) (IsEntered (m .rings)) (IsEntered (closeRing page (m .rings)))
   changes =
       record {
         used-rises = λ p h. let e = same-versions p .1 in omega arith;
@@ -51,21 +52,20 @@ module _ (w P S : ℕ) (f : Flash) (st : ℕ → PageState) (m : Model) (l : Liv
             inr (record {
               unchanged = e;
               next-used = same-versions (st p .next) .1;
-              before = λ q i g n. off-it q (on-test (onCycle P st page q)
-                  (λ on. absurd (never (subst (λ (x : ℕ). onCycle P st page x ≡ true) n (on-cycle-next P st (l .sound) page y q on)) off))
+              before = λ q i g n. off-it q (on-test (onCycle (sizes .pages) st page q)
+                  (λ on. absurd (never (subst (λ (x : ℕ). onCycle (sizes .pages) st page x ≡ true) n (on-cycle-next (sizes .pages) st (l .sound) page y q on)) off))
                   (λ o. o));
-              entered = λ d n. close-entered P st (m .rings) (l .sound) (l .rings) page y p off d .1 n;
-              entered-before = λ d n. close-entered P st (m .rings) (l .sound) (l .rings) page y p off d .0 n;
+              entered = λ d n. close-entered (sizes .pages) st (m .rings) (l .sound) (l .rings) page y p off d .1 n;
             });
       }
 
-  pub withdrawn-live : Live w P S f (withdrawn P st page) (accept m (Call.Withdraw page))
+  pub withdrawn-live : Live w sizes f (withdrawn (sizes .pages) st page) (accept m (Call.Withdraw page))
   unfolding accept
   withdrawn-live =
       record {
-        sound = withdrawn-sound P st (l .sound) page y;
+        sound = withdrawn-sound (sizes .pages) st (l .sound) page y;
         no-twins = l .no-twins;
         core = core-same (record { forth = λ r b h. h; back = λ r b h. h; same-comm = λ p h. sym (same-versions p .0); same-kept = λ p h. refl }) (l .core);
         live = live-changes recordView changes (l .core .shared .all-sound) (l .live);
-        rings = withdraw-match P st (m .rings) (l .sound) (l .rings) page y;
+        rings = withdraw-match (sizes .pages) st (m .rings) (l .sound) (l .rings) page y;
       }

@@ -6,6 +6,7 @@ use mathlib.Core.Bool.{true, false}
 use lib.ListN.{length}
 use Rattle.bounded.specs.Limits.{highestVersion}
 use Rattle.bounded.specs.Choice.{on-test}
+use Rattle.sizes.specs.declared.Sizes.{Sizes}
 use Rattle.record.specs.declared.Record.{Record}
 use Rattle.record.specs.declared.Slot.the-variants.{Blank}
 use Rattle.record.specs.Slot.{slotAt, plannedRecord}
@@ -32,9 +33,9 @@ use Rattle.atomicity.specs.rings.Write.{write-open-kept, write-open-matc
 use Rattle.atomicity.specs.steps.Invariant.{Held, Live}
 use Rattle.atomicity.specs.steps.Storing.{store-adds, store-apart}
 
-module _ (w P S : ℕ) (f : Flash) (size : Sized w S f) (st : ℕ → PageState) (m : Model) (l : Live w P S f st m)
-    (page slot : ℕ) (bytes : List ℕ) (y : Flies P st page) (unwritten : isWritten (st page) ≡ false)
-    (inside : slot < S) (whole : length bytes ≡ w) (free : slotAt (f .words) slot ≡ Blank) where
+module _ (w : ℕ) (sizes : Sizes) (f : Flash) (size : Sized w (sizes .slots) f) (st : ℕ → PageState) (m : Model) (l : Live w sizes f st m)
+    (page slot : ℕ) (bytes : List ℕ) (y : Flies (sizes .pages) st page) (unwritten : isWritten (st page) ≡ false)
+    (inside : slot < (sizes .slots)) (whole : length bytes ≡ w) (free : slotAt (f .words) slot ≡ Blank) where
   -- the planned record is the one that the step stores
   plan-is : planOf st page ≡ plan recordView st page
   unfolding planOf
@@ -44,63 +45,63 @@ module _ (w P S : ℕ) (f : Flash) (size : Sized w S f) (st : ℕ → PageState)
   after = apply w f (Step.Store slot (plan recordView st page) bytes)
 
   version : plan recordView st page .v ≤ highestVersion
-  version = sound-facts P (plan recordView st page) (planned-sound P st (l .sound) page y) .v-most
+  version = sound-facts (sizes .pages) (plan recordView st page) (planned-sound (sizes .pages) st (l .sound) page y) .v-most
 
-  writes : Writes recordView P (Held w S f) (Held w S after) st page bytes
+  writes : Writes recordView (sizes .pages) (Held w (sizes .slots) f) (Held w (sizes .slots) after) st page bytes
   writes =
       record {
         state = l .sound;
         flies = y;
         unwritten = unwritten;
-        plan-sound = planned-sound P st (l .sound) page y;
-        adds = store-adds w S f size slot inside (plan recordView st page) bytes whole version free;
+        plan-sound = planned-sound (sizes .pages) st (l .sound) page y;
+        adds = store-adds w (sizes .slots) f size slot inside (plan recordView st page) bytes whole version free;
       }
 
-  after-apart : NoTwins S (slotAt (after .words))
+  after-apart : NoTwins (sizes .slots) (slotAt (after .words))
   unfolding plannedRecord
   after-apart =
-      store-apart w S f size slot inside (plan recordView st page) bytes whole version free (l .no-twins)
+      store-apart w (sizes .slots) f size slot inside (plan recordView st page) bytes whole version free (l .no-twins)
       (λ x b h p v. not-there recordView writes (l .core .shared) (l .live) x b h p v)
 
   abbrev model : Model
   model = enter page bytes (m .kept) (m .rings)
 
-  open-live : completes P st page ≡ false → Live w P S after (afterWrite P st page) model
+  open-live : completes (sizes .pages) st page ≡ false → Live w sizes after (afterWrite (sizes .pages) st page) model
   open-live e =
-      let same : (q : ℕ) → q < P → afterWrite P st page q ≡ marked st page q = λ q h. after-write-not P st (l .sound) page y e q in
-      let marks = marks-of P st (l .sound) page y same (write-open-entered P st (m .rings) (l .sound) (l .rings) page y bytes (m .kept) e) in
+      let same : (q : ℕ) → q < (sizes .pages) → afterWrite (sizes .pages) st page q ≡ marked st page q = λ q h. after-write-not (sizes .pages) st (l .sound) page y e q in
+      let marks = marks-of (sizes .pages) st (l .sound) page y same (write-open-entered (sizes .pages) st (m .rings) (l .sound) (l .rings) page y bytes (m .kept) e) in
       record {
-        sound = after-write-sound P st (l .sound) page y;
+        sound = after-write-sound (sizes .pages) st (l .sound) page y;
         no-twins = after-apart;
         core = core-same (record {
           forth = λ r b h. h;
           back = λ r b h. h;
           same-comm = λ q h. sym (marks .same-committed q h);
-          same-kept = λ q h. sym (ap (λ (k : ℕ → List ℕ). k q) (write-open-kept P st (m .rings) (l .sound) (l .rings) page y bytes (m .kept) e));
-        }) (core-more writes (l .core) (l .live) (missing-page P st (l .sound) page y e));
+          same-kept = λ q h. sym (ap (λ (k : ℕ → List ℕ). k q) (write-open-kept (sizes .pages) st (m .rings) (l .sound) (l .rings) page y bytes (m .kept) e));
+        }) (core-more writes (l .core) (l .live) (missing-page (sizes .pages) st (l .sound) page y e));
         live = live-more recordView writes marks (l .core .shared) (l .live);
-        rings = write-open-match P st (m .rings) (l .sound) (l .rings) page y bytes (m .kept) e;
+        rings = write-open-match (sizes .pages) st (m .rings) (l .sound) (l .rings) page y bytes (m .kept) e;
       }
 
-  done-live : completes P st page ≡ true → Live w P S after (afterWrite P st page) model
+  done-live : completes (sizes .pages) st page ≡ true → Live w sizes after (afterWrite (sizes .pages) st page) model
   done-live e =
-      let same : (q : ℕ) → q < P → afterWrite P st page q ≡ completed P st page q = λ q h. after-write-done P st (l .sound) page y e q in
+      let same : (q : ℕ) → q < (sizes .pages) → afterWrite (sizes .pages) st page q ≡ completed (sizes .pages) st page q = λ q h. after-write-done (sizes .pages) st (l .sound) page y e q in
       let r = l .rings in
-      let c = completes-with P st (l .sound) page y e same
-      (write-done-own P st (m .rings) (l .sound) r page y bytes (m .kept) e)
-      (write-done-cycle P st (m .rings) (l .sound) r page y bytes (m .kept) e)
-      (write-done-other P st (m .rings) (l .sound) r page y bytes (m .kept) e)
-      (write-done-entered P st (m .rings) (l .sound) r page y bytes (m .kept) e) in
+      let c = completes-with (sizes .pages) st (l .sound) page y e same
+      (write-done-own (sizes .pages) st (m .rings) (l .sound) r page y bytes (m .kept) e)
+      (write-done-cycle (sizes .pages) st (m .rings) (l .sound) r page y bytes (m .kept) e)
+      (write-done-other (sizes .pages) st (m .rings) (l .sound) r page y bytes (m .kept) e)
+      (write-done-entered (sizes .pages) st (m .rings) (l .sound) r page y bytes (m .kept) e) in
       record {
-        sound = after-write-sound P st (l .sound) page y;
+        sound = after-write-sound (sizes .pages) st (l .sound) page y;
         no-twins = after-apart;
         core = core-completed writes c (l .core) (l .live);
         live = live-completed recordView writes c (l .core .shared) (l .live);
-        rings = write-done-match P st (m .rings) (l .sound) r page y bytes (m .kept) e;
+        rings = write-done-match (sizes .pages) st (m .rings) (l .sound) r page y bytes (m .kept) e;
       }
 
-  pub written-live : Live w P S (apply w f (writeStep st page slot bytes)) (afterWrite P st page) model
+  pub written-live : Live w sizes (apply w f (writeStep st page slot bytes)) (afterWrite (sizes .pages) st page) model
   unfolding writeStep
   written-live =
-      subst (λ (r : Record). Live w P S (apply w f (Step.Store slot r bytes)) (afterWrite P st page) model) (sym plan-is)
-      (on-test (completes P st page) done-live open-live)
+      subst (λ (r : Record). Live w sizes (apply w f (Step.Store slot r bytes)) (afterWrite (sizes .pages) st page) model) (sym plan-is)
+      (on-test (completes (sizes .pages) st page) done-live open-live)

@@ -6,9 +6,10 @@ use mathlib.Core.Bool.{Bool, true, false, cond}
 use lib.ListN.{length}
 use borrow.Author.Tests.{eq-eqb}
 use Rattle.bounded.specs.Choice.{both, both-left, both-right, not-yes}
-use Rattle.outcome.specs.Outcome.{settled-answer}
+use Rattle.outcome.specs.OutcomeLaws.{settled-answer}
+use Rattle.sizes.specs.declared.Sizes.{Sizes}
 use Rattle.rules.specs.Volume.{Volume}
-use Rattle.rules.specs.laws.Sizes.{Fits, fits-test}
+use Rattle.rules.specs.laws.Volume.{Fits, fits-test}
 use Rattle.rules.specs.Format.{formatted, formatAnswer, formatOutcome}
 use Rattle.atomicity.specs.Call.{Call, withState, perform}
 use Rattle.atomicity.specs.Run.{Event, World, isRecover, stillLost, happens, started, after, keepsTo, keepsPremises}
@@ -16,7 +17,7 @@ use Rattle.atomicity.specs.Promise.{Premises}
 use Rattle.atomicity.specs.Companions.{MayFollow, StateKnown, PremisesMet}
 use Rattle.atomicity.specs.theorems.Promise.{own-state}
 
-module _ (w P S : ℕ) where
+module _ (w : ℕ) (sizes : Sizes) where
   -- ---- event by event
 
   call-kept : (lost : Bool) (c : Call) → lost ≡ false → cond lost (isRecover c) true ≡ true
@@ -27,61 +28,61 @@ module _ (w P S : ℕ) where
   recover-kept true = refl
   recover-kept false = refl
 
-  still-known : (x : World) (c : Call) → x .lost ≡ false → happens w P S x (Event.Returns c) .lost ≡ false
+  still-known : (x : World) (c : Call) → x .lost ≡ false → happens w sizes x (Event.Returns c) .lost ≡ false
   unfolding happens stillLost
   still-known x c e = rw e
 
   -- calls alone never lose the state, so a list of them keeps to the premises
-  calls-keep : (x : World) (list : List Call) → x .lost ≡ false → keepsPremises w P S x (map Event.Returns list) ≡ true
+  calls-keep : (x : World) (list : List Call) → x .lost ≡ false → keepsPremises w sizes x (map Event.Returns list) ≡ true
   unfolding keepsPremises keepsTo
   calls-keep x [] e = refl
-  calls-keep x (c ∷ list) e = both (call-kept (x .lost) c e) (calls-keep (happens w P S x (Event.Returns c)) list (still-known x c e))
+  calls-keep x (c ∷ list) e = both (call-kept (x .lost) c e) (calls-keep (happens w sizes x (Event.Returns c)) list (still-known x c e))
 
   -- an event behind a list that keeps to them
-  keeps-more : (x : World) (l : List Event) (e : Event) → keepsPremises w P S x l ≡ true → keepsTo P (after w P S x l) e ≡ true → keepsPremises w P S x (l ++ e ∷ []) ≡ true
+  keeps-more : (x : World) (l : List Event) (e : Event) → keepsPremises w sizes x l ≡ true → keepsTo (sizes .pages) (after w sizes x l) e ≡ true → keepsPremises w sizes x (l ++ e ∷ []) ≡ true
   unfolding keepsPremises after
   keeps-more x [] e h k = both k refl
   keeps-more x (f ∷ l) e h k =
-      both (both-left (keepsTo P x f) (keepsPremises w P S (happens w P S x f) l) h)
-      (keeps-more (happens w P S x f) l e (both-right (keepsTo P x f) (keepsPremises w P S (happens w P S x f) l) h) k)
+      both (both-left (keepsTo (sizes .pages) x f) (keepsPremises w sizes (happens w sizes x f) l) h)
+      (keeps-more (happens w sizes x f) l e (both-right (keepsTo (sizes .pages) x f) (keepsPremises w sizes (happens w sizes x f) l) h) k)
 
-  after-more : (x : World) (l : List Event) (e : Event) → after w P S x (l ++ e ∷ []) ≡ happens w P S (after w P S x l) e
+  after-more : (x : World) (l : List Event) (e : Event) → after w sizes x (l ++ e ∷ []) ≡ happens w sizes (after w sizes x l) e
   unfolding after
   after-more x [] e = refl
-  after-more x (f ∷ l) e = after-more (happens w P S x f) l e
+  after-more x (f ∷ l) e = after-more (happens w sizes x f) l e
 
   module _ (v : Volume) where
-    follows : (events : List Event) (e : Event) → Premises w P S v events → keepsTo P (after w P S (started w P S v) events) e ≡ true → MayFollow w P S v events e
-    follows events e p k = record { formatted = p .formatted; keeps = keeps-more (started w P S v) events e (p .keeps) k }
+    follows : (events : List Event) (e : Event) → Premises w sizes v events → keepsTo (sizes .pages) (after w sizes (started w sizes v) events) e ≡ true → MayFollow w sizes v events e
+    follows events e p k = record { formatted = p .formatted; keeps = keeps-more (started w sizes v) events e (p .keeps) k }
 
     -- a volume whose P, S and lengths are right formats
-    formats : Fits w P S v → formatOutcome w P S v .answer ≡ 0
+    formats : Fits w sizes v → formatOutcome w sizes v .answer ≡ 0
     unfolding formatOutcome formatAnswer
-    formats f = settled-answer (formatAnswer w P S v) 0 0 v (formatted w P S) ∙ rw (not-yes (fits-test w P S v f))
+    formats f = settled-answer (formatAnswer w sizes v) 0 0 v (formatted w sizes) ∙ rw (not-yes (fits-test w sizes v f))
 
   known-again : (lost : Bool) (answer : ℕ) → answer ≡ 0 → stillLost lost Call.Recover answer ≡ false
   unfolding stillLost isRecover
   known-again true answer e = rw e
   known-again false answer e = refl
 
-  finds : (v : Volume) (events : List Event) → Premises w P S v events → StateKnown w P S v (events ++ Event.Returns Call.Recover ∷ [])
+  finds : (v : Volume) (events : List Event) → Premises w sizes v events → StateKnown w sizes v (events ++ Event.Returns Call.Recover ∷ [])
   unfolding happens perform withState
   finds v events p =
-      rw (after-more (started w P S v) events (Event.Returns Call.Recover))
-      (known-again (after w P S (started w P S v) events .lost) _ (own-state w P S v events p .recover-answers))
+      rw (after-more (started w sizes v) events (Event.Returns Call.Recover))
+      (known-again (after w sizes (started w sizes v) events .lost) _ (own-state w sizes v events p .recover-answers))
 
 pub premises-met : PremisesMet
 unfolding keepsTo keepsPremises started
 premises-met =
     record {
-      at-first = λ w P S v f. record { formatted = formats w P S v f; keeps = refl };
-      calls = λ w P S v f list. record { formatted = formats w P S v f; keeps = calls-keep w P S (started w P S v) list refl };
-      crash = λ w P S v events p state e. follows w P S v events (Event.Crash state) p (eq-eqb (length state) (4 * P) e);
-      recover = λ w P S v events p. follows w P S v events (Event.Returns Call.Recover) p (recover-kept w P S (after w P S (started w P S v) events .lost));
-      crashed-recover = λ w P S v events p stage done state e. follows w P S v events (Event.CrashIn Call.Recover stage done state) p
-          (both (recover-kept w P S (after w P S (started w P S v) events .lost)) (eq-eqb (length state) (4 * P) e));
-      call = λ w P S v events p k c. follows w P S v events (Event.Returns c) p (call-kept w P S (after w P S (started w P S v) events .lost) c k);
-      crashed-call = λ w P S v events p k c stage done state e. follows w P S v events (Event.CrashIn c stage done state) p
-          (both (call-kept w P S (after w P S (started w P S v) events .lost) c k) (eq-eqb (length state) (4 * P) e));
-      recover-finds = λ w P S v events p. finds w P S v events p;
+      at-first = λ w sizes v f. record { formatted = formats w sizes v f; keeps = refl };
+      calls = λ w sizes v f list. record { formatted = formats w sizes v f; keeps = calls-keep w sizes (started w sizes v) list refl };
+      crash = λ w sizes v events p state e. follows w sizes v events (Event.Crash state) p (eq-eqb (length state) (4 * (sizes .pages)) e);
+      recover = λ w sizes v events p. follows w sizes v events (Event.Returns Call.Recover) p (recover-kept w sizes (after w sizes (started w sizes v) events .lost));
+      crashed-recover = λ w sizes v events p stage done state e. follows w sizes v events (Event.CrashIn Call.Recover stage done state) p
+          (both (recover-kept w sizes (after w sizes (started w sizes v) events .lost)) (eq-eqb (length state) (4 * (sizes .pages)) e));
+      call = λ w sizes v events p k c. follows w sizes v events (Event.Returns c) p (call-kept w sizes (after w sizes (started w sizes v) events .lost) c k);
+      crashed-call = λ w sizes v events p k c stage done state e. follows w sizes v events (Event.CrashIn c stage done state) p
+          (both (call-kept w sizes (after w sizes (started w sizes v) events .lost) c k) (eq-eqb (length state) (4 * (sizes .pages)) e));
+      recover-finds = λ w sizes v events p. finds w sizes v events p;
     }

@@ -7,6 +7,7 @@ use lib.Dec.{eqb}
 use borrow.Author.Tests.{eqb-true}
 use Rattle.bounded.specs.Choice.{never}
 use Rattle.bounded.specs.BelowLaws.{max-bound}
+use Rattle.sizes.specs.declared.Sizes.{Sizes}
 use Rattle.record.specs.declared.Record.{Record}
 use Rattle.record.specs.declared.Slot.{Slot}
 use Rattle.record.specs.declared.Slot.the-variants.{Blank, Holds}
@@ -24,12 +25,12 @@ use Rattle.atomicity.specs.Companions.{Agrees, StatesAgree}
 use Rattle.atomicity.specs.steps.Invariant.{Live, Holding, known, unknown}
 use Rattle.atomicity.specs.theorems.Promise.{reached}
 
-live-agrees : (w P S : ℕ) (v : Volume) (m : Model) → Live w P S (v .flash) (stateAt (v .state)) m → Agrees P S v
+live-agrees : (w : ℕ) (sizes : Sizes) (v : Volume) (m : Model) → Live w sizes (v .flash) (stateAt (v .state)) m → Agrees (sizes .pages) (sizes .slots) v
 unfolding usedOf mentioned planOf
-live-agrees w P S v m l =
+live-agrees w sizes v m l =
     record {
       same-committed = λ p h. committed-found (l .core) p h;
-      used-covers = λ p h. max-bound (λ k. mentioned p (slotAt (v .flash .words) k)) S (stateAt (v .state) p .used) (λ k i. at p k i (slotAt (v .flash .words) k) refl);
+      used-covers = λ p h. max-bound (λ k. mentioned p (slotAt (v .flash .words) k)) (sizes .slots) (stateAt (v .state) p .used) (λ k i. at p k i (slotAt (v .flash .words) k) refl);
       planned-covers = λ q h f p i. covered p (planOf st q) (at-plan q) (next-plan q);
     }
   where
@@ -53,15 +54,15 @@ live-agrees w P S v m l =
     next-plan : (q : ℕ) → planOf st q .nv ≤ st (planOf st q .np) .used
     next-plan q = omega arith
 
-    at : (p k : ℕ) → k < S → (s : Slot) → slotAt (v .flash .words) k ≡ s → mentioned p s ≤ st p .used
+    at : (p k : ℕ) → k < (sizes .slots) → (s : Slot) → slotAt (v .flash .words) k ≡ s → mentioned p s ≤ st p .used
     at p k i Blank e = omega arith
     at p k i (Holds r) e =
         let u = l .live .within-used in
         covered p r (u .version-used r (bytesAt w (v .flash .contents) k) (k, i, e, refl)) (u .link-used r (bytesAt w (v .flash .contents) k) (k, i, e, refl))
 
 pub state-agrees : StatesAgree
-state-agrees w P S v events p found = by (reached w P S v events p)
+state-agrees w sizes v events p found = by (reached w sizes v events p)
   where
-    by : Holding w P S (after w P S (started w P S v) events) (modelAfter w P S (started w P S v) (freshModel w) events) → Agrees P S (after w P S (started w P S v) events .volume)
-    by (known f fits live) = live-agrees w P S (after w P S (started w P S v) events .volume) (modelAfter w P S (started w P S v) (freshModel w) events) live
+    by : Holding w sizes (after w sizes (started w sizes v) events) (modelAfter w sizes (started w sizes v) (freshModel w) events) → Agrees (sizes .pages) (sizes .slots) (after w sizes (started w sizes v) events .volume)
+    by (known f fits live) = live-agrees w sizes (after w sizes (started w sizes v) events .volume) (modelAfter w sizes (started w sizes v) (freshModel w) events) live
     by (unknown lost fits l) = absurd (never lost found)

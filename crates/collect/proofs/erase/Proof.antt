@@ -26,7 +26,7 @@ returns c =
     reply-refused (c .reply .result) (c .before .before .erase-answer .result) 0 0 _ _ (c .reply .ensures) (c .before .before .erase-answer .ensures) (c .before .if1 .taken)
 
 blank-listed-requires : tie.Need-blank-listed-requires
-blank-listed-requires c κs = accepted-listed _ _ _ _ _ (sym (c .before .before .before .erase-answer .ensures) ∙ c .before .before .if1 .left)
+blank-listed-requires c κs = accepted-listed _ _ _ _ (sym (c .before .before .before .erase-answer .ensures) ∙ c .before .before .if1 .left)
 
 reply-requires-2 : tie.Need-reply-requires-2
 reply-requires-2 c κs = search needs

@@ -12,10 +12,10 @@ use Rattle.collect.proofs.first_erasable.Statement.{statement}
 use Rattle.collect.proofs.first_erasable.Tie as tie
 
 abbrev Inv-loop : tie.InvT-loop
-Inv-loop words slots state slot₀ slot = (slot ≤ slots) × ((k : ℕ) → k < slot → mayErase slots (slotAt words) (stateAt state) k ≡ false)
+Inv-loop slots words state slot₀ slot = (slot ≤ slots) × ((k : ℕ) → k < slot → mayErase slots (slotAt words) (stateAt state) k ≡ false)
 
 abbrev μ-loop : tie.MeasureT-loop
-μ-loop words slots state slot₀ slot = slots - slot
+μ-loop slots words state slot₀ slot = slots - slot
 
 loop-holds : tie.Need-loop-holds Inv-loop μ-loop
 loop-holds c = (omega arith, λ k h. absurd (omega arith))

@@ -15,10 +15,10 @@ use Rattle.collect.proofs.may_erase_all.Statement.{statement}
 use Rattle.collect.proofs.may_erase_all.Tie as tie
 
 abbrev Inv-loop : tie.InvT-loop
-Inv-loop words slots state list i₀ i = (i ≤ length list) × (allBelow i (λ j. mayErase slots (slotAt words) (stateAt state) (getD list j 0)) ≡ true)
+Inv-loop slots words state list i₀ i = (i ≤ length list) × (allBelow i (λ j. mayErase slots (slotAt words) (stateAt state) (getD list j 0)) ≡ true)
 
 abbrev μ-loop : tie.MeasureT-loop
-μ-loop words slots state list i₀ i = length list - i
+μ-loop slots words state list i₀ i = length list - i
 
 loop-holds : tie.Need-loop-holds Inv-loop μ-loop
 loop-holds c = (omega arith, all-zero _)

@@ -16,7 +16,7 @@ same-length c = search needs
 
 returns : tie.Need-returns
 returns c =
-    list-refused _ _ _ _ _ (c .before .before .before .before .before .list-answer .ensures) _ _ _
+    list-refused _ _ _ _ (c .before .before .before .before .before .list-answer .ensures) _ _ _
     (c .before .before .before .before .if1 .taken) (c .before .before .put-answer .ensures)
 
 put-pages-requires : tie.Need-put-pages-requires
@@ -32,8 +32,8 @@ returns-2 : tie.Need-returns-2
 returns-2 c =
     let p = c .before .before .before .before .before .before .put-pages in
     let a = c .before .before .before .before .before .before .before .before .before .before .before .before .before .before .args in
-    list-accepted _ _ _ (volume (a .words .now) (a .contents .now) (a .state .now)) _ (c .before .before .before .before .before .before .before .before .before .list-answer .ensures) _ _ _ _ _
-    (c .before .before .before .before .before .before .before .before .if1 .left) (p .ensures) (p .kept .1 .1 .1 .1 .1 .0) (c .before .before .put-answer2 .ensures)
+    list-accepted _ _ (volume (a .words .now) (a .contents .now) (a .state .now)) _ (c .before .before .before .before .before .before .before .before .before .list-answer .ensures) _ _ _ _ _
+    (c .before .before .before .before .before .before .before .before .if1 .left) (p .ensures) (p .kept .1 .1 .1 .1 .0) (c .before .before .put-answer2 .ensures)
 
 pub list-spec : {M : Type 1} → statement M
 list-spec =

@@ -1,3 +1,4 @@
+use native.Mathlib.Omega.{arith}
 use borrow.Author.Needs.{needs}
 use Rattle.rules.specs.Read.{readSlot}
 use Rattle.listing.specs.Listing.{pageText}
@@ -6,13 +7,19 @@ use Rattle.listing.proofs.put_page.Statement.{statement}
 use Rattle.listing.proofs.put_page.Tie as tie
 
 page-at-requires : tie.Need-page-at-requires
-page-at-requires c κs = readable _ _ _ _ _ (c .before .before .before .before .pre) .state-there
+page-at-requires c κs = readable _ _ _ _ (c .before .before .before .before .pre) .state-there
 
 committed-slot-requires : tie.Need-committed-slot-requires
-committed-slot-requires c κs = let r = readable _ _ _ _ _ (c .before .before .before .before .before .pre) in (r .table-there, r .state-there)
+committed-slot-requires c κs = let r = readable _ _ _ _ (c .before .before .before .before .before .pre) in (r .table-there, r .state-there)
 
-drawn-of-requires : tie.Need-drawn-of-requires
-drawn-of-requires c κs = search needs
+drawn-in-requires : tie.Need-drawn-in-requires
+unfolding readSlot
+drawn-in-requires c κs =
+    let r = readable _ _ _ _ (c .before .before .before .before .before .before .before .pre) in
+    let size = r .contents-sized in
+    let below = r .slot-there in
+    let slot = c .before .committed-slot .ensures in
+    omega arith
 
 put-fields-requires : tie.Need-put-fields-requires
 put-fields-requires c κs = search needs
@@ -25,9 +32,8 @@ unfolding pageText readSlot
 returns c =
     let s = c .before .before .before .before .before .before .page-at in
     let slot = c .before .before .before .before .before .committed-slot in
-    let drawn = c .before .before .before .before .drawn-of in
-    rw (s .ensures, slot .ensures, drawn .ensures) at
-    (c .before .before .put-fields .ensures)
+    let r = readable _ _ _ _ (c .before .before .before .before .before .before .before .before .before .before .before .pre) in
+    rw (c .before .before .before .drawn-in .ensures, s .ensures, slot .ensures, r .drawn-there) at (c .before .before .put-fields .ensures)
 
 pub put-page-spec : {M : Type 1} → statement M
 put-page-spec =
@@ -35,7 +41,7 @@ put-page-spec =
     (tie.spec
     page-at-requires
     committed-slot-requires
-    drawn-of-requires
+    drawn-in-requires
     put-fields-requires
     same-length
     returns)

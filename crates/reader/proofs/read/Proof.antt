@@ -41,6 +41,7 @@ use denote.Exit.{yes}
 use denote.Triple.Clauses.{ensured, lasts}
 use Rattle.bounded.specs.Limits.{width}
 use Rattle.outcome.specs.Outcome.{returned}
+use Rattle.sizes.specs.Sizes.{sizesOf}
 use Rattle.rules.specs.Volume.{volume}
 use Rattle.rules.specs.Read.{readOutcome}
 use Rattle.reader.specs.declared.Reader.{Reader}
@@ -199,7 +200,7 @@ module _ {M : Type 1} (𝓤 : URA M) (H : Heap 𝓤) (A : Atoms 𝓤) (W : Given
 
   -- what is said of the answer and of out's last list
   abbrev Said : ℕ → List ℕ → Type 0
-  Said r zs = returned r zs ≡ readOutcome width m n (volume (now w) (now c) (now s)) p ys
+  Said r zs = returned r zs ≡ readOutcome width (sizesOf m n) (volume (now w) (now c) (now s)) p ys
 
   abbrev Lasts : Type 0
   Lasts = Unit {0} × (Unit {0} × (Unit {0} × (Unit {0} × (Unit {0} × (List ℕ × Unit {0})))))

@@ -34,7 +34,7 @@ returns-3 c =
     let h = c .before .before .before .before .before in
     let a = h .before .before .before .before .before .args in
     let pre = h .before .before .before .before .before .pre in
-    let s : Surveyed (a .pages) (a .slots) (a .words .now) (h .highest-slots .last .1 .1 .1 .0) =
+    let s : Surveyed (a .sizes .pages) (a .sizes .slots) (a .words .now) (h .highest-slots .last .1 .1 .0) =
     record { sized = pre .0; pages-most = pre .1; sound = said-yes (h .before .before .before .table-sound .ensures) (h .before .before .if1 .left); tops = h .highest-slots .ensures } in
     (rw (s .sound, sym (c .before .before .before .before .some-clash .ensures) ∙ c .before .before .before .if2 .left, sym (tops-records _ _ _ _ s) ∙ said-no (c .before .records-present .ensures) (c .if3 .taken)), λ e. absurd (omega arith))
 
@@ -49,7 +49,7 @@ returns-4 c =
     let h = c .before .before .before .before .before .before .before .before in
     let a = h .before .before .before .before .before .args in
     let pre = h .before .before .before .before .before .pre in
-    let s : Surveyed (a .pages) (a .slots) (a .words .now) (h .highest-slots .last .1 .1 .1 .0) =
+    let s : Surveyed (a .sizes .pages) (a .sizes .slots) (a .words .now) (h .highest-slots .last .1 .1 .0) =
     record { sized = pre .0; pages-most = pre .1; sound = said-yes (h .before .before .before .table-sound .ensures) (h .before .before .if1 .left); tops = h .highest-slots .ensures } in
     let d = c .before .before .before in (
       c .links-answer .ensures .0

@@ -5,6 +5,7 @@ use mathlib.Core.List.{List, [], _∷_}
 use lib.ListN.{replicate}
 use Rattle.bounded.specs.Limits.{width}
 use Rattle.outcome.specs.Row.{Row, row, RowsHold}
+use Rattle.sizes.specs.Sizes.{sizesOf}
 use Rattle.rules.specs.Volume.{Volume}
 use Rattle.rules.specs.Format.{formatOutcome}
 use Rattle.rules.specs.cases.Computing.{computing}
@@ -15,7 +16,7 @@ buffers P S = record { flash = record { words = replicate (5 * S) 7; contents = 
 
 -- format's answer on them
 unfoldable pub formatOn : (P S : ℕ) → List ℕ
-formatOn P S = formatOutcome width P S (buffers P S) .answer ∷ []
+formatOn P S = formatOutcome width (sizesOf P S) (buffers P S) .answer ∷ []
 
 -- "P 0 or 257, S 1,025 or P-1: 1. P=256, S=1,024 formats."
 unfoldable pub boundRows : List Row

@@ -1,20 +1,21 @@
 -- A name for "these definitions compute": a declaration that unfolds it unfolds them all.
 use Rattle.outcome.specs.Computing.{computing as outcome-computing}
+use Rattle.sizes.specs.Sizes.{sizesOk, wordsFit, contentsFit, stateFits, noRepeats, inRange, listOk}
 use Rattle.state.specs.Computing.{computing as state-computing}
 use Rattle.table.specs.Computing.{computing as table-computing}
+use Rattle.follow.specs.Follow.{endsHere, oneMore, link, followFrom, follow, isAstray}
 use Rattle.rules.specs.Format.{formattedWords, formattedContents, formatted, formatAnswer, formatOutcome}
 use Rattle.rules.specs.Read.{readSlot, readAnswer, readOutcome}
-use Rattle.rules.specs.Volume.{sizesOk, wordsFit, contentsFit, stateFits, volumeFits, noRepeats, inRange, listOk}
+use Rattle.rules.specs.Volume.{volumeFits}
 use Rattle.rules.specs.Launch.{somePage, usedUp, launchAnswer, launchOutcome}
 use Rattle.rules.specs.Withdraw.{withdrawAnswer, withdrawOutcome}
 use Rattle.rules.specs.Write.{planOf, writeAnswer, writeStep, writeDone, writeChange, writeOutcome}
 use Rattle.rules.specs.Erase.{eraseAnswer, eraseSteps, eraseOutcome}
-use Rattle.rules.specs.Permission.{isObsolete, isExposed, outreaches, isShielded, isNeeded, isCurrent, mayEraseRecord, mayErase, mayEraseAll}
+use Rattle.rules.specs.Permission.{isObsolete, isExposed, outdoneBy, supports, isNeeded, isCurrent, mayEraseRecord, mayErase, mayEraseAll}
 use Rattle.rules.specs.Suggest.{suggestAnswer}
-use Rattle.follow.specs.Follow.{endsHere, oneMore, link, followFrom, follow, isAstray}
 use Rattle.rules.specs.Recover.{walkOf, backPointer, committedBy, committedOf, mentioned, usedOf, recovered, recoverAnswer, recoverOutcome}
 use Rattle.rules.specs.Verdict.{isStraddled, linkVerdict, slotVerdict, verdict}
 
 unfoldable pub computing : Unit {0}
-unfolding table-computing state-computing outcome-computing formattedWords formattedContents formatted formatAnswer formatOutcome readSlot readAnswer readOutcome sizesOk wordsFit contentsFit stateFits volumeFits noRepeats inRange listOk somePage usedUp launchAnswer launchOutcome withdrawAnswer withdrawOutcome planOf writeAnswer writeStep writeDone writeChange writeOutcome eraseAnswer eraseSteps eraseOutcome isObsolete isExposed outreaches isShielded isNeeded isCurrent mayEraseRecord mayErase mayEraseAll suggestAnswer endsHere oneMore link followFrom follow walkOf isAstray backPointer committedBy committedOf mentioned usedOf recovered recoverAnswer recoverOutcome isStraddled linkVerdict slotVerdict verdict
+unfolding table-computing state-computing outcome-computing formattedWords formattedContents formatted formatAnswer formatOutcome readSlot readAnswer readOutcome sizesOk wordsFit contentsFit stateFits volumeFits noRepeats inRange listOk somePage usedUp launchAnswer launchOutcome withdrawAnswer withdrawOutcome planOf writeAnswer writeStep writeDone writeChange writeOutcome eraseAnswer eraseSteps eraseOutcome isObsolete isExposed outdoneBy supports isNeeded isCurrent mayEraseRecord mayErase mayEraseAll suggestAnswer endsHere oneMore link followFrom follow walkOf isAstray backPointer committedBy committedOf mentioned usedOf recovered recoverAnswer recoverOutcome isStraddled linkVerdict slotVerdict verdict
 computing = tt

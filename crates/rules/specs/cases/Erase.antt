@@ -9,6 +9,7 @@ use Rattle.bounded.specs.Parts.{joinParts}
 use Rattle.bounded.specs.Limits.{width}
 use Rattle.outcome.specs.Outcome.{Outcome}
 use Rattle.outcome.specs.Row.{Row, row, RowsHold}
+use Rattle.sizes.specs.Sizes.{sizesOf}
 use Rattle.record.specs.Flash.{Flash}
 use Rattle.state.specs.State.{stateWords}
 use Rattle.state.specs.declared.PageState.{PageState}
@@ -20,7 +21,7 @@ use Rattle.rules.specs.cases.Computing.{computing}
 
 -- erase these slots of a volume of 3 pages and 8 slots
 unfoldable pub eraseOn : Volume → List ℕ → Outcome Flash
-eraseOn v slots = eraseOutcome width 3 8 v slots
+eraseOn v slots = eraseOutcome width (sizesOf 3 8) v slots
 
 -- the answers of two erasures, one after the other
 unfoldable pub erasedInTurn : Volume → (first then : List ℕ) → List ℕ

@@ -6,6 +6,7 @@ use lib.ListN.{replicate}
 use Rattle.bounded.specs.Parts.{joinParts}
 use Rattle.outcome.specs.Outcome.{Outcome}
 use Rattle.outcome.specs.Row.{Row, row, RowsHold}
+use Rattle.sizes.specs.Sizes.{sizesOf}
 use Rattle.record.specs.declared.Record.{Record}
 use Rattle.state.specs.State.{stateAt}
 use Rattle.table.specs.Given.{given, formattedRecords, tableOf}
@@ -14,7 +15,7 @@ use Rattle.rules.specs.cases.Computing.{computing}
 
 -- Recover on 8 slots that hold these records; the old state holds anything, here 7 in every word.
 unfoldable pub recoverOn : ℕ → List Record → Outcome (List ℕ)
-recoverOn P records = recoverOutcome P 8 (tableOf 8 records) (replicate (4 * P) 7)
+recoverOn P records = recoverOutcome (sizesOf P 8) (tableOf 8 records) (replicate (4 * P) 7)
 
 -- the committed versions that an outcome's state says, page by page; and the used ones
 unfoldable pub committedIn : ℕ → Outcome (List ℕ) → List ℕ

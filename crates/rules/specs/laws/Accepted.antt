@@ -7,12 +7,15 @@ use lib.Dec.{ltb, eqb}
 use lib.ListN.{length}
 use borrow.Author.Tests.{ltb-true, eqb-true}
 use Rattle.bounded.specs.Choice.{both-left, both-right}
-use Rattle.outcome.specs.Outcome.{passed, held}
+use Rattle.outcome.specs.OutcomeLaws.{passed, held}
+use Rattle.sizes.specs.declared.Sizes.{Sizes}
+use Rattle.sizes.specs.Sizes.{sizesOk, stateFits, listOk}
+use Rattle.sizes.specs.SizesLaws.{state-fits-exactly}
 use Rattle.record.specs.Slot.{slotAt, isBlank}
 use Rattle.state.specs.State.{stateAt, stateSound, inFlight, isWritten}
 use Rattle.table.specs.Table.{tableSound}
-use Rattle.rules.specs.Volume.{Volume, volumeFits, sizesOk, stateFits, listOk}
-use Rattle.rules.specs.laws.Sizes.{Fits, fits-facts, state-fits-exactly}
+use Rattle.rules.specs.Volume.{Volume, volumeFits}
+use Rattle.rules.specs.laws.Volume.{Fits, fits-facts}
 use Rattle.rules.specs.Launch.{somePage, usedUp, launchAnswer}
 use Rattle.rules.specs.Write.{writeAnswer}
 use Rattle.rules.specs.Withdraw.{withdrawAnswer}
@@ -32,72 +35,72 @@ pub record WithdrawTests (P : ℕ) (state : List ℕ) (page : ℕ) : Type 0 wher
   pub page-below : page < P
   pub flying : inFlight (stateAt state page) ≡ true
 
-pub record WriteTests (w P S : ℕ) (v : Volume) (page slot : ℕ) (bytes : List ℕ) : Type 0 where
-  pub fits : Fits w P S v
+pub record WriteTests (w : ℕ) (sizes : Sizes) (v : Volume) (page slot : ℕ) (bytes : List ℕ) : Type 0 where
+  pub fits : Fits w sizes v
   pub whole : length bytes ≡ w
-  pub sound : stateSound P (stateAt (v .state)) ≡ true
-  pub page-below : page < P
-  pub slot-below : slot < S
+  pub sound : stateSound (sizes .pages) (stateAt (v .state)) ≡ true
+  pub page-below : page < (sizes .pages)
+  pub slot-below : slot < (sizes .slots)
   pub flying : inFlight (stateAt (v .state) page) ≡ true
   pub unwritten : isWritten (stateAt (v .state) page) ≡ false
   pub free : isBlank (slotAt (v .flash .words) slot) ≡ true
 
-module _ (P S : ℕ) (state : List ℕ) where
+module _ (sizes : Sizes) (state : List ℕ) where
   -- the state's words are four for each of P pages
-  sized : (sizesOk P S && stateFits P state) ≡ true → length state ≡ 4 * P
-  sized e = state-fits-exactly P state .0 (both-right (sizesOk P S) (stateFits P state) e)
+  sized : (sizesOk sizes && stateFits (sizes .pages) state) ≡ true → length state ≡ 4 * (sizes .pages)
+  sized e = state-fits-exactly (sizes .pages) state .0 (both-right (sizesOk sizes) (stateFits (sizes .pages) state) e)
 
-  pub launch-tests : (pages : List ℕ) → launchAnswer P S state pages ≡ 0 → LaunchTests P state pages
+  pub launch-tests : (pages : List ℕ) → launchAnswer sizes state pages ≡ 0 → LaunchTests (sizes .pages) state pages
   unfolding launchAnswer
   launch-tests pages z =
-      let a = held (sizesOk P S && stateFits P state) _ _ z in
-      let b = held (stateSound P (stateAt state)) _ _ (a .1) in
-      let c = held (listOk P pages) _ _ (b .1) in
+      let a = held (sizesOk sizes && stateFits (sizes .pages) state) _ _ z in
+      let b = held (stateSound (sizes .pages) (stateAt state)) _ _ (a .1) in
+      let c = held (listOk (sizes .pages) pages) _ _ (b .1) in
       let d = passed (somePage pages (stateAt state) inFlight) _ _ (c .1) in
       let f = passed (somePage pages (stateAt state) usedUp) _ _ (d .1) in
       record { state-sized = sized (a .0); sound = b .0; listed = c .0; none-flying = d .0; none-used-up = f .0 }
 
-  pub withdraw-tests : (page : ℕ) → withdrawAnswer P S state page ≡ 0 → WithdrawTests P state page
+  pub withdraw-tests : (page : ℕ) → withdrawAnswer sizes state page ≡ 0 → WithdrawTests (sizes .pages) state page
   unfolding withdrawAnswer
   withdraw-tests page z =
-      let a = held (sizesOk P S && stateFits P state) _ _ z in
-      let b = held (stateSound P (stateAt state)) _ _ (a .1) in
-      let c = held (ltb page P) _ _ (b .1) in
+      let a = held (sizesOk sizes && stateFits (sizes .pages) state) _ _ z in
+      let b = held (stateSound (sizes .pages) (stateAt state)) _ _ (a .1) in
+      let c = held (ltb page (sizes .pages)) _ _ (b .1) in
       let d = held (inFlight (stateAt state page)) _ _ (c .1) in
-      record { state-sized = sized (a .0); sound = b .0; page-below = ltb-true page P (c .0); flying = d .0 }
+      record { state-sized = sized (a .0); sound = b .0; page-below = ltb-true page (sizes .pages) (c .0); flying = d .0 }
 
-pub write-tests : (w P S : ℕ) (v : Volume) (page slot : ℕ) (bytes : List ℕ) → writeAnswer w P S v page slot bytes ≡ 0 → WriteTests w P S v page slot bytes
+pub write-tests : (w : ℕ) (sizes : Sizes) (v : Volume) (page slot : ℕ) (bytes : List ℕ) → writeAnswer w sizes v page slot bytes ≡ 0 → WriteTests w sizes v page slot bytes
 unfolding writeAnswer
-write-tests w P S v page slot bytes z =
-    let a = held (volumeFits w P S v && eqb (length bytes) w) _ _ z in
-    let b = held (tableSound P S (slotAt (v .flash .words))) _ _ (a .1) in
-    let c = held (stateSound P (stateAt (v .state))) _ _ (b .1) in
-    let d = held (ltb page P && ltb slot S) _ _ (c .1) in
+write-tests w sizes v page slot bytes z =
+    let a = held (volumeFits w sizes v && eqb (length bytes) w) _ _ z in
+    let b = held (tableSound (sizes .pages) (sizes .slots) (slotAt (v .flash .words))) _ _ (a .1) in
+    let c = held (stateSound (sizes .pages) (stateAt (v .state))) _ _ (b .1) in
+    let d = held (ltb page (sizes .pages) && ltb slot (sizes .slots)) _ _ (c .1) in
     let f = held (inFlight (stateAt (v .state) page)) _ _ (d .1) in
     let g = passed (isWritten (stateAt (v .state) page)) _ _ (f .1) in
     let h = held (isBlank (slotAt (v .flash .words) slot)) _ _ (g .1) in
     record {
-      fits = fits-facts w P S v (both-left (volumeFits w P S v) (eqb (length bytes) w) (a .0));
-      whole = eqb-true (length bytes) w (both-right (volumeFits w P S v) (eqb (length bytes) w) (a .0));
+      fits = fits-facts w sizes v (both-left (volumeFits w sizes v) (eqb (length bytes) w) (a .0));
+      whole = eqb-true (length bytes) w (both-right (volumeFits w sizes v) (eqb (length bytes) w) (a .0));
       sound = c .0;
-      page-below = ltb-true page P (both-left (ltb page P) (ltb slot S) (d .0));
-      slot-below = ltb-true slot S (both-right (ltb page P) (ltb slot S) (d .0));
+      page-below = ltb-true page (sizes .pages) (both-left (ltb page (sizes .pages)) (ltb slot (sizes .slots)) (d .0));
+      slot-below = ltb-true slot (sizes .slots) (both-right (ltb page (sizes .pages)) (ltb slot (sizes .slots)) (d .0));
       flying = f .0;
       unwritten = g .0;
       free = h .0;
     }
 
-pub record EraseTests (w P S : ℕ) (v : Volume) (list : List ℕ) : Type 0 where
-  pub fits : Fits w P S v
-  pub listed : listOk S list ≡ true
-  pub permitted : mayEraseAll S (slotAt (v .flash .words)) (stateAt (v .state)) list ≡ true
+pub record EraseTests (w : ℕ) (sizes : Sizes) (v : Volume) (list : List ℕ) : Type 0 where
+  pub fits : Fits w sizes v
+  pub listed : listOk (sizes .slots) list ≡ true
+  pub permitted : mayEraseAll (sizes .slots) (slotAt (v .flash .words)) (stateAt (v .state)) list ≡ true
 
-pub erase-tests : (w P S : ℕ) (v : Volume) (list : List ℕ) → eraseAnswer w P S v list ≡ 0 → EraseTests w P S v list
+pub erase-tests : (w : ℕ) (sizes : Sizes) (v : Volume) (list : List ℕ) → eraseAnswer w sizes v list ≡ 0 → EraseTests w sizes v list
 unfolding eraseAnswer
-erase-tests w P S v list e =
-    let a = held (volumeFits w P S v) _ _ e in
-    let b = held (tableSound P S (slotAt (v .flash .words))) _ _ (a .1) in
-    let c = held (stateSound P (stateAt (v .state))) _ _ (b .1) in
-    let d = held (listOk S list) _ _ (c .1) in
-    let f = held (mayEraseAll S (slotAt (v .flash .words)) (stateAt (v .state)) list) _ _ (d .1) in
-    record { fits = fits-facts w P S v (a .0); listed = d .0; permitted = f .0 }
+erase-tests w sizes v list e =
+    let a = held (volumeFits w sizes v) _ _ e in
+    let b = held (tableSound (sizes .pages) (sizes .slots) (slotAt (v .flash .words))) _ _ (a .1) in
+    let c = held (stateSound (sizes .pages) (stateAt (v .state))) _ _ (b .1) in
+    let d = held (listOk (sizes .slots) list) _ _ (c .1) in
+    let f = held (mayEraseAll (sizes .slots) (slotAt (v .flash .words)) (stateAt (v .state)) list) _ _ (d .1) in
+    record { fits = fits-facts w sizes v (a .0); listed = d .0; permitted = f .0 }

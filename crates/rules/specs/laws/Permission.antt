@@ -3,7 +3,7 @@ use Prim.Native.Nat.{ℕ, _<_}
 use mathlib.Core.Path.{_≡_}
 use mathlib.Core.List.{List}
 use mathlib.Core.Logic.{_⊎_, _↔_}
-use mathlib.Core.Bool.{Bool, true, not, _&&_}
+use mathlib.Core.Bool.{true, not, _&&_}
 use lib.Dec.{ltb, eqb}
 use lib.ListN.{length, getD}
 use Rattle.bounded.specs.Choice.{negated, conjoined, disjoined, below-test, equal-test}
@@ -12,20 +12,10 @@ use Rattle.record.specs.declared.Record.{Record}
 use Rattle.record.specs.declared.Slot.{Slot}
 use Rattle.record.specs.declared.Slot.the-variants.{Holds}
 use Rattle.record.specs.Slot.{someRecord, straddles}
-use Rattle.record.specs.SlotLaws.{Straddles, straddles-exactly, holds-exactly, some-record-at, some-record-of}
+use Rattle.record.specs.SlotLaws.{Straddles, straddles-exactly, holds-exactly, some-record}
 use Rattle.state.specs.declared.PageState.{PageState}
 use Rattle.state.specs.State.{inFlight}
-use Rattle.rules.specs.Permission.{isObsolete, isExposed, outreaches, isShielded, isNeeded, isCurrent, mayEraseRecord, mayErase, mayEraseAll}
-
--- "some record" that passes a test which is exactly Q
-some-record :
-    (S : ℕ) (t : ℕ → Slot) (f : Record → Bool) {Q : Record → Type 0}
-    → ((r : Record) → (f r ≡ true) ↔ Q r)
-    → (someRecord S t f ≡ true) ↔ ((k : ℕ) × (r : Record) × (k < S) × (t k ≡ Holds r) × Q r)
-some-record S t f i = (
-  λ e. let w = some-record-at S t f e in (w .0, w .1, w .2, w .3, i (w .1) .0 (w .4)),
-  λ w. some-record-of S t f (w .0, w .1, w .2, w .3, i (w .1) .1 (w .4)),
-)
+use Rattle.rules.specs.Permission.{isObsolete, isExposed, outdoneBy, supports, isNeeded, isCurrent, mayEraseRecord, mayErase, mayEraseAll}
 
 module _ (S : ℕ) (t : ℕ → Slot) (st : ℕ → PageState) where
   abbrev pub Obsolete : Record → Type 0
@@ -37,32 +27,32 @@ module _ (S : ℕ) (t : ℕ → Slot) (st : ℕ → PageState) where
   -- "no record has the same page and c with a higher v, and some exposed record's link is straddled by K"
   pub record Needed (K : Record) : Type 0 where
     pub furthest : (k : ℕ) (r : Record) → k < S → t k ≡ Holds r → r .p ≡ K .p → r .c ≡ K .c → K .v < r .v → ⊥
-    pub shields : (k : ℕ) × (r : Record) × (k < S) × (t k ≡ Holds r) × (Exposed r × Straddles K r)
+    pub supports : (k : ℕ) × (r : Record) × (k < S) × (t k ≡ Holds r) × (Exposed r × Straddles K r)
 
   -- "an obsolete record that is no needed straddler, or an exposed record other than one whose page is in flight with v = used"
   abbrev pub Erasable : Record → Type 0
   Erasable r = (Obsolete r × ¬ (Needed r)) ⊎ (Exposed r × ¬ ((inFlight (st (r .p)) ≡ true) × (r .v ≡ st (r .p) .used)))
 
   needed-exactly : (K : Record) → (isNeeded S t st K ≡ true) ↔ Needed K
-  unfolding isNeeded outreaches isShielded isExposed
+  unfolding isNeeded outdoneBy supports isExposed
   needed-exactly K = (
-    λ e. let w = i .0 e in record { furthest = λ k r h f p c v. w .0 (k, r, h, f, (p, (c, v))); shields = w .1 },
-    λ n. i .1 (λ w. n .furthest (w .0) (w .1) (w .2) (w .3) (w .4 .0) (w .4 .1 .0) (w .4 .1 .1), n .shields),
+    λ e. let w = i .0 e in record { furthest = λ k r h f p c v. w .0 (k, r, h, f, (p, (c, v))); supports = w .1 },
+    λ n. i .1 (λ w. n .furthest (w .0) (w .1) (w .2) (w .3) (w .4 .0) (w .4 .1 .0) (w .4 .1 .1), n .supports),
   )
     where
-      out : (r : Record) → (outreaches K r ≡ true) ↔ ((r .p ≡ K .p) × ((r .c ≡ K .c) × (K .v < r .v)))
+      out : (r : Record) → (outdoneBy K r ≡ true) ↔ ((r .p ≡ K .p) × ((r .c ≡ K .c) × (K .v < r .v)))
       out r =
           conjoined (eqb (r .p) (K .p)) (eqb (r .c) (K .c) && ltb (K .v) (r .v)) (equal-test (r .p) (K .p))
           (conjoined (eqb (r .c) (K .c)) (ltb (K .v) (r .v)) (equal-test (r .c) (K .c)) (below-test (K .v) (r .v)))
 
-      shield : (r : Record) → (isShielded st K r ≡ true) ↔ (Exposed r × Straddles K r)
-      shield r = conjoined (isExposed st r) (straddles K r) (below-test (st (r .p) .committed) (r .v)) (straddles-exactly K r)
+      support : (r : Record) → (supports st K r ≡ true) ↔ (Exposed r × Straddles K r)
+      support r = conjoined (isExposed st r) (straddles K r) (below-test (st (r .p) .committed) (r .v)) (straddles-exactly K r)
 
       i : (isNeeded S t st K ≡ true) ↔ (¬ ((k : ℕ) × (r : Record) × (k < S) × (t k ≡ Holds r) × ((r .p ≡ K .p) × ((r .c ≡ K .c) × (K .v < r .v)))) × ((k : ℕ) × (r : Record) × (k < S) × (t k ≡ Holds r) × (Exposed r × Straddles K r)))
       i =
-          conjoined (not (someRecord S t (outreaches K))) (someRecord S t (isShielded st K))
-          (negated (someRecord S t (outreaches K)) (some-record S t (outreaches K) out))
-          (some-record S t (isShielded st K) shield)
+          conjoined (not (someRecord S t (outdoneBy K))) (someRecord S t (supports st K))
+          (negated (someRecord S t (outdoneBy K)) (some-record S t (outdoneBy K) out))
+          (some-record S t (supports st K) support)
 
   erasable-exactly : (r : Record) → (mayEraseRecord S t st r ≡ true) ↔ Erasable r
   unfolding mayEraseRecord isObsolete isExposed isCurrent

@@ -11,24 +11,33 @@ use borrow.Author.Tests.{eq-eqb}
 use Rattle.bounded.specs.Below.{someBelow}
 use Rattle.bounded.specs.Choice.{never}
 use Rattle.bounded.specs.BelowLaws.{some-at, some-of, max-above, max-bound}
-use Rattle.outcome.specs.Outcome.{settled-refused, settled-done}
+use Rattle.bounded.specs.Limits.{highestVersion}
+use Rattle.outcome.specs.OutcomeLaws.{settled-refused, settled-done}
+use Rattle.sizes.specs.declared.Sizes.{Sizes}
+use Rattle.sizes.specs.Sizes.{stateFits}
 use Rattle.record.specs.declared.Record.{Record}
 use Rattle.record.specs.declared.Slot.{Slot}
 use Rattle.record.specs.declared.Slot.the-variants.{Blank, Holds}
-use Rattle.record.specs.Slot.{slotAt, recordSound}
-use Rattle.record.specs.SlotLaws.{sound-facts}
+use Rattle.record.specs.Slot.{slotAt, recordSound, straddles}
+use Rattle.record.specs.SlotLaws.{sound-facts, Straddles, straddles-exactly, some-record}
 use Rattle.state.specs.State.{stateWords}
 use Rattle.table.specs.Table.{tableSound, highest, highestVersionOf}
 use Rattle.table.specs.TableLaws.{highest-is, highest-held, sound-at}
-use Rattle.rules.specs.Volume.{stateFits}
 use Rattle.follow.specs.declared.Verdict.the-variants as says
 use Rattle.follow.specs.declared.End.{End}
 use Rattle.follow.specs.declared.End.the-variants as ends
-use Rattle.rules.specs.Verdict.{isStraddled, linkVerdict, slotVerdict, verdict}
 use Rattle.follow.specs.Astray.{RunsIntoRing, astray-exactly}
-use Rattle.rules.specs.Recover.{walkOf, mentioned, usedOf, recovered, recoverAnswer, recoverOutcome}
 use Rattle.follow.specs.Follow.{isAstray}
-use Rattle.bounded.specs.Limits.{highestVersion}
+use Rattle.rules.specs.Verdict.{isStraddled, linkVerdict, slotVerdict, verdict}
+use Rattle.rules.specs.Recover.{walkOf, mentioned, usedOf, recovered, recoverAnswer, recoverOutcome}
+
+-- ---- straddlers
+
+-- "any record straddles J's link", as a proposition: obsolete, committed and exposed records alike
+pub straddled-exactly :
+    (S : ℕ) (t : ℕ → Slot) (J : Record) → (isStraddled S t J ≡ true) ↔ ((k : ℕ) × (K : Record) × (k < S) × (t k ≡ Holds K) × Straddles K J)
+unfolding isStraddled
+straddled-exactly S t J = some-record S t (λ K. straddles K J) (λ K. straddles-exactly K J)
 
 -- ---- verdicts lead to pages
 
@@ -117,19 +126,19 @@ used-most P S t p sound =
 -- ---- recovery reads only the slot table
 
 -- The answer depends on P, S, the slot words and the state's length alone,
-pub recover-answer-reads : (P S : ℕ) (words a b : List ℕ) → length a ≡ length b → recoverAnswer P S words a ≡ recoverAnswer P S words b
+pub recover-answer-reads : (sizes : Sizes) (words a b : List ℕ) → length a ≡ length b → recoverAnswer sizes words a ≡ recoverAnswer sizes words b
 unfolding recoverAnswer stateFits
-recover-answer-reads P S words a b e = rw (recoverAnswer, stateFits, e)
+recover-answer-reads sizes words a b e = rw (recoverAnswer, stateFits, e)
 
 -- and so do the words that an accepted recover fills.
 pub recover-fills :
-    (P S : ℕ) (words a : List ℕ)
-    → recoverAnswer P S words a ≡ 0
-    → recoverOutcome P S words a ≡ record { answer = 0; second = 0; left = stateWords P (recovered P S (slotAt words)) }
+    (sizes : Sizes) (words a : List ℕ)
+    → recoverAnswer sizes words a ≡ 0
+    → recoverOutcome sizes words a ≡ record { answer = 0; second = 0; left = stateWords (sizes .pages) (recovered (sizes .pages) (sizes .slots) (slotAt words)) }
 unfolding recoverOutcome
-recover-fills P S words a e = settled-done (recoverAnswer P S words a) 0 0 a (stateWords P (recovered P S (slotAt words))) e
+recover-fills sizes words a e = settled-done (recoverAnswer sizes words a) 0 0 a (stateWords (sizes .pages) (recovered (sizes .pages) (sizes .slots) (slotAt words))) e
 
 -- A refused recover leaves the state as it was, and its second number is 0.
-pub recover-refused : (P S : ℕ) (words a : List ℕ) → ¬ (recoverAnswer P S words a ≡ 0) → recoverOutcome P S words a ≡ record { answer = recoverAnswer P S words a; second = 0; left = a }
+pub recover-refused : (sizes : Sizes) (words a : List ℕ) → ¬ (recoverAnswer sizes words a ≡ 0) → recoverOutcome sizes words a ≡ record { answer = recoverAnswer sizes words a; second = 0; left = a }
 unfolding recoverOutcome
-recover-refused P S words a h = settled-refused (recoverAnswer P S words a) 0 0 a (stateWords P (recovered P S (slotAt words))) h
+recover-refused sizes words a h = settled-refused (recoverAnswer sizes words a) 0 0 a (stateWords (sizes .pages) (recovered (sizes .pages) (sizes .slots) (slotAt words))) h

@@ -11,10 +11,10 @@ use Rattle.state.proofs.nexts_apart.Statement.{statement}
 use Rattle.state.proofs.nexts_apart.Tie as tie
 
 abbrev Inv-loop : tie.InvT-loop
-Inv-loop state pages page₀ page = (page ≤ pages) × (allBelow page (λ p. allBelow p (λ q. not (shareNext (stateAt state q) (stateAt state p)))) ≡ true)
+Inv-loop pages state page₀ page = (page ≤ pages) × (allBelow page (λ p. allBelow p (λ q. not (shareNext (stateAt state q) (stateAt state p)))) ≡ true)
 
 abbrev μ-loop : tie.MeasureT-loop
-μ-loop state pages page₀ page = pages - page
+μ-loop pages state page₀ page = pages - page
 
 loop-holds : tie.Need-loop-holds Inv-loop μ-loop
 loop-holds c = (omega arith, all-zero _)

@@ -10,10 +10,10 @@ use Rattle.table.proofs.lowest_slot.Tie as tie
 
 -- no slot below k holds the page at the version
 abbrev Inv-loop : tie.InvT-loop
-Inv-loop words slots page version k₀ k = (k ≤ slots) × ((j : ℕ) → j < k → holds (ofVersion page version) (slotAt words j) ≡ false)
+Inv-loop slots words page version k₀ k = (k ≤ slots) × ((j : ℕ) → j < k → holds (ofVersion page version) (slotAt words j) ≡ false)
 
 abbrev μ-loop : tie.MeasureT-loop
-μ-loop words slots page version k₀ k = slots - k
+μ-loop slots words page version k₀ k = slots - k
 
 loop-holds : tie.Need-loop-holds Inv-loop μ-loop
 loop-holds c = (omega arith, λ j h. absurd (omega arith))

@@ -64,7 +64,7 @@ returns-2 c =
     ap (λ (l : List ℕ). set l (r .p) (a .k)) (pre .1 .1 .1 .1)
     ∙ highest-raised _ _ _ _ r holds below
     (ap (λ (s : Slot). above s r)
-    (sym (highest-read (a .slots) (slotAt (a .words .now)) 256 (a .k) (r .p) (a .top .now) below (omega arith) (pre .1 .1 .1 .1)) ∙ sym (c .before .before .named-slot .ensures))
+    (sym (highest-read (a .sizes .slots) (slotAt (a .words .now)) 256 (a .k) (r .p) (a .top .now) below (omega arith) (pre .1 .1 .1 .1)) ∙ sym (c .before .before .named-slot .ensures))
     ∙ sym (c .before .is-above .ensures)
     ∙ c .if1 .taken)
 
@@ -79,7 +79,7 @@ returns-3 c =
     pre .1 .1 .1 .1
     ∙ highest-kept _ _ _ _ r holds
     (ap (λ (s : Slot). above s r)
-    (sym (highest-read (a .slots) (slotAt (a .words .now)) 256 (a .k) (r .p) (a .top .now) below (omega arith) (pre .1 .1 .1 .1)) ∙ sym (c .before .before .named-slot .ensures))
+    (sym (highest-read (a .sizes .slots) (slotAt (a .words .now)) 256 (a .k) (r .p) (a .top .now) below (omega arith) (pre .1 .1 .1 .1)) ∙ sym (c .before .before .named-slot .ensures))
     ∙ sym (c .before .is-above .ensures)
     ∙ c .if1 .left)
 

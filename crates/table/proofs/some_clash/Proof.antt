@@ -10,10 +10,10 @@ use Rattle.table.proofs.some_clash.Statement.{statement}
 use Rattle.table.proofs.some_clash.Tie as tie
 
 abbrev Inv-loop : tie.InvT-loop
-Inv-loop words slots k₀ k = (k ≤ slots) × (someBelow k (λ i. someBelow i (λ j. clash (slotAt words j) (slotAt words i))) ≡ false)
+Inv-loop slots words k₀ k = (k ≤ slots) × (someBelow k (λ i. someBelow i (λ j. clash (slotAt words j) (slotAt words i))) ≡ false)
 
 abbrev μ-loop : tie.MeasureT-loop
-μ-loop words slots k₀ k = slots - k
+μ-loop slots words k₀ k = slots - k
 
 loop-holds : tie.Need-loop-holds Inv-loop μ-loop
 loop-holds c = (omega arith, some-zero _)

@@ -11,10 +11,10 @@ use Rattle.table.proofs.table_sound.Statement.{statement}
 use Rattle.table.proofs.table_sound.Tie as tie
 
 abbrev Inv-loop : tie.InvT-loop
-Inv-loop words pages slots k₀ k = (k ≤ slots) × (allBelow k (λ j. slotSound pages (slotAt words j)) ≡ true)
+Inv-loop sizes words k₀ k = (k ≤ sizes .slots) × (allBelow k (λ j. slotSound (sizes .pages) (slotAt words j)) ≡ true)
 
 abbrev μ-loop : tie.MeasureT-loop
-μ-loop words pages slots k₀ k = slots - k
+μ-loop sizes words k₀ k = sizes .slots - k
 
 loop-holds : tie.Need-loop-holds Inv-loop μ-loop
 loop-holds c = (omega arith, all-zero _)
@@ -28,8 +28,8 @@ is-sound-requires c κs = tt
 returns : tie.Need-returns Inv-loop μ-loop
 unfolding tableSound
 returns c =
-    let a = c .before .before .before .before .before .before .args in
-    sym (all-fails _ _ (c .before .before .before .before .loop .k) (omega arith) (said-no (c .before .is-sound .ensures ∙ ap (slotSound (a .pages)) (c .before .before .slot-at .ensures)) (c .if1 .taken)))
+    let a = c .before .before .before .before .before .before .before .args in
+    sym (all-fails _ _ (c .before .before .before .before .before .loop .k) (omega arith) (said-no (c .before .is-sound .ensures ∙ ap (slotSound (a .sizes .pages)) (c .before .before .slot-at .ensures)) (c .if2 .taken)))
 
 add-k : tie.Need-add-k Inv-loop μ-loop
 add-k c = omega arith
@@ -39,16 +39,16 @@ loop-less c = omega arith
 
 loop-again : tie.Need-loop-again Inv-loop μ-loop
 loop-again c =
-    let a = c .before .before .before .before .before .before .args in (
+    let a = c .before .before .before .before .before .before .before .args in (
       omega arith,
-      all-more _ _ (c .before .before .before .before .loop .inv .1) (said-yes (c .before .is-sound .ensures ∙ ap (slotSound (a .pages)) (c .before .before .slot-at .ensures)) (c .if1 .left)),
+      all-more _ _ (c .before .before .before .before .before .loop .inv .1) (said-yes (c .before .is-sound .ensures ∙ ap (slotSound (a .sizes .pages)) (c .before .before .slot-at .ensures)) (c .if2 .left)),
     )
 
 returns-2 : tie.Need-returns-2 Inv-loop μ-loop
 unfolding tableSound
 returns-2 c =
-    let l = c .before .loop in
-    let e : l .k ≡ c .before .before .before .args .slots = omega arith in
+    let l = c .before .before .loop in
+    let e : l .k ≡ c .before .before .before .before .args .sizes .slots = omega arith in
     sym (rw e at (l .inv .1))
 
 pub table-sound-spec : {M : Type 1} → statement M

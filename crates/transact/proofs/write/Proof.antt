@@ -31,14 +31,14 @@ returns c =
     reply-refused (c .reply .result) (c .before .before .write-answer .result) 0 _ _ _ (c .reply .ensures) (c .before .before .write-answer .ensures) (c .before .if1 .taken)
 
 plan-of-requires : tie.Need-plan-of-requires
-plan-of-requires c κs = write-accepted _ _ _ _ _ _ _ (sym (c .before .before .before .before .write-answer .ensures) ∙ c .before .before .before .if1 .left) .walkable
+plan-of-requires c κs = write-accepted _ _ _ _ _ _ (sym (c .before .before .before .before .write-answer .ensures) ∙ c .before .before .before .if1 .left) .walkable
 
 put-slot-requires : tie.Need-put-slot-requires
 put-slot-requires c κs =
-    let a = write-accepted _ _ _ _ _ _ _ (sym (c .before .before .before .before .before .write-answer .ensures) ∙ c .before .before .before .before .if1 .left) in (a .words-in, a .contents-in)
+    let a = write-accepted _ _ _ _ _ _ (sym (c .before .before .before .before .before .write-answer .ensures) ∙ c .before .before .before .before .if1 .left) in (a .words-in, a .contents-in)
 
 write-page-requires : tie.Need-write-page-requires
-write-page-requires c κs = write-accepted _ _ _ _ _ _ _ (sym (c .before .before .before .before .before .before .before .before .before .before .before .write-answer .ensures) ∙ c .before .before .before .before .before .before .before .before .before .before .if1 .left) .walkable
+write-page-requires c κs = write-accepted _ _ _ _ _ _ (sym (c .before .before .before .before .before .before .before .before .before .before .before .write-answer .ensures) ∙ c .before .before .before .before .before .before .before .before .before .before .if1 .left) .walkable
 
 reply-requires-2 : tie.Need-reply-requires-2
 reply-requires-2 c κs = search needs
@@ -59,9 +59,9 @@ returns-2 c =
     let w = c .before .before .before .before .write-page in
     let flash = c .before .before .before .before .before .before .before .before .before .before .put-slot in
     let plan = c .before .before .before .before .before .before .before .before .before .before .before .plan-of in
-    ap (returned {B = Volume} (c .reply2 .result)) (write-leaves _ _ _ _ _ _ _ z (plan .result) (plan .ensures) (flash .ensures .0) (flash .ensures .1) (w .ensures .1))
+    ap (returned {B = Volume} (c .reply2 .result)) (write-leaves _ _ _ _ _ _ z (plan .result) (plan .ensures) (flash .ensures .0) (flash .ensures .1) (w .ensures .1))
     ∙ reply-done (c .reply2 .result) 0 0 _ _ _
-    (subst (λ (s : ℕ). Replies (c .reply2 .result) 0 s) (sym (write-says _ _ _ _ _ _ _ z true (w .ensures .0) (c .before .if2 .taken))) (c .reply2 .ensures))
+    (subst (λ (s : ℕ). Replies (c .reply2 .result) 0 s) (sym (write-says _ _ _ _ _ _ z true (w .ensures .0) (c .before .if2 .taken))) (c .reply2 .ensures))
     (sym (c .before .before .before .before .before .before .before .before .before .before .before .before .before .before .before .if1 .left) ∙ c .before .before .before .before .before .before .before .before .before .before .before .before .before .before .before .before .write-answer .ensures) refl
 
 reply-requires-3 : tie.Need-reply-requires-3
@@ -83,9 +83,9 @@ returns-3 c =
     let w = c .before .before .before .before .write-page in
     let flash = c .before .before .before .before .before .before .before .before .before .before .put-slot in
     let plan = c .before .before .before .before .before .before .before .before .before .before .before .plan-of in
-    ap (returned {B = Volume} (c .reply3 .result)) (write-leaves _ _ _ _ _ _ _ z (plan .result) (plan .ensures) (flash .ensures .0) (flash .ensures .1) (w .ensures .1))
+    ap (returned {B = Volume} (c .reply3 .result)) (write-leaves _ _ _ _ _ _ z (plan .result) (plan .ensures) (flash .ensures .0) (flash .ensures .1) (w .ensures .1))
     ∙ reply-done (c .reply3 .result) 0 0 _ _ _
-    (subst (λ (s : ℕ). Replies (c .reply3 .result) 0 s) (sym (write-says _ _ _ _ _ _ _ z false (w .ensures .0) (c .before .if2 .left))) (c .reply3 .ensures))
+    (subst (λ (s : ℕ). Replies (c .reply3 .result) 0 s) (sym (write-says _ _ _ _ _ _ z false (w .ensures .0) (c .before .if2 .left))) (c .reply3 .ensures))
     (sym (c .before .before .before .before .before .before .before .before .before .before .before .before .before .before .before .if1 .left) ∙ c .before .before .before .before .before .before .before .before .before .before .before .before .before .before .before .before .write-answer .ensures) refl
 
 pub write-spec : {M : Type 1} → statement M

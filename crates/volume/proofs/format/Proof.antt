@@ -4,13 +4,10 @@ use mathlib.Core.Path.{refl}
 use borrow.Author.Needs.{needs}
 use Rattle.bounded.specs.Choice.{said-no, said-yes}
 use Rattle.outcome.specs.Reply.{reply-refused, reply-done}
-use Rattle.rules.specs.laws.Sizes.{fits-facts}
+use Rattle.rules.specs.laws.Volume.{fits-facts}
 use Rattle.rules.specs.Format.{formatted, formatAnswer, formatOutcome}
 use Rattle.volume.proofs.format.Statement.{statement}
 use Rattle.volume.proofs.format.Tie as tie
-
-cast-volume-fits : tie.Need-cast-volume-fits
-cast-volume-fits c = search needs
 
 volume-fits-requires : tie.Need-volume-fits-requires
 volume-fits-requires c κs = search needs
@@ -34,11 +31,11 @@ returns c =
 
 format-flash-requires : tie.Need-format-flash-requires
 format-flash-requires c κs =
-    let f = fits-facts _ _ _ _ (said-yes (c .before .before .before .volume-fits .ensures) (c .before .before .if1 .left)) in
+    let f = fits-facts _ _ _ (said-yes (c .before .before .before .volume-fits .ensures) (c .before .before .if1 .left)) in
     (f .flash-sized .words-sized, f .flash-sized .contents-sized)
 
 format-state-requires : tie.Need-format-state-requires
-format-state-requires c κs = fits-facts _ _ _ _ (said-yes (c .before .before .before .before .before .before .before .before .before .volume-fits .ensures) (c .before .before .before .before .before .before .before .before .if1 .left)) .state-sized
+format-state-requires c κs = fits-facts _ _ _ (said-yes (c .before .before .before .before .before .before .before .before .before .volume-fits .ensures) (c .before .before .before .before .before .before .before .before .if1 .left)) .state-sized
 
 reply-requires-2 : tie.Need-reply-requires-2
 reply-requires-2 c κs = search needs
@@ -63,7 +60,6 @@ pub format-spec : {M : Type 1} → statement M
 format-spec =
     tie.close
     (tie.spec
-    cast-volume-fits
     volume-fits-requires
     reply-requires
     same-length

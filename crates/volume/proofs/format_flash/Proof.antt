@@ -6,12 +6,13 @@ use lib.ListN.{length}
 use Rattle.bounded.specs.Limits.{width}
 use Rattle.bounded.specs.Parts.{putPart}
 use Rattle.bounded.specs.Fill.{filled, filled-none, filled-more}
+use Rattle.sizes.specs.Sizes.{sizesOf}
 use Rattle.volume.specs.FormatLaws.{freshWords, freshBytes, words-formatted, contents-formatted}
 use Rattle.volume.proofs.format_flash.Statement.{statement}
 use Rattle.volume.proofs.format_flash.Tie as tie
 
 abbrev Inv-loop : tie.InvT-loop
-Inv-loop words₀ contents₀ pages slots k₀ words contents k =
+Inv-loop pages slots words₀ contents₀ k₀ words contents k =
     (k ≤ slots)
     × (words ≡ filled 5 (freshWords pages) k words₀)
     × (contents ≡ filled width (freshBytes width pages) k contents₀)
@@ -19,7 +20,7 @@ Inv-loop words₀ contents₀ pages slots k₀ words contents k =
     × (length contents ≡ length contents₀)
 
 abbrev μ-loop : tie.MeasureT-loop
-μ-loop words₀ contents₀ pages slots k₀ words contents k = slots - k
+μ-loop pages slots words₀ contents₀ k₀ words contents k = slots - k
 
 loop-holds : tie.Need-loop-holds Inv-loop μ-loop
 loop-holds c =
@@ -47,8 +48,8 @@ loop-again c =
       s .ensures .1
           ∙ ap (putPart width (l .k) (freshBytes width (a .pages) (l .k))) (l .inv .2)
           ∙ filled-more width (freshBytes width (a .pages)) (a .contents .now) (l .k),
-      s .kept .0 ∙ l .inv .3,
-      s .kept .1 .0 ∙ l .inv .4,
+      s .kept .1 .0 ∙ l .inv .3,
+      s .kept .1 .1 .0 ∙ l .inv .4,
     )
 
 same-length : tie.Need-same-length Inv-loop μ-loop
@@ -64,10 +65,10 @@ returns c =
     let e : l .k ≡ a .slots = omega arith in (
       l .inv .1
           ∙ ap (λ (n : ℕ). filled 5 (freshWords (a .pages)) n (a .words .now)) e
-          ∙ words-formatted (a .pages) (a .slots) (a .words .now) (c .before .before .before .before .pre .0),
+          ∙ words-formatted (sizesOf (a .pages) (a .slots)) (a .words .now) (c .before .before .before .before .pre .0),
       l .inv .2
           ∙ ap (λ (n : ℕ). filled width (freshBytes width (a .pages)) n (a .contents .now)) e
-          ∙ contents-formatted width (a .pages) (a .slots) (a .contents .now) (c .before .before .before .before .pre .1),
+          ∙ contents-formatted width (sizesOf (a .pages) (a .slots)) (a .contents .now) (c .before .before .before .before .pre .1),
     )
 
 pub format-flash-spec : {M : Type 1} → statement M

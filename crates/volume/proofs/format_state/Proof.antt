@@ -5,9 +5,10 @@ use mathlib.Core.Path.{_≡_, refl, ap, _∙_}
 use mathlib.Core.List.{List}
 use lib.ListN.{length}
 use Rattle.bounded.specs.Parts.{putPart}
+use Rattle.bounded.specs.Fill.{filled, filled-none, filled-more}
+use Rattle.state.specs.declared.PageState.{PageState}
 use Rattle.state.specs.State.{pageWords}
 use Rattle.state.specs.Change.{atRest, freshState}
-use Rattle.bounded.specs.Fill.{filled, filled-none, filled-more}
 use Rattle.volume.specs.FormatLaws.{state-filled}
 use Rattle.volume.proofs.format_state.Statement.{statement}
 use Rattle.volume.proofs.format_state.Tie as tie
@@ -16,13 +17,16 @@ freshPage : ℕ → List ℕ
 freshPage p = pageWords (freshState p)
 
 abbrev Inv-loop : tie.InvT-loop
-Inv-loop state₀ pages p₀ state p = (p ≤ pages) × (state ≡ filled 4 freshPage p state₀) × (length state ≡ length state₀)
+Inv-loop pages state₀ p₀ state p = (p ≤ pages) × (state ≡ filled 4 freshPage p state₀) × (length state ≡ length state₀)
 
 abbrev μ-loop : tie.MeasureT-loop
-μ-loop state₀ pages p₀ state p = pages - p
+μ-loop pages state₀ p₀ state p = pages - p
 
 loop-holds : tie.Need-loop-holds Inv-loop μ-loop
 loop-holds c = (omega arith, filled-none 4 freshPage _, refl)
+
+at-rest-requires : tie.Need-at-rest-requires Inv-loop μ-loop
+at-rest-requires c κs = tt
 
 put-page-requires : tie.Need-put-page-requires Inv-loop μ-loop
 put-page-requires c κs = omega arith
@@ -36,11 +40,11 @@ loop-less c = omega arith
 loop-again : tie.Need-loop-again Inv-loop μ-loop
 unfolding freshPage freshState atRest
 loop-again c =
-    let a = c .before .before .before .before .before .before .before .args in
-    let l = c .before .before .before .before .before .loop in
+    let a = c .before .before .before .before .before .before .before .before .args in
+    let l = c .before .before .before .before .before .before .loop in
     let s = c .before .before .put-page in (
       omega arith,
-      s .ensures ∙ ap (putPart 4 (l .p) (freshPage (l .p))) (l .inv .1) ∙ filled-more 4 freshPage (a .state .now) (l .p),
+      s .ensures ∙ ap (λ (x : PageState). putPart 4 (l .p) (pageWords x) (l .state)) (c .before .before .before .at-rest .ensures) ∙ ap (putPart 4 (l .p) (freshPage (l .p))) (l .inv .1) ∙ filled-more 4 freshPage (a .state .now) (l .p),
       s .kept .0 ∙ l .inv .2,
     )
 
@@ -62,6 +66,7 @@ format-state-spec =
     Inv-loop
     μ-loop
     loop-holds
+    at-rest-requires
     put-page-requires
     add-p
     loop-less

@@ -5,19 +5,22 @@ use Rattle.rules.specs.Volume.{volumeFits}
 use Rattle.volume.proofs.volume_fits.Statement.{statement}
 use Rattle.volume.proofs.volume_fits.Tie as tie
 
-sizes-ok-requires : tie.Need-sizes-ok-requires
-sizes-ok-requires c κs = search needs
+are-ok-requires : tie.Need-are-ok-requires
+are-ok-requires c κs = search needs
 
 returns : tie.Need-returns
 unfolding volumeFits
-returns c = rw (said-no (c .before .sizes-ok .ensures) (c .if1 .taken))
+returns c = rw (said-no (c .before .are-ok .ensures) (c .if1 .taken))
 
 words-fit-requires : tie.Need-words-fit-requires
 words-fit-requires c κs = search needs
 
 returns-2 : tie.Need-returns-2
 unfolding volumeFits
-returns-2 c = rw (said-yes (c .before .before .before .sizes-ok .ensures) (c .before .before .if1 .left), said-no (c .before .words-fit .ensures) (c .if2 .taken))
+returns-2 c = rw (said-yes (c .before .before .before .are-ok .ensures) (c .before .before .if1 .left), said-no (c .before .words-fit .ensures) (c .if2 .taken))
+
+cast-contents-fit : tie.Need-cast-contents-fit
+cast-contents-fit c = search needs
 
 contents-fit-requires : tie.Need-contents-fit-requires
 contents-fit-requires c κs = search needs
@@ -26,7 +29,7 @@ returns-3 : tie.Need-returns-3
 unfolding volumeFits
 returns-3 c =
     rw
-    (said-yes (c .before .before .before .before .before .sizes-ok .ensures) (c .before .before .before .before .if1 .left), said-yes (c .before .before .before .words-fit .ensures) (c .before .before .if2 .left), said-no (c .before .contents-fit .ensures) (c .if3 .taken))
+    (said-yes (c .before .before .before .before .before .are-ok .ensures) (c .before .before .before .before .if1 .left), said-yes (c .before .before .before .words-fit .ensures) (c .before .before .if2 .left), said-no (c .before .contents-fit .ensures) (c .if3 .taken))
 
 state-fits-requires : tie.Need-state-fits-requires
 state-fits-requires c κs = search needs
@@ -35,17 +38,18 @@ returns-4 : tie.Need-returns-4
 unfolding volumeFits
 returns-4 c =
     rw
-    (said-yes (c .before .before .before .before .before .before .sizes-ok .ensures) (c .before .before .before .before .before .if1 .left), said-yes (c .before .before .before .before .words-fit .ensures) (c .before .before .before .if2 .left), said-yes (c .before .before .contents-fit .ensures) (c .before .if3 .left))
+    (said-yes (c .before .before .before .before .before .before .are-ok .ensures) (c .before .before .before .before .before .if1 .left), said-yes (c .before .before .before .before .words-fit .ensures) (c .before .before .before .if2 .left), said-yes (c .before .before .contents-fit .ensures) (c .before .if3 .left))
     (c .state-fits .ensures)
 
 pub volume-fits-spec : {M : Type 1} → statement M
 volume-fits-spec =
     tie.close
     (tie.spec
-    sizes-ok-requires
+    are-ok-requires
     returns
     words-fit-requires
     returns-2
+    cast-contents-fit
     contents-fit-requires
     returns-3
     state-fits-requires

@@ -4,18 +4,18 @@ use native.Mathlib.Omega.{arith}
 use mathlib.Core.Path.{_≡_, refl, ap, _∙_}
 use mathlib.Core.List.{List}
 use lib.ListN.{length, set, getD, length-set}
-use Rattle.record.specs.CopyLaws.{copied, copied-none, copied-more, copied-all}
+use Rattle.bounded.specs.Entries.{stored, stored-none, stored-more, stored-all}
 use Rattle.record.proofs.flash.copy_contents.Statement.{statement}
 use Rattle.record.proofs.flash.copy_contents.Tie as tie
 
 abbrev Inv-loop : tie.InvT-loop
-Inv-loop to₀ from i₀ to i = (i ≤ length from) × (to ≡ copied to₀ from i) × (length to ≡ length to₀)
+Inv-loop to₀ from i₀ to i = (i ≤ length from) × (to ≡ stored (λ j. getD from j 0) i to₀) × (length to ≡ length to₀)
 
 abbrev μ-loop : tie.MeasureT-loop
 μ-loop to₀ from i₀ to i = length from - i
 
 loop-holds : tie.Need-loop-holds Inv-loop μ-loop
-loop-holds c = (omega arith, copied-none (c .args .to .now) (c .args .from .now), refl)
+loop-holds c = (omega arith, stored-none _ (c .args .to .now), refl)
 
 shared-slice-read-to : tie.Need-shared-slice-read-to Inv-loop μ-loop
 shared-slice-read-to c = omega arith
@@ -34,7 +34,7 @@ loop-again c =
     let l = c .before .before .loop in
     let a = c .before .before .before .args in (
       omega arith,
-      ap (λ (x : List ℕ). set x (l .i) (getD (a .from .now) (l .i) 0)) (l .inv .1) ∙ copied-more (a .to .now) (a .from .now) (l .i) (omega arith) (omega arith),
+      ap (λ (x : List ℕ). set x (l .i) (getD (a .from .now) (l .i) 0)) (l .inv .1) ∙ stored-more (λ (j : ℕ). getD (a .from .now) j 0) (a .to .now) (l .i),
       simp length-set (l .inv .2),
     )
 
@@ -45,7 +45,7 @@ returns : tie.Need-returns Inv-loop μ-loop
 returns c =
     let l = c .before .loop in
     let a = c .before .before .args in
-    l .inv .1 ∙ copied-all (a .to .now) (a .from .now) (l .i) (c .before .before .pre) (omega arith)
+    l .inv .1 ∙ stored-all (λ (j : ℕ). getD (a .from .now) j 0) (a .to .now) (a .from .now) (l .i) (c .before .before .pre) (omega arith) (λ j h. refl)
 
 pub copy-contents-spec : {M : Type 1} → statement M
 copy-contents-spec =

@@ -3,8 +3,8 @@ use mathlib.Core.Path.{_≡_, sym, ap, ap₂, _∙_}
 use lib.ListN.{set}
 use Rattle.record.specs.Slot.{slotAt}
 use Rattle.follow.specs.declared.Walk.{Walk}
-use Rattle.rules.specs.Recover.{walkOf, committedBy, committedOf}
 use Rattle.follow.specs.Follow.{isAstray}
+use Rattle.rules.specs.Recover.{walkOf, committedBy, committedOf}
 use Rattle.recovery.specs.Tables.{codes-inside, codes-walk}
 use Rattle.recovery.proofs.committed.commit_page.Statement.{statement}
 use Rattle.recovery.proofs.committed.commit_page.Tie as tie
@@ -35,7 +35,7 @@ returns c =
     let f = c .before .before .before in
     let pre = f .before .before .pre in
     let a = f .before .before .args in
-    let walked : f .follow-from .result ≡ walkOf (a .pages) (a .slots) (slotAt (a .words .now)) (a .page) =
+    let walked : f .follow-from .result ≡ walkOf (a .sizes .pages) (a .sizes .slots) (slotAt (a .words .now)) (a .page) =
     f .follow-from .ensures ∙ sym (codes-walk _ _ _ _ (pre .0) _ (pre .1 .1) _ (pre .1 .0)) in
     let ended = ap (λ (w : Walk). w .end) walked in (
       c .is-astray .ensures ∙ ap isAstray ended,

@@ -13,10 +13,10 @@ use Rattle.recovery.proofs.committed.versions_present.Statement.{statem
 use Rattle.recovery.proofs.committed.versions_present.Tie as tie
 
 abbrev Inv-loop : tie.InvT-loop
-Inv-loop words pages slots versions page₀ page = (page ≤ pages) × (allBelow page (λ p. hasVersion slots (slotAt words) p (getD versions p 0)) ≡ true)
+Inv-loop sizes words versions page₀ page = (page ≤ sizes .pages) × (allBelow page (λ p. hasVersion (sizes .slots) (slotAt words) p (getD versions p 0)) ≡ true)
 
 abbrev μ-loop : tie.MeasureT-loop
-μ-loop words pages slots versions page₀ page = pages - page
+μ-loop sizes words versions page₀ page = sizes .pages - page
 
 loop-holds : tie.Need-loop-holds Inv-loop μ-loop
 loop-holds c = (omega arith, all-zero _)
@@ -36,9 +36,9 @@ lowest-slot-requires c κs = omega arith
 returns : tie.Need-returns Inv-loop μ-loop
 unfolding hasVersion
 returns c =
-    let a = c .before .before .before .before .before .before .args in
-    sym (all-fails _ _ (c .before .before .before .before .loop .page) (c .before .before .before .loop-test .taken)
-    (ap (λ (x : ℕ). ltb x (a .slots)) (sym (c .before .lowest-slot .ensures)) ∙ le-ltb _ _ (c .if1 .taken)))
+    let a = c .before .before .before .before .before .before .before .before .args in
+    sym (all-fails _ _ (c .before .before .before .before .before .before .loop .page) (c .before .before .before .before .if1 .taken)
+    (ap (λ (x : ℕ). ltb x (a .sizes .slots)) (sym (c .before .before .lowest-slot .ensures)) ∙ le-ltb _ _ (c .if2 .taken)))
 
 add-page : tie.Need-add-page Inv-loop μ-loop
 add-page c = omega arith
@@ -49,16 +49,16 @@ loop-less c = omega arith
 loop-again : tie.Need-loop-again Inv-loop μ-loop
 unfolding hasVersion
 loop-again c =
-    let a = c .before .before .before .before .before .before .args in (
+    let a = c .before .before .before .before .before .before .before .before .args in (
       omega arith,
-      all-more _ _ (c .before .before .before .before .loop .inv .1)
-          (ap (λ (x : ℕ). ltb x (a .slots)) (sym (c .before .lowest-slot .ensures)) ∙ lt-ltb _ _ (c .if1 .left)),
+      all-more _ _ (c .before .before .before .before .before .before .loop .inv .1)
+          (ap (λ (x : ℕ). ltb x (a .sizes .slots)) (sym (c .before .before .lowest-slot .ensures)) ∙ lt-ltb _ _ (c .if2 .left)),
     )
 
 returns-2 : tie.Need-returns-2 Inv-loop μ-loop
 returns-2 c =
-    let l = c .before .loop in
-    let e : l .page ≡ c .before .before .before .args .pages = omega arith in
+    let l = c .before .before .loop in
+    let e : l .page ≡ c .before .before .before .before .args .sizes .pages = omega arith in
     sym (rw e at (l .inv .1))
 
 pub versions-present-spec : {M : Type 1} → statement M

@@ -4,11 +4,11 @@ use mathlib.Core.Path.{_≡_, refl, ap, _∙_}
 use mathlib.Core.List.{List}
 use lib.ListN.{length, getD}
 use Rattle.bounded.specs.Parts.{putPart}
+use Rattle.bounded.specs.Fill.{filled, filled-none, filled-more, filled-all}
 use Rattle.state.specs.declared.PageState.{PageState}
 use Rattle.state.specs.State.{pageWords, stateWords}
 use Rattle.state.specs.StateLaws.{length-pageWords}
 use Rattle.state.specs.Change.{atRest}
-use Rattle.bounded.specs.Fill.{filled, filled-none, filled-more, filled-all}
 use Rattle.recovery.proofs.fill.store_pages.Statement.{statement}
 use Rattle.recovery.proofs.fill.store_pages.Tie as tie
 
@@ -24,17 +24,20 @@ loop-holds c = (omega arith, refl, filled-none _ _ _)
 cast-p : tie.Need-cast-p Inv-loop μ-loop
 cast-p c = omega arith
 
-mul-t9 : tie.Need-mul-t9 Inv-loop μ-loop
-mul-t9 c = omega arith
+mul-at-rest : tie.Need-mul-at-rest Inv-loop μ-loop
+mul-at-rest c = omega arith
 
-element-copy-out-t12 : tie.Need-element-copy-out-t12 Inv-loop μ-loop
-element-copy-out-t12 c = omega arith
+element-copy-out-at-rest : tie.Need-element-copy-out-at-rest Inv-loop μ-loop
+element-copy-out-at-rest c = omega arith
 
-mul-t13 : tie.Need-mul-t13 Inv-loop μ-loop
-mul-t13 c = omega arith
+mul-at-rest-2 : tie.Need-mul-at-rest-2 Inv-loop μ-loop
+mul-at-rest-2 c = omega arith
 
-element-copy-out-t16 : tie.Need-element-copy-out-t16 Inv-loop μ-loop
-element-copy-out-t16 c = omega arith
+element-copy-out-at-rest-2 : tie.Need-element-copy-out-at-rest-2 Inv-loop μ-loop
+element-copy-out-at-rest-2 c = omega arith
+
+at-rest-requires : tie.Need-at-rest-requires Inv-loop μ-loop
+at-rest-requires c κs = tt
 
 put-page-requires : tie.Need-put-page-requires Inv-loop μ-loop
 put-page-requires c κs = omega arith
@@ -48,13 +51,13 @@ loop-less c = omega arith
 loop-again : tie.Need-loop-again Inv-loop μ-loop
 unfolding atRest
 loop-again c =
-    let b = c .before .before .before .before .before .before in
+    let b = c .before .before .before .before .before .before .before in
     let a = b .before .before .before .args in
     let l = b .before .loop in
     let rest : PageState = atRest (getD (a .committed .now) (l .page) 0) (getD (a .used .now) (l .page) 0) in (
       omega arith,
       c .before .before .put-page .kept .0 ∙ l .inv .1,
-      c .before .before .put-page .ensures ∙ ap (putPart 4 (l .page) (pageWords rest)) (l .inv .2) ∙ filled-more 4 _ _ (l .page),
+      c .before .before .put-page .ensures ∙ ap (λ (s : PageState). putPart 4 (l .page) (pageWords s) (l .state)) (c .before .before .before .at-rest .ensures) ∙ ap (putPart 4 (l .page) (pageWords rest)) (l .inv .2) ∙ filled-more 4 _ _ (l .page),
     )
 
 same-length : tie.Need-same-length Inv-loop μ-loop
@@ -79,10 +82,11 @@ store-pages-spec =
     μ-loop
     loop-holds
     cast-p
-    mul-t9
-    element-copy-out-t12
-    mul-t13
-    element-copy-out-t16
+    mul-at-rest
+    element-copy-out-at-rest
+    mul-at-rest-2
+    element-copy-out-at-rest-2
+    at-rest-requires
     put-page-requires
     add-page
     loop-less

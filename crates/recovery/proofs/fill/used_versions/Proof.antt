@@ -2,17 +2,17 @@ use native.Mathlib.Omega.{arith}
 use Prim.Native.Nat.{_≤_, _-_}
 use mathlib.Core.Path.{_≡_, refl}
 use Rattle.bounded.specs.Below.{maxBelow}
-use Rattle.record.specs.Slot.{slotAt}
 use Rattle.bounded.specs.Tabulate.{tabulate, tabulate-same}
+use Rattle.record.specs.Slot.{slotAt}
 use Rattle.rules.specs.Recover.{usedOf}
 use Rattle.recovery.proofs.fill.used_versions.Statement.{statement}
 use Rattle.recovery.proofs.fill.used_versions.Tie as tie
 
 abbrev Inv-loop : tie.InvT-loop
-Inv-loop words pages slots used₀ k₀ used k = (k ≤ slots) × (used ≡ tabulate 256 (usedOf k (slotAt words)))
+Inv-loop sizes words used₀ k₀ used k = (k ≤ (sizes .slots)) × (used ≡ tabulate 256 (usedOf k (slotAt words)))
 
 abbrev μ-loop : tie.MeasureT-loop
-μ-loop words pages slots used₀ k₀ used k = slots - k
+μ-loop sizes words used₀ k₀ used k = (sizes .slots) - k
 
 loop-holds : tie.Need-loop-holds Inv-loop μ-loop
 unfolding usedOf maxBelow
@@ -20,8 +20,8 @@ loop-holds c = (omega arith, tabulate-same 256 0 _ (λ i h. refl))
 
 raise-mentioned-requires : tie.Need-raise-mentioned-requires Inv-loop μ-loop
 raise-mentioned-requires c κs =
-    let pre = c .before .before .before .before .before .pre in
-    (pre .0, (pre .1 .0, (c .before .loop-test .taken, (pre .1 .1, c .before .before .loop .inv .1))))
+    let pre = c .before .before .before .before .before .before .pre in
+    (pre .0, (pre .1 .0, (c .before .if1 .taken, (pre .1 .1, c .before .before .before .loop .inv .1))))
 
 add-k : tie.Need-add-k Inv-loop μ-loop
 add-k c = omega arith
@@ -34,8 +34,8 @@ loop-again c = (omega arith, c .raise-mentioned .ensures)
 
 returns : tie.Need-returns Inv-loop μ-loop
 returns c =
-    let l = c .before .loop in
-    let e : l .k ≡ c .before .before .before .before .args .slots = omega arith in
+    let l = c .before .before .loop in
+    let e : l .k ≡ c .before .before .before .before .before .args .sizes .slots = omega arith in
     rw e at (l .inv .1)
 
 pub used-versions-spec : {M : Type 1} → statement M

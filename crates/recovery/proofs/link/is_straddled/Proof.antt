@@ -11,10 +11,10 @@ use Rattle.recovery.proofs.link.is_straddled.Statement.{statement}
 use Rattle.recovery.proofs.link.is_straddled.Tie as tie
 
 abbrev Inv-loop : tie.InvT-loop
-Inv-loop words slots link k₀ k = (k ≤ slots) × (someBelow k (λ j. holds (λ K. straddles K link) (slotAt words j)) ≡ false)
+Inv-loop slots words link k₀ k = (k ≤ slots) × (someBelow k (λ j. holds (λ K. straddles K link) (slotAt words j)) ≡ false)
 
 abbrev μ-loop : tie.MeasureT-loop
-μ-loop words slots link k₀ k = slots - k
+μ-loop slots words link k₀ k = slots - k
 
 loop-holds : tie.Need-loop-holds Inv-loop μ-loop
 loop-holds c = (omega arith, some-zero _)

@@ -2,9 +2,10 @@ use native.Mathlib.Omega.{arith}
 use Prim.Native.Nat.{ℕ, _≤_, _-_}
 use mathlib.Core.Path.{_≡_, ap, _∙_}
 use mathlib.Core.List.{List}
-use lib.ListN.{set}
+use lib.ListN.{set, replicate}
+use Rattle.bounded.specs.Entries.{stored, stored-none, stored-more}
+use Rattle.bounded.specs.Tabulate.{tabulated-stored}
 use Rattle.record.specs.Slot.{slotAt}
-use Rattle.bounded.specs.Tabulate.{tabulatedTo, tabulated-none, tabulated-more, tabulated-all}
 use Rattle.follow.specs.Codes.{codeOf}
 use Rattle.rules.specs.Verdict.{verdict}
 use Rattle.recovery.specs.Tables.{code-beyond}
@@ -12,17 +13,17 @@ use Rattle.recovery.proofs.link.verdict_codes.Statement.{statement}
 use Rattle.recovery.proofs.link.verdict_codes.Tie as tie
 
 abbrev Inv-loop : tie.InvT-loop
-Inv-loop words pages slots top codes₀ page₀ codes page = (page ≤ pages) × (codes ≡ tabulatedTo 256 (λ p. codeOf (verdict slots (slotAt words) p)) 257 page)
+Inv-loop sizes words top codes₀ page₀ codes page = (page ≤ sizes .pages) × (codes ≡ stored (λ p. codeOf (verdict (sizes .slots) (slotAt words) p)) page (replicate 256 257))
 
 abbrev μ-loop : tie.MeasureT-loop
-μ-loop words pages slots top codes₀ page₀ codes page = pages - page
+μ-loop sizes words top codes₀ page₀ codes page = sizes .pages - page
 
 loop-holds : tie.Need-loop-holds Inv-loop μ-loop
-loop-holds c = (omega arith, tabulated-none 256 _ 257)
+loop-holds c = (omega arith, stored-none _ (replicate 256 257))
 
 verdict-of-requires : tie.Need-verdict-of-requires Inv-loop μ-loop
 verdict-of-requires c κs =
-    let pre = c .before .before .before .before .pre in
+    let pre = c .before .before .before .before .before .pre in
     (pre, omega arith)
 
 code-requires : tie.Need-code-requires Inv-loop μ-loop
@@ -45,23 +46,23 @@ loop-less c = omega arith
 
 loop-again : tie.Need-loop-again Inv-loop μ-loop
 loop-again c =
-    let l = c .before .before .before .loop in
-    let a = c .before .before .before .before .before .before .args in
-    let pre = c .before .before .before .before .before .before .pre in
-    let f : ℕ → ℕ = λ p. codeOf (verdict (a .slots) (slotAt (a .words .now)) p) in (
+    let l = c .before .before .before .before .loop in
+    let a = c .before .before .before .before .before .before .before .args in
+    let pre = c .before .before .before .before .before .before .before .pre in
+    let f : ℕ → ℕ = λ p. codeOf (verdict (a .sizes .slots) (slotAt (a .words .now)) p) in (
       omega arith,
       ap (λ (x : List ℕ). set x (l .page) (c .code .result)) (l .inv .1)
-          ∙ ap (set (tabulatedTo 256 f 257 (l .page)) (l .page)) (c .code .ensures ∙ ap codeOf (c .before .verdict-of .ensures))
-          ∙ tabulated-more 256 f 257 (l .page) (let m = pre .pages-most in omega arith),
+          ∙ ap (set (stored f (l .page) (replicate 256 257)) (l .page)) (c .code .ensures ∙ ap codeOf (c .before .verdict-of .ensures))
+          ∙ stored-more f (replicate 256 257) (l .page),
     )
 
 returns : tie.Need-returns Inv-loop μ-loop
 returns c =
-    let l = c .before .loop in
-    let a = c .before .before .before .before .args in
-    let f : ℕ → ℕ = λ p. codeOf (verdict (a .slots) (slotAt (a .words .now)) p) in
-    let e : l .page ≡ a .pages = omega arith in
-    l .inv .1 ∙ ap (tabulatedTo 256 f 257) e ∙ tabulated-all 256 f 257 (a .pages) (code-beyond _ _ _ _ (c .before .before .before .before .pre))
+    let l = c .before .before .loop in
+    let a = c .before .before .before .before .before .args in
+    let f : ℕ → ℕ = λ p. codeOf (verdict (a .sizes .slots) (slotAt (a .words .now)) p) in
+    let e : l .page ≡ a .sizes .pages = omega arith in
+    l .inv .1 ∙ ap (λ (n : ℕ). stored f n (replicate 256 257)) e ∙ tabulated-stored 256 f 257 (a .sizes .pages) (c .before .before .before .before .before .pre .pages-most) (code-beyond _ _ _ _ (c .before .before .before .before .before .pre))
 
 pub verdict-codes-spec : {M : Type 1} → statement M
 verdict-codes-spec =

@@ -20,7 +20,7 @@ returns : tie.Need-returns
 unfolding verdict slotVerdict
 returns c =
     let a = c .before .before .before .before .args in
-    sym (ap (slotVerdict (a .slots) (slotAt (a .words .now))) (sym (c .before .before .highest-of .ensures) ∙ c .enum-told .given .1))
+    sym (ap (slotVerdict (a .sizes .slots) (slotAt (a .words .now))) (sym (c .before .before .highest-of .ensures) ∙ c .enum-told .given .1))
 
 link-verdict-requires : tie.Need-link-verdict-requires
 link-verdict-requires c κs =
@@ -33,7 +33,7 @@ unfolding verdict slotVerdict
 returns-2 c =
     let a = c .before .before .before .before .before .before .args in
     c .link-verdict .ensures
-    ∙ sym (ap (slotVerdict (a .slots) (slotAt (a .words .now))) (sym (c .before .before .before .before .highest-of .ensures) ∙ c .before .before .link .given .1))
+    ∙ sym (ap (slotVerdict (a .sizes .slots) (slotAt (a .words .now))) (sym (c .before .before .before .before .highest-of .ensures) ∙ c .before .before .link .given .1))
 
 pub verdict-of-spec : {M : Type 1} → statement M
 verdict-of-spec =

@@ -1,10 +1,10 @@
 -- `state::cycle::completes` meets its contract. The loop's invariant: the pages from behind the page up to the walk's are written. The measure: the steps left of the lap.
 use native.Mathlib.Omega.{arith}
 use mathlib.Core.Path.{sym}
+use Rattle.bounded.specs.Choice.{said-yes, said-no}
 use Rattle.state.specs.State.{stateAt}
 use Rattle.state.specs.Walk.{pagesIn, left, Searching}
 use Rattle.state.specs.CompletionLaws.{searching-starts, searching-below, searching-more, searching-less, searching-fails, searching-ends}
-use Rattle.bounded.specs.Choice.{said-yes, said-no}
 use Rattle.state.proofs.cycle.completes.Statement.{statement}
 use Rattle.state.proofs.cycle.completes.Tie as tie
 

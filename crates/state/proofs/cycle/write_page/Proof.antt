@@ -23,8 +23,8 @@ returns c =
 page-at-requires : tie.Need-page-at-requires
 page-at-requires c κs = omega arith
 
-marked-requires : tie.Need-marked-requires
-marked-requires c κs = tt
+written-page-requires : tie.Need-written-page-requires
+written-page-requires c κs = tt
 
 put-page-requires : tie.Need-put-page-requires
 put-page-requires c κs = omega arith
@@ -36,7 +36,7 @@ returns-2 : tie.Need-returns-2
 returns-2 c =
     let not-done = sym (c .before .before .before .before .before .before .before .before .completes .ensures) ∙ c .before .before .before .before .before .before .before .if1 .left in
     let read = c .before .before .before .before .before .page-at .ensures in
-    let made = c .before .before .before .marked .ensures in
+    let made = c .before .before .before .written-page .ensures in
     (sym not-done, written-not _ _ _ (c .before .before .before .before .before .before .before .before .before .before .before .pre) not-done _ _ _ read made (c .before .before .put-page .ensures))
 
 pub write-page-spec : {M : Type 1} → statement M
@@ -48,7 +48,7 @@ write-page-spec =
     same-length
     returns
     page-at-requires
-    marked-requires
+    written-page-requires
     put-page-requires
     same-length-2
     returns-2)

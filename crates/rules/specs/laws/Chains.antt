@@ -1,0 +1,193 @@
+-- The refusal chains in two parts: the conditions that several calls share, and each call's own behind them.
+use Prim.Native.Nat.{ℕ, _*_, _≤_}
+use native.Mathlib.Omega.{arith}
+use mathlib.Core.Path.{_≡_, sym, ap, _∙_}
+use mathlib.Core.List.{List}
+use mathlib.Core.Bool.{Bool, true, not, _&&_}
+use lib.Dec.{ltb, eqb}
+use lib.ListN.{length}
+use borrow.Author.Tests.{eqb-true}
+use Rattle.bounded.specs.Choice.{both-left, both-right}
+use Rattle.bounded.specs.Below.{someBelow}
+use Rattle.outcome.specs.Outcome.{_⇒_otherwise_}
+use Rattle.outcome.specs.OutcomeLaws.{held}
+use Rattle.outcome.specs.Chain.{firstOf, first-refuses, first-passes, split-two, split-three}
+use Rattle.sizes.specs.declared.Sizes.{Sizes}
+use Rattle.sizes.specs.Sizes.{sizesOk, wordsFit, stateFits, listOk}
+use Rattle.sizes.specs.SizesLaws.{words-fit-exactly, state-fits-exactly}
+use Rattle.record.specs.Slot.{slotAt, isBlank}
+use Rattle.state.specs.declared.PageState.{PageState}
+use Rattle.state.specs.State.{stateAt, inFlight, isWritten, stateSound}
+use Rattle.table.specs.Table.{tableSound, hasVersion}
+use Rattle.rules.specs.Volume.{Volume, volumeFits}
+use Rattle.rules.specs.laws.Volume.{Fits, fits-facts}
+use Rattle.rules.specs.Launch.{somePage, usedUp, launchAnswer}
+use Rattle.rules.specs.Write.{writeAnswer}
+use Rattle.rules.specs.Withdraw.{withdrawAnswer}
+use Rattle.rules.specs.Permission.{mayErase, mayEraseAll}
+use Rattle.rules.specs.Erase.{eraseAnswer}
+use Rattle.rules.specs.Suggest.{suggestAnswer}
+use Rattle.rules.specs.Read.{readAnswer}
+
+-- ---- the shared parts
+
+-- 1, 2 and 5 of the calls on a whole volume: the lengths, the slots, the state
+unfoldable pub judged : (fits : Bool) (P S : ℕ) (words state : List ℕ) → ℕ
+judged fits P S words state =
+    not fits ⇒ 1 otherwise
+    not (tableSound P S (slotAt words)) ⇒ 2 otherwise
+    not (stateSound P (stateAt state)) ⇒ 5 otherwise
+    0
+
+-- 1 and 5 of the calls on the state alone
+unfoldable pub stateJudged : (sizes : Sizes) (state : List ℕ) → ℕ
+stateJudged sizes state =
+    not (sizesOk sizes && stateFits (sizes .pages) state) ⇒ 1 otherwise
+    not (stateSound (sizes .pages) (stateAt state)) ⇒ 5 otherwise
+    0
+
+-- what a volume has that is judged and passes
+pub record Judged (fits : Bool) (P S : ℕ) (words state : List ℕ) : Type 0 where
+  pub fitting : fits ≡ true
+  pub table : tableSound P S (slotAt words) ≡ true
+  pub sound : stateSound P (stateAt state) ≡ true
+
+pub judged-passed : (fits : Bool) (P S : ℕ) (words state : List ℕ) → judged fits P S words state ≡ 0 → Judged fits P S words state
+unfolding judged
+judged-passed fits P S words state e =
+    let a = held fits _ _ e in
+    let b = held (tableSound P S (slotAt words)) _ _ (a .1) in
+    let c = held (stateSound P (stateAt state)) _ _ (b .1) in
+    record { fitting = a .0; table = b .0; sound = c .0 }
+
+-- an answer in two parts, by what the shared one said; the code's test of lengths is `fits`, the definition's `test`
+module _ (answer own : ℕ) (fits test : Bool) (P S : ℕ) (words state : List ℕ) (chain : answer ≡ firstOf (judged test P S words state) own) (same : fits ≡ test) (n : ℕ) (said : n ≡ judged fits P S words state) where
+  first-is : n ≡ judged test P S words state
+  first-is = said ∙ ap (λ (b : Bool). judged b P S words state) same
+
+  pub judged-refuses : ¬ (n ≡ 0) → n ≡ answer
+  judged-refuses h = first-refuses n own first-is h ∙ sym chain
+
+  pub judged-passes : n ≡ 0 → {m : ℕ} → m ≡ own → m ≡ answer
+  judged-passes z {m} e = first-passes n m first-is z e ∙ sym chain
+
+pub record StateJudged (P : ℕ) (state : List ℕ) : Type 0 where
+  pub fitting : stateFits P state ≡ true
+  pub sound : stateSound P (stateAt state) ≡ true
+
+pub state-judged-passed : (sizes : Sizes) (state : List ℕ) → stateJudged sizes state ≡ 0 → StateJudged (sizes .pages) state
+unfolding stateJudged
+state-judged-passed sizes state e =
+    let a = held (sizesOk sizes && stateFits (sizes .pages) state) _ _ e in
+    let b = held (stateSound (sizes .pages) (stateAt state)) _ _ (a .1) in
+    record { fitting = both-right (sizesOk sizes) (stateFits (sizes .pages) state) (a .0); sound = b .0 }
+
+-- ---- lengths that fit span all slots and pages
+
+pub record Spans (P S : ℕ) (words state : List ℕ) : Type 0 where
+  pub slots-in : 5 * S ≤ length words
+  pub pages-in : 4 * P ≤ length state
+
+pub volume-spans : (w : ℕ) (sizes : Sizes) (v : Volume) → volumeFits w sizes v ≡ true → Spans (sizes .pages) (sizes .slots) (v .flash .words) (v .state)
+volume-spans w sizes v e =
+    let f = fits-facts w sizes v e in
+    let x = f .flash-sized .words-sized in
+    let y = f .state-sized in
+    record { slots-in = omega arith; pages-in = omega arith }
+
+-- … with one test more
+pub slice-spans : (w : ℕ) (sizes : Sizes) (v : Volume) (b : Bool) → (volumeFits w sizes v && b) ≡ true → Spans (sizes .pages) (sizes .slots) (v .flash .words) (v .state)
+slice-spans w sizes v b e = volume-spans w sizes v (both-left (volumeFits w sizes v) b e)
+
+-- … and the slice is as long as a slot's bytes
+pub slice-whole : (w : ℕ) (sizes : Sizes) (v : Volume) (n : ℕ) → (volumeFits w sizes v && eqb n w) ≡ true → Fits w sizes v × (n ≡ w)
+slice-whole w sizes v n e =
+    (fits-facts w sizes v (both-left (volumeFits w sizes v) (eqb n w) e), eqb-true n w (both-right (volumeFits w sizes v) (eqb n w) e))
+
+pub table-spans : (sizes : Sizes) (words state : List ℕ) → (sizesOk sizes && (wordsFit (sizes .slots) words && stateFits (sizes .pages) state)) ≡ true → Spans (sizes .pages) (sizes .slots) words state
+table-spans sizes words state e =
+    let f = both-right (sizesOk sizes) (wordsFit (sizes .slots) words && stateFits (sizes .pages) state) e in
+    let x = words-fit-exactly (sizes .slots) words .0 (both-left (wordsFit (sizes .slots) words) (stateFits (sizes .pages) state) f) in
+    let y = state-fits-exactly (sizes .pages) state .0 (both-right (wordsFit (sizes .slots) words) (stateFits (sizes .pages) state) f) in
+    record { slots-in = omega arith; pages-in = omega arith }
+
+-- ---- each call's own conditions, and its whole chain
+
+-- launch: 6, then 7 and 8
+unfoldable pub listAnswer : (state pages : List ℕ) → ℕ
+listAnswer state pages =
+    somePage pages (stateAt state) inFlight ⇒ 7 otherwise
+    somePage pages (stateAt state) usedUp ⇒ 8 otherwise
+    0
+
+unfoldable pub launchOwn : ℕ → (state pages : List ℕ) → ℕ
+launchOwn P state pages = not (listOk P pages) ⇒ 6 otherwise listAnswer state pages
+
+pub launch-chain : (sizes : Sizes) (state pages : List ℕ) → launchAnswer sizes state pages ≡ firstOf (stateJudged sizes state) (launchOwn (sizes .pages) state pages)
+unfolding launchAnswer stateJudged launchOwn listAnswer
+launch-chain sizes state pages = split-two (not (sizesOk sizes && stateFits (sizes .pages) state)) (not (stateSound (sizes .pages) (stateAt state))) 0 4 _
+
+-- withdraw: 6 and 9
+unfoldable pub withdrawOwn : ℕ → List ℕ → ℕ → ℕ
+withdrawOwn P state page =
+    not (ltb page P) ⇒ 6 otherwise
+    not (inFlight (stateAt state page)) ⇒ 9 otherwise
+    0
+
+pub withdraw-chain : (sizes : Sizes) (state : List ℕ) (page : ℕ) → withdrawAnswer sizes state page ≡ firstOf (stateJudged sizes state) (withdrawOwn (sizes .pages) state page)
+unfolding withdrawAnswer stateJudged withdrawOwn
+withdraw-chain sizes state page = split-two (not (sizesOk sizes && stateFits (sizes .pages) state)) (not (stateSound (sizes .pages) (stateAt state))) 0 4 _
+
+-- write: 6, then 9, 10 and 11 by the page's state and whether the slot is blank
+unfoldable pub pageAnswer : PageState → Bool → ℕ
+pageAnswer page blank =
+    not (inFlight page) ⇒ 9 otherwise
+    isWritten page ⇒ 10 otherwise
+    not blank ⇒ 11 otherwise
+    0
+
+unfoldable pub writeOwn : (P S : ℕ) (words state : List ℕ) (page slot : ℕ) → ℕ
+writeOwn P S words state page slot = not (ltb page P && ltb slot S) ⇒ 6 otherwise pageAnswer (stateAt state page) (isBlank (slotAt words slot))
+
+pub write-chain :
+    (w : ℕ) (sizes : Sizes) (v : Volume) (page slot : ℕ) (bytes : List ℕ)
+    → writeAnswer w sizes v page slot bytes
+    ≡ firstOf (judged (volumeFits w sizes v && eqb (length bytes) w) (sizes .pages) (sizes .slots) (v .flash .words) (v .state)) (writeOwn (sizes .pages) (sizes .slots) (v .flash .words) (v .state) page slot)
+unfolding writeAnswer judged writeOwn pageAnswer
+write-chain w sizes v page slot bytes =
+    split-three (not (volumeFits w sizes v && eqb (length bytes) w)) (not (tableSound (sizes .pages) (sizes .slots) (slotAt (v .flash .words)))) (not (stateSound (sizes .pages) (stateAt (v .state)))) 0 1 4 _
+
+-- erase: 6 and 12
+unfoldable pub eraseOwn : ℕ → (words state slots : List ℕ) → ℕ
+eraseOwn S words state slots =
+    not (listOk S slots) ⇒ 6 otherwise
+    not (mayEraseAll S (slotAt words) (stateAt state) slots) ⇒ 12 otherwise
+    0
+
+pub erase-chain : (w : ℕ) (sizes : Sizes) (v : Volume) (slots : List ℕ) → eraseAnswer w sizes v slots ≡ firstOf (judged (volumeFits w sizes v) (sizes .pages) (sizes .slots) (v .flash .words) (v .state)) (eraseOwn (sizes .slots) (v .flash .words) (v .state) slots)
+unfolding eraseAnswer judged eraseOwn
+erase-chain w sizes v slots =
+    split-three (not (volumeFits w sizes v)) (not (tableSound (sizes .pages) (sizes .slots) (slotAt (v .flash .words)))) (not (stateSound (sizes .pages) (stateAt (v .state)))) 0 1 4 _
+
+-- suggest: 13
+unfoldable pub suggestOwn : ℕ → (words state : List ℕ) → ℕ
+suggestOwn S words state = not (someBelow S (mayErase S (slotAt words) (stateAt state))) ⇒ 13 otherwise 0
+
+pub suggest-chain : (sizes : Sizes) (words state : List ℕ) → suggestAnswer sizes words state ≡ firstOf (judged (sizesOk sizes && (wordsFit (sizes .slots) words && stateFits (sizes .pages) state)) (sizes .pages) (sizes .slots) words state) (suggestOwn (sizes .slots) words state)
+unfolding suggestAnswer judged suggestOwn
+suggest-chain sizes words state =
+    split-three (not (sizesOk sizes && (wordsFit (sizes .slots) words && stateFits (sizes .pages) state))) (not (tableSound (sizes .pages) (sizes .slots) (slotAt words))) (not (stateSound (sizes .pages) (stateAt state))) 0 1 4 _
+
+-- read: 6 and 14
+unfoldable pub readOwn : (P S : ℕ) (words state : List ℕ) (page : ℕ) → ℕ
+readOwn P S words state page =
+    not (ltb page P) ⇒ 6 otherwise
+    not (hasVersion S (slotAt words) page (stateAt state page .committed)) ⇒ 14 otherwise
+    0
+
+pub read-chain :
+    (w : ℕ) (sizes : Sizes) (v : Volume) (page : ℕ) (out : List ℕ)
+    → readAnswer w sizes v page out ≡ firstOf (judged (volumeFits w sizes v && eqb (length out) w) (sizes .pages) (sizes .slots) (v .flash .words) (v .state)) (readOwn (sizes .pages) (sizes .slots) (v .flash .words) (v .state) page)
+unfolding readAnswer judged readOwn
+read-chain w sizes v page out =
+    split-three (not (volumeFits w sizes v && eqb (length out) w)) (not (tableSound (sizes .pages) (sizes .slots) (slotAt (v .flash .words)))) (not (stateSound (sizes .pages) (stateAt (v .state)))) 0 1 4 _

@@ -1,0 +1,41 @@
+-- The sizes of a volume, the lengths of its buffers, and the lists that calls take.
+use Prim.Native.Nat.{ℕ, _*_}
+use mathlib.Core.List.{List}
+use mathlib.Core.Bool.{Bool, not, _&&_}
+use lib.Dec.{ltb, leb, eqb}
+use lib.ListN.{length, getD}
+use Rattle.bounded.specs.Limits.{maxPages, maxSlots}
+use Rattle.bounded.specs.Below.{allBelow}
+use Rattle.sizes.specs.declared.Sizes.{Sizes}
+
+-- the sizes of a volume of P pages and S slots
+abbrev pub sizesOf : (P S : ℕ) → Sizes
+sizesOf P S = record { pages = P; slots = S }
+
+-- "P pages (pistons), 1 to 256 … S slots, P to 1,024"
+unfoldable pub sizesOk : (sizes : Sizes) → Bool
+sizesOk sizes = leb 1 (sizes .pages) && (leb (sizes .pages) maxPages && (leb (sizes .pages) (sizes .slots) && leb (sizes .slots) maxSlots))
+
+-- "The slot table has 5×S unsigned 32-bit words"
+unfoldable pub wordsFit : ℕ → List ℕ → Bool
+wordsFit S words = eqb (length words) (5 * S)
+
+-- "the contents 32×S bytes", for w bytes a slot
+unfoldable pub contentsFit : (w S : ℕ) → List ℕ → Bool
+contentsFit w S contents = eqb (length contents) (w * S)
+
+-- "The sheet is … 4×P 32-bit words"
+unfoldable pub stateFits : ℕ → List ℕ → Bool
+stateFits P state = eqb (length state) (4 * P)
+
+-- "repeated entry": none of the list
+unfoldable pub noRepeats : List ℕ → Bool
+noRepeats list = allBelow (length list) (λ i. allBelow i (λ j. not (eqb (getD list j 0) (getD list i 0))))
+
+-- "a page or slot out of range": none of the list, whose entries are to be below n
+unfoldable pub inRange : ℕ → List ℕ → Bool
+inRange n list = allBelow (length list) (λ i. ltb (getD list i 0) n)
+
+-- no "empty list, repeated entry, or a page or slot out of range"
+unfoldable pub listOk : ℕ → List ℕ → Bool
+listOk n list = leb 1 (length list) && (inRange n list && noRepeats list)

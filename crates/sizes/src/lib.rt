@@ -1,0 +1,120 @@
+// The sizes of a volume, the lengths of its buffers, and lists of pages or slots, as every call checks them. The definitions are in specs/.
+ghost use mathlib.Core.Path.{_≡_};
+ghost use mathlib.Core.Bool.{_&&_};
+ghost use Prim.Native.Nat.{_<_};
+ghost use lib.ListN.{length};
+ghost use Rattle.sizes.specs.Sizes.{sizesOk, wordsFit, contentsFit, stateFits, listOk};
+ghost use Rattle.sizes.specs.Lists.{newAt};
+
+// Bytes of contents a slot has: the `width` of the contracts.
+pub const WIDTH: usize = 32;
+
+// "4,294,967,295": a word of a blank slot, not in flight, no slot.
+pub const NO_NUMBER: u32 = 4294967295;
+
+// "at most 4,294,967,294"
+pub const HIGHEST_VERSION: u32 = 4294967294;
+
+// "P pages (pistons) …. S slots …"
+pub struct Sizes {
+    pub pages: u32,
+    pub slots: u32,
+}
+
+impl Sizes {
+    // "P pages (pistons), 1 to 256 … S slots, P to 1,024"
+    pub fn are_ok(self) -> bool
+        ensures { λ r. ⌜ r ≡ sizesOk self ⌝ }
+    {
+        if self.pages < 1 {
+            return false;
+        }
+        if self.pages > 256 {
+            return false;
+        }
+        if self.pages > self.slots {
+            return false;
+        }
+        self.slots <= 1024
+    }
+}
+
+// "The slot table has 5×S unsigned 32-bit words"
+pub fn words_fit(slots: u32, words: &[u32]) -> bool
+    ensures { λ r. ⌜ r ≡ wordsFit slots (now (words .entry)) ⌝ }
+{
+    words.len() == 5 * (slots as usize)
+}
+
+// "the contents 32×S bytes", for `width` bytes a slot
+pub fn contents_fit(width: u32, slots: u32, contents: &[u8]) -> bool
+    ensures { λ r. ⌜ r ≡ contentsFit width slots (now (contents .entry)) ⌝ }
+{
+    contents.len() == (width as usize) * (slots as usize)
+}
+
+// "The sheet is … 4×P 32-bit words"
+pub fn state_fits(pages: u32, state: &[u32]) -> bool
+    ensures { λ r. ⌜ r ≡ stateFits pages (now (state .entry)) ⌝ }
+{
+    state.len() == 4 * (pages as usize)
+}
+
+// P, S and the length of the state are right.
+pub fn state_ok(sizes: Sizes, state: &[u32]) -> bool
+    ensures { λ r. ⌜ r ≡ (sizesOk sizes && stateFits (sizes .pages) (now (state .entry))) ⌝ }
+{
+    if !sizes.are_ok() {
+        return false;
+    }
+    state_fits(sizes.pages, state)
+}
+
+// P, S and the lengths of the words and the state are right.
+pub fn table_ok(sizes: Sizes, words: &[u32], state: &[u32]) -> bool
+    ensures { λ r. ⌜ r ≡ (sizesOk sizes && (wordsFit (sizes .slots) (now (words .entry)) && stateFits (sizes .pages) (now (state .entry)))) ⌝ }
+{
+    if !sizes.are_ok() {
+        return false;
+    }
+    if !words_fit(sizes.slots, words) {
+        return false;
+    }
+    state_fits(sizes.pages, state)
+}
+
+// Entry i of the list is none of the entries before it.
+fn is_new(list: &[u32], i: usize) -> bool
+    requires { ⌜ i < length (now list) ⌝ }
+    ensures { λ r. ⌜ r ≡ newAt (now (list .entry)) i ⌝ }
+{
+    let mut j = 0;
+    while j < i {
+        if list[j] == list[i] {
+            return false;
+        }
+        j += 1;
+    }
+    true
+}
+
+// No "empty list, repeated entry, or a page or slot out of range", which is `bound` or above. Each entry is tried for both
+// before the next, so that at most bound + 1 are.
+pub fn list_ok(bound: u32, list: &[u32]) -> bool
+    ensures { λ r. ⌜ r ≡ listOk bound (now (list .entry)) ⌝ }
+{
+    if list.len() < 1 {
+        return false;
+    }
+    let mut i = 0;
+    while i < list.len() {
+        if list[i] >= bound {
+            return false;
+        }
+        if !is_new(list, i) {
+            return false;
+        }
+        i += 1;
+    }
+    true
+}
