@@ -5,7 +5,8 @@ use mathlib.Core.Bool.{cond}
 use lib.Dec.{eqb}
 use lib.ListN.{take}
 use Rattle.line.specs.Line.{lineMeans}
-use Rattle.script.specs.Script.{Standing, Turn, idleTurn, turn}
+use Rattle.report.specs.Report.{Standing, Turn, idleTurn}
+use Rattle.script.specs.Script.{turn}
 
 -- "lists 1 to 64 entries"
 abbrev pub maxEntries : ℕ

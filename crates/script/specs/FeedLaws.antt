@@ -14,9 +14,10 @@ use Rattle.text.specs.Print.{shown, added}
 use Rattle.text.specs.PrintLaws.{added-none}
 use Rattle.line.specs.Line.{Said, lineMeans}
 use Rattle.rules.specs.Volume.{Volume}
-use Rattle.script.specs.declared.step.Run.{Run}
-use Rattle.script.specs.Script.{Standing, standing, printing, idleTurn, turn}
-use Rattle.script.specs.StepLaws.{Went}
+use Rattle.report.specs.declared.Run.{Run}
+use Rattle.report.specs.Report.{Standing, standing, printing, idleTurn}
+use Rattle.report.specs.ReportLaws.{Went}
+use Rattle.script.specs.Script.{turn}
 use Rattle.script.specs.Feed.{maxEntries, carried, fed}
 
 -- The first 513 bytes of a line say what the line says: more than 512 are malformed, whatever they are.

@@ -22,8 +22,9 @@ use Rattle.rules.specs.Format.{formatted as formattedVolume, formatAnswer, form
 use Rattle.rules.specs.laws.Volume.{fits-facts}
 use Rattle.listing.specs.Listing.{answerText, stateText, fieldsText, pageText, listAnswer, listText}
 use Rattle.dispatch.specs.Dispatch.{lineOutcome}
+use Rattle.report.specs.Report.{Standing, Turn, withMemory, printing, idleTurn, refusedTurn, doneText, formatted, told}
 use Rattle.script.specs.Memory.{inUse}
-use Rattle.script.specs.Script.{Standing, Turn, withMemory, printing, idleTurn, refusedTurn, doneText, formatted, told, volumeTurn, onFormat, sizesFor, inFront, lineTurn, isEarly, turn}
+use Rattle.script.specs.Script.{volumeTurn, onFormat, sizesFor, inFront, lineTurn, isEarly, turn}
 
 -- the most bytes that a turn prints
 abbrev pub mostPrinted : ℕ

@@ -4,10 +4,10 @@ ghost use lib.ListN.{length};
 ghost use Rattle.bounded.specs.Limits.{width};
 ghost use Rattle.text.specs.Print.{shown, added};
 ghost use Rattle.rules.specs.Volume.{volume};
-ghost use Rattle.script.specs.Script.{standing};
+ghost use Rattle.report.specs.Report.{standing};
 ghost use Rattle.script.specs.Feed.{carried, fed};
 use super::step;
-use super::step::Run;
+use report::Run;
 
 // The line that is held, carried out.
 pub fn end_line(

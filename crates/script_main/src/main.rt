@@ -1,6 +1,6 @@
 // The script program: standard input to standard output, a call a line.
 
-use script::step::Run;
+use report::Run;
 
 // Output that waits is written once it goes past this place. The longest output of one line, a list of 256 pages, fits behind it.
 const ENOUGH: usize = 40000;

@@ -2,7 +2,7 @@ use mathlib.Core.Path.{refl}
 use borrow.Author.Needs.{needs}
 use Rattle.bounded.specs.Limits.{width}
 use Rattle.rules.specs.Volume.{volume}
-use Rattle.script.specs.StepLaws.{went-idle}
+use Rattle.report.specs.ReportLaws.{went-idle}
 use Rattle.script.specs.FeedLaws.{took-over, took-byte, took-line-end}
 use Rattle.script.proofs.feed.feed.Statement.{statement}
 use Rattle.script.proofs.feed.feed.Tie as tie

@@ -4,7 +4,8 @@ use mathlib.Core.List.{List}
 use borrow.Author.Needs.{needs}
 use Rattle.line.specs.Line.{said}
 use Rattle.rules.specs.Volume.{Volume}
-use Rattle.script.specs.Script.{standing, onFormat, sizesFor}
+use Rattle.report.specs.Report.{standing}
+use Rattle.script.specs.Script.{onFormat, sizesFor}
 use Rattle.script.specs.StepLaws.{other-line}
 use Rattle.script.proofs.step.sizes_for.Statement.{statement}
 use Rattle.script.proofs.step.sizes_for.Tie as tie

@@ -4,10 +4,10 @@ use borrow.Author.Needs.{needs}
 use Rattle.bounded.specs.Limits.{width}
 use Rattle.line.specs.Line.{said}
 use Rattle.rules.specs.Volume.{volume}
-use Rattle.script.specs.Script.{standing, told}
-use Rattle.script.specs.StepLaws.{went-text, went-format, answer-told}
-use Rattle.script.proofs.step.tell.Statement.{statement}
-use Rattle.script.proofs.step.tell.Tie as tie
+use Rattle.report.specs.Report.{standing, told}
+use Rattle.report.specs.ReportLaws.{went-text, went-format, answer-told}
+use Rattle.report.proofs.tell.Statement.{statement}
+use Rattle.report.proofs.tell.Tie as tie
 
 enum-known-line : tie.Need-enum-known-line
 enum-known-line c = search needs

@@ -1,7 +1,7 @@
 use borrow.Author.Needs.{needs}
-use Rattle.script.specs.StepLaws.{format-refused, format-accepted}
-use Rattle.script.proofs.step.say_format.Statement.{statement}
-use Rattle.script.proofs.step.say_format.Tie as tie
+use Rattle.report.specs.ReportLaws.{format-refused, format-accepted}
+use Rattle.report.proofs.say_format.Statement.{statement}
+use Rattle.report.proofs.say_format.Tie as tie
 
 say-requires : tie.Need-say-requires
 say-requires c κs = search needs

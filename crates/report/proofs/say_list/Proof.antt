@@ -1,7 +1,7 @@
 use borrow.Author.Needs.{needs}
-use Rattle.script.specs.StepLaws.{printed}
-use Rattle.script.proofs.step.say_list.Statement.{statement}
-use Rattle.script.proofs.step.say_list.Tie as tie
+use Rattle.report.specs.ReportLaws.{printed}
+use Rattle.report.proofs.say_list.Statement.{statement}
+use Rattle.report.proofs.say_list.Tie as tie
 
 list-requires : tie.Need-list-requires
 list-requires c κs = search needs

@@ -1,9 +1,9 @@
 use borrow.Author.Needs.{needs}
 use Rattle.text.specs.Scan.{bytes}
-use Rattle.script.specs.Script.{refusedTurn}
-use Rattle.script.specs.StepLaws.{ended}
-use Rattle.script.proofs.step.refuse.Statement.{statement}
-use Rattle.script.proofs.step.refuse.Tie as tie
+use Rattle.report.specs.Report.{refusedTurn}
+use Rattle.report.specs.ReportLaws.{ended}
+use Rattle.report.proofs.refuse.Statement.{statement}
+use Rattle.report.proofs.refuse.Tie as tie
 
 slice-aggregate-put-text : tie.Need-slice-aggregate-put-text
 slice-aggregate-put-text c = search needs

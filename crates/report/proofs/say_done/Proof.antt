@@ -1,9 +1,9 @@
 use borrow.Author.Needs.{needs}
 use Rattle.text.specs.Scan.{bytes}
-use Rattle.script.specs.Script.{doneText}
-use Rattle.script.specs.StepLaws.{printed, done-text}
-use Rattle.script.proofs.step.say_done.Statement.{statement}
-use Rattle.script.proofs.step.say_done.Tie as tie
+use Rattle.report.specs.Report.{doneText}
+use Rattle.report.specs.ReportLaws.{printed, done-text}
+use Rattle.report.proofs.say_done.Statement.{statement}
+use Rattle.report.proofs.say_done.Tie as tie
 
 slice-aggregate-put-field : tie.Need-slice-aggregate-put-field
 slice-aggregate-put-field c = search needs

@@ -3,9 +3,9 @@ use mathlib.Core.Path.{ap, _∙_}
 use borrow.Author.Needs.{needs}
 use Rattle.text.specs.Print.{added}
 use Rattle.listing.specs.Listing.{answerText}
-use Rattle.script.specs.StepLaws.{printed}
-use Rattle.script.proofs.step.say.Statement.{statement}
-use Rattle.script.proofs.step.say.Tie as tie
+use Rattle.report.specs.ReportLaws.{printed}
+use Rattle.report.proofs.say.Statement.{statement}
+use Rattle.report.proofs.say.Tie as tie
 
 answer-of-requires : tie.Need-answer-of-requires
 answer-of-requires c κs = search needs
