@@ -9,10 +9,11 @@ use Rattle.record.specs.declared.Slot.the-variants.{Holds}
 use Rattle.record.specs.Slot.{slotAt}
 use Rattle.record.specs.Flash.{Step, applyAll}
 use Rattle.state.specs.State.{stateAt, inFlight}
+use Rattle.table.specs.Table.{mentioned, usedOf}
 use Rattle.rules.specs.Volume.{Volume}
 use Rattle.rules.specs.laws.Volume.{Fits}
 use Rattle.rules.specs.Write.{planOf}
-use Rattle.rules.specs.Recover.{committedOf, mentioned, usedOf}
+use Rattle.rules.specs.Recover.{committedOf}
 use Rattle.atomicity.specs.Call.{Call, perform, flashStages}
 use Rattle.atomicity.specs.Run.{Event, doneOf, cutShort, wasDone, started, after}
 use Rattle.atomicity.specs.Promise.{Premises}

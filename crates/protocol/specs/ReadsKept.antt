@@ -16,12 +16,12 @@ use Rattle.state.specs.declared.PageState.{PageState}
 use Rattle.state.specs.State.{stateAt, stateWords, stateSound, inFlight}
 use Rattle.state.specs.StateLaws.{PageFacts, facts-state-sound, stateAt-words}
 use Rattle.state.specs.Change.{atRest}
-use Rattle.table.specs.Table.{hasVersion}
+use Rattle.table.specs.Table.{hasVersion, usedOf}
+use Rattle.table.specs.Used.{used-most}
 use Rattle.table.specs.TableLaws.{lowest-holds}
 use Rattle.rules.specs.Volume.{Volume, volumeFits}
 use Rattle.rules.specs.Read.{readSlot, readAnswer, readOutcome}
-use Rattle.rules.specs.Recover.{usedOf, recovered}
-use Rattle.rules.specs.laws.Recover.{used-most}
+use Rattle.rules.specs.Recover.{recovered}
 use Rattle.protocol.specs.View.{InSlots}
 use Rattle.protocol.specs.Shared.{SharedCore}
 use Rattle.protocol.specs.BackPointer.{Core}

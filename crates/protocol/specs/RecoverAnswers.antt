@@ -13,12 +13,12 @@ use Rattle.record.specs.declared.Slot.{Slot}
 use Rattle.record.specs.declared.Slot.the-variants.{Blank, Holds}
 use Rattle.record.specs.Slot.{slotAt, slotSound}
 use Rattle.state.specs.Change.{atRest}
-use Rattle.table.specs.Table.{tableSound, someClash, hasRecord, hasVersion}
+use Rattle.table.specs.Table.{tableSound, someClash, hasRecord, hasVersion, usedOf}
+use Rattle.table.specs.Used.{used-above-version, used-above-next}
 use Rattle.table.specs.TableLaws.{some-clash, has-record, has-version}
 use Rattle.follow.specs.declared.End.the-variants as ends
 use Rattle.follow.specs.Follow.{isAstray}
-use Rattle.rules.specs.Recover.{walkOf, committedOf, usedOf, recovered, recoverAnswer}
-use Rattle.rules.specs.laws.Recover.{used-above-version, used-above-next}
+use Rattle.rules.specs.Recover.{walkOf, committedOf, recovered, recoverAnswer}
 use Rattle.protocol.specs.View.{InSlots, NoTwins, recordView}
 use Rattle.protocol.specs.Shared.{SharedCore, WithinUsed}
 use Rattle.protocol.specs.BackPointer.{Core}

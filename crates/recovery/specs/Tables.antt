@@ -1,17 +1,16 @@
--- The tables that recovery keeps, one entry a page: highest slots, verdict codes, committed and used versions; and the answers by them.
-use Prim.Native.Nat.{ℕ, _+_, _*_, _≤_, _<_, max}
+-- The tables that recovery keeps, one entry a page: highest slots, verdict codes, committed versions; and the answers by them.
+use Prim.Native.Nat.{ℕ, _*_, _≤_, _<_}
 use native.Mathlib.Omega.{arith}
-use native.Mathlib.Numerals.{add-one}
 use mathlib.Core.Path.{_≡_, refl, sym, ap, ap₂, _∙_}
 use mathlib.Core.List.{List}
-use mathlib.Core.Bool.{true, false, cond, not, _&&_, _||_}
-use lib.Dec.{ltb, eqb}
-use lib.ListN.{length, getD, set}
+use mathlib.Core.Bool.{true, false, not, _&&_, _||_}
+use lib.Dec.{ltb}
+use lib.ListN.{length, getD}
 use borrow.Author.Tests.{lt-ltb, le-ltb}
-use Rattle.bounded.specs.Below.{allBelow, someBelow, maxBelow}
+use Rattle.bounded.specs.Below.{allBelow, someBelow}
 use Rattle.bounded.specs.Choice.{on-test, both-left, both-right}
 use Rattle.bounded.specs.BelowLaws.{all-cong}
-use Rattle.bounded.specs.Tabulate.{tabulate, tabulate-at, tabulate-cong, raise-tabulate}
+use Rattle.bounded.specs.Tabulate.{tabulate, tabulate-at}
 use Rattle.outcome.specs.Outcome.{_⇒_otherwise_}
 use Rattle.sizes.specs.declared.Sizes.{Sizes}
 use Rattle.sizes.specs.Sizes.{sizesOk, wordsFit, stateFits}
@@ -24,7 +23,7 @@ use Rattle.record.specs.SlotLaws.{sound-facts}
 use Rattle.state.specs.State.{stateWords}
 use Rattle.state.specs.StateLaws.{stateWords-cong}
 use Rattle.state.specs.Change.{atRest}
-use Rattle.table.specs.Table.{tableSound, someClash, hasRecord, hasVersion, highest, highestVersionOf, versionIn}
+use Rattle.table.specs.Table.{tableSound, someClash, hasRecord, hasVersion, highest, highestVersionOf, versionIn, usedOf}
 use Rattle.table.specs.TableLaws.{sound-at, highest-is, highest-held}
 use Rattle.table.specs.HighestSlot.{highestSlot, named, highest-read, highest-slot-exists, beyond-blank}
 use Rattle.follow.specs.declared.Verdict.the-variants.{Committed, Uncommitted, On}
@@ -33,7 +32,7 @@ use Rattle.follow.specs.declared.End.the-variants as ends
 use Rattle.follow.specs.Follow.{follow, isAstray, StaysInside}
 use Rattle.follow.specs.Codes.{codeOf, coded, coded-back, follow-same}
 use Rattle.rules.specs.Verdict.{isStraddled, linkVerdict, slotVerdict, verdict}
-use Rattle.rules.specs.Recover.{walkOf, backPointer, committedBy, committedOf, mentioned, usedOf, recovered, recoverAnswer}
+use Rattle.rules.specs.Recover.{walkOf, backPointer, committedBy, committedOf, recovered, recoverAnswer}
 use Rattle.rules.specs.laws.Recover.{verdict-inside}
 
 -- a page without a record has committed version 0
@@ -97,37 +96,6 @@ module _ (P S : ℕ) (words top : List ℕ) (s : Surveyed P S words top) where
     pub codes-walk : (p : ℕ) → p < P → walkOf P S (slotAt words) p ≡ follow P (coded codes) p
     unfolding walkOf
     codes-walk p h = follow-same P (verdict S (slotAt words)) (coded codes) (verdict-inside S (slotAt words) P (s .sound)) code-at p h
-
--- ---- used versions
-
--- a slot that mentions no page
-pub used-blank : (n k : ℕ) (t : ℕ → Slot) → t k ≡ Blank → tabulate n (usedOf k t) ≡ tabulate n (usedOf (k + 1) t)
-unfolding usedOf maxBelow mentioned
-used-blank n k t e =
-    tabulate-cong n (usedOf k t) (usedOf (k + 1) t)
-    (λ p h. rw (add-one, maxBelow, e, mentioned) (let m : maxBelow k (λ j. mentioned p (t j)) ≡ max (maxBelow k (λ j. mentioned p (t j))) 0 = omega arith in m))
-
--- a slot's record raises its page to v and its next page to nv
-pub used-raised :
-    (n k : ℕ) (t : ℕ → Slot) (r : Record) (a b : List ℕ)
-    → t k ≡ Holds r
-    → r .p < n
-    → r .np < n
-    → a ≡ set (tabulate n (usedOf k t)) (r .p) (max (getD (tabulate n (usedOf k t)) (r .p) 0) (r .v))
-    → b ≡ set a (r .np) (max (getD a (r .np) 0) (r .nv))
-    → b ≡ tabulate n (usedOf (k + 1) t)
-unfolding usedOf maxBelow mentioned
-used-raised n k t r a b e hp hn ea eb =
-    let i = ea ∙ raise-tabulate n (r .p) (r .v) (usedOf k t) hp in
-    eb
-    ∙ ap (λ (l : List ℕ). set l (r .np) (max (getD l (r .np) 0) (r .nv))) i
-    ∙ raise-tabulate n (r .np) (r .nv) (λ p. max (usedOf k t p) (cond (eqb (r .p) p) (r .v) 0)) hn
-    ∙ tabulate-cong n _ (usedOf (k + 1) t) (λ p h. joined p)
-  where
-    joined : (p : ℕ) → max (max (usedOf k t p) (cond (eqb (r .p) p) (r .v) 0)) (cond (eqb (r .np) p) (r .nv) 0) ≡ usedOf (k + 1) t p
-    joined p =
-        rw (add-one, maxBelow, e, mentioned)
-        (let m : max (max (maxBelow k (λ j. mentioned p (t j))) (cond (eqb (r .p) p) (r .v) 0)) (cond (eqb (r .np) p) (r .nv) 0) ≡ max (maxBelow k (λ j. mentioned p (t j))) (max (cond (eqb (r .p) p) (r .v) 0) (cond (eqb (r .np) p) (r .nv) 0)) = omega arith in m)
 
 -- ---- the answer
 

@@ -2,7 +2,7 @@
 
 mod link; // link.rt: one link's verdict
 mod committed; // committed.rt: following verdicts, committed versions
-mod fill; // fill.rt: used versions, and the state filled in
+mod fill; // fill.rt: the state filled in
 
 ghost use mathlib.Core.Path.{_≡_};
 ghost use Prim.Native.Nat.{_*_, _≤_};

@@ -1,9 +1,8 @@
 -- The call recover.
-use Prim.Native.Nat.{ℕ, max}
+use Prim.Native.Nat.{ℕ}
 use mathlib.Core.List.{List}
-use mathlib.Core.Bool.{cond, not, _&&_, _||_}
-use lib.Dec.{eqb}
-use Rattle.bounded.specs.Below.{allBelow, someBelow, maxBelow}
+use mathlib.Core.Bool.{not, _&&_, _||_}
+use Rattle.bounded.specs.Below.{allBelow, someBelow}
 use Rattle.outcome.specs.Outcome.{_⇒_otherwise_, Outcome, settled}
 use Rattle.sizes.specs.declared.Sizes.{Sizes}
 use Rattle.sizes.specs.Sizes.{sizesOk, wordsFit, stateFits}
@@ -13,7 +12,7 @@ use Rattle.record.specs.Slot.{slotAt}
 use Rattle.state.specs.declared.PageState.{PageState}
 use Rattle.state.specs.State.{stateWords}
 use Rattle.state.specs.Change.{atRest}
-use Rattle.table.specs.Table.{tableSound, someClash, hasRecord, hasVersion, highest, versionIn}
+use Rattle.table.specs.Table.{tableSound, someClash, hasRecord, hasVersion, highest, versionIn, usedOf}
 use Rattle.follow.specs.declared.End.{End}
 use Rattle.follow.specs.declared.End.the-variants as ends
 use Rattle.follow.specs.declared.Walk.{Walk}
@@ -37,15 +36,6 @@ committedBy ends.Astray top = backPointer top
 
 unfoldable pub committedOf : (P S : ℕ) → (ℕ → Slot) → ℕ → ℕ
 committedOf P S t p = committedBy (walkOf P S t p .end) (highest S t p)
-
--- the highest version that a slot mentions for page p: its v where p is its page, its nv where np is; 0 where it does not
-unfoldable pub mentioned : ℕ → Slot → ℕ
-mentioned p Blank = 0
-mentioned p (Holds r) = max (cond (eqb (r .p) p) (r .v) 0) (cond (eqb (r .np) p) (r .nv) 0)
-
--- "Used = the highest of all v with that p and all nv with that np."
-unfoldable pub usedOf : ℕ → (ℕ → Slot) → ℕ → ℕ
-usedOf S t p = maxBelow S (λ k. mentioned p (t k))
 
 -- "No page is in flight, and written is 0 for all."
 unfoldable pub recovered : (P S : ℕ) → (ℕ → Slot) → ℕ → PageState

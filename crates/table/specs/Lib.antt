@@ -3,3 +3,4 @@ pub mod TableLaws
 pub mod Given
 pub mod Computing
 pub mod HighestSlot
+pub mod Used

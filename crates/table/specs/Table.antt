@@ -1,8 +1,8 @@
 -- The slot table as a function from slot to what it holds.
-use Prim.Native.Nat.{ℕ, zero, suc}
+use Prim.Native.Nat.{ℕ, zero, suc, max}
 use mathlib.Core.Bool.{Bool, true, false, cond, _&&_}
 use lib.Dec.{ltb, eqb}
-use Rattle.bounded.specs.Below.{allBelow, someBelow, firstBelow}
+use Rattle.bounded.specs.Below.{allBelow, someBelow, firstBelow, maxBelow}
 use Rattle.record.specs.declared.Record.{Record}
 use Rattle.record.specs.declared.Slot.{Slot}
 use Rattle.record.specs.declared.Slot.the-variants.{Blank, Holds}
@@ -62,3 +62,12 @@ versionIn (Holds r) = r .v
 -- "hv(p) is the highest version of p in the table."
 unfoldable pub highestVersionOf : ℕ → (ℕ → Slot) → ℕ → ℕ
 highestVersionOf S t p = versionIn (highest S t p)
+
+-- the highest version that a slot mentions for page p: its v where p is its page, its nv where np is; 0 where it does not
+unfoldable pub mentioned : ℕ → Slot → ℕ
+mentioned p Blank = 0
+mentioned p (Holds r) = max (cond (eqb (r .p) p) (r .v) 0) (cond (eqb (r .np) p) (r .nv) 0)
+
+-- "Used = the highest of all v with that p and all nv with that np."
+unfoldable pub usedOf : ℕ → (ℕ → Slot) → ℕ → ℕ
+usedOf S t p = maxBelow S (λ k. mentioned p (t k))

@@ -1,5 +1,7 @@
-// The slot table: soundness, equal page and version, the lowest slot of a version, each page's highest record.
+// The slot table: soundness, equal page and version, the lowest slot of a version, each page's highest record and used version.
 // The definitions are in specs/.
+pub mod used; // used.rt: the used versions of all pages
+
 ghost use mathlib.Core.Path.{_≡_};
 ghost use Prim.Native.Nat.{_+_, _*_, _≤_, _<_};
 ghost use lib.ListN.{length};

@@ -16,10 +16,11 @@ use Rattle.state.specs.declared.PageState.{PageState}
 use Rattle.state.specs.State.{stateAt, stateWords, inFlight}
 use Rattle.state.specs.StateLaws.{length-stateWords, state-sound-facts}
 use Rattle.state.specs.Change.{atRest}
+use Rattle.table.specs.Table.{usedOf}
 use Rattle.rules.specs.Volume.{Volume}
 use Rattle.rules.specs.laws.Volume.{Fits, fits-test}
 use Rattle.rules.specs.Read.{readOutcome}
-use Rattle.rules.specs.Recover.{usedOf, recovered, recoverAnswer, recoverOutcome}
+use Rattle.rules.specs.Recover.{recovered, recoverAnswer, recoverOutcome}
 use Rattle.rules.specs.laws.Recover.{recover-fills}
 use Rattle.protocol.specs.View.{NoTwins, recordView}
 use Rattle.protocol.specs.Shared.{SharedLive, commOf}

@@ -14,9 +14,9 @@ use Rattle.record.specs.declared.Slot.the-variants.{Blank, Holds}
 use Rattle.record.specs.Slot.{slotAt, bytesAt}
 use Rattle.state.specs.declared.PageState.{PageState}
 use Rattle.state.specs.State.{stateAt}
+use Rattle.table.specs.Table.{mentioned, usedOf}
 use Rattle.rules.specs.Volume.{Volume}
 use Rattle.rules.specs.Write.{planOf}
-use Rattle.rules.specs.Recover.{mentioned, usedOf}
 use Rattle.protocol.specs.Recovers.{committed-found}
 use Rattle.atomicity.specs.Run.{started, after}
 use Rattle.atomicity.specs.Model.{Model, freshModel}

@@ -1,24 +1,22 @@
 -- What recover's definitions say as propositions, and what its outcome depends on.
-use Prim.Native.Nat.{ℕ, _≤_, _<_, max}
+use Prim.Native.Nat.{ℕ, _<_}
 use native.Mathlib.Omega.{arith}
 use mathlib.Core.Path.{_≡_, refl, sym}
 use mathlib.Core.List.{List}
 use mathlib.Core.Logic.{_↔_}
 use mathlib.Core.Bool.{Bool, true, false, cond}
-use lib.Dec.{ltb, eqb}
+use lib.Dec.{ltb}
 use lib.ListN.{length}
-use borrow.Author.Tests.{eq-eqb}
 use Rattle.bounded.specs.Below.{someBelow}
 use Rattle.bounded.specs.Choice.{never}
-use Rattle.bounded.specs.BelowLaws.{some-at, some-of, max-above, max-bound}
-use Rattle.bounded.specs.Limits.{highestVersion}
+use Rattle.bounded.specs.BelowLaws.{some-at, some-of}
 use Rattle.outcome.specs.OutcomeLaws.{settled-refused, settled-done}
 use Rattle.sizes.specs.declared.Sizes.{Sizes}
 use Rattle.sizes.specs.Sizes.{stateFits}
 use Rattle.record.specs.declared.Record.{Record}
 use Rattle.record.specs.declared.Slot.{Slot}
 use Rattle.record.specs.declared.Slot.the-variants.{Blank, Holds}
-use Rattle.record.specs.Slot.{slotAt, recordSound, straddles}
+use Rattle.record.specs.Slot.{slotAt, straddles}
 use Rattle.record.specs.SlotLaws.{sound-facts, Straddles, straddles-exactly, some-record}
 use Rattle.state.specs.State.{stateWords}
 use Rattle.table.specs.Table.{tableSound, highest, highestVersionOf}
@@ -29,7 +27,7 @@ use Rattle.follow.specs.declared.End.the-variants as ends
 use Rattle.follow.specs.Astray.{RunsIntoRing, astray-exactly}
 use Rattle.follow.specs.Follow.{isAstray}
 use Rattle.rules.specs.Verdict.{isStraddled, linkVerdict, slotVerdict, verdict}
-use Rattle.rules.specs.Recover.{walkOf, mentioned, usedOf, recovered, recoverAnswer, recoverOutcome}
+use Rattle.rules.specs.Recover.{walkOf, recovered, recoverAnswer, recoverOutcome}
 
 -- ---- straddlers
 
@@ -87,41 +85,6 @@ astray-means P S t sound = (
   λ w. some-of (λ p. isAstray (walkOf P S t p .end)) P (w .0) (w .1)
       (isAstray-exactly (walkOf P S t (w .0) .end) .1 (astray-exactly (verdict S t) (w .0) P (w .1) (verdict-inside S t P sound) .1 (w .2))),
 )
-
--- ---- used
-
--- "all v with that p and all nv with that np" are at most used,
-pub used-above-version : (S : ℕ) (t : ℕ → Slot) (k : ℕ) (r : Record) → k < S → t k ≡ Holds r → r .v ≤ usedOf S t (r .p)
-unfolding usedOf mentioned
-used-above-version S t k r h e =
-    let a = max-above (λ k. mentioned (r .p) (t k)) S k h in
-    let b : mentioned (r .p) (t k) ≡ max (r .v) (cond (eqb (r .np) (r .p)) (r .nv) 0) = rw (e, mentioned, eq-eqb (r .p) (r .p) refl) in
-    omega arith
-
-pub used-above-next : (S : ℕ) (t : ℕ → Slot) (k : ℕ) (r : Record) → k < S → t k ≡ Holds r → r .nv ≤ usedOf S t (r .np)
-unfolding usedOf mentioned
-used-above-next S t k r h e =
-    let a = max-above (λ k. mentioned (r .np) (t k)) S k h in
-    let b : mentioned (r .np) (t k) ≡ max (cond (eqb (r .p) (r .np)) (r .v) 0) (r .nv) = rw (e, mentioned, eq-eqb (r .np) (r .np) refl) in
-    omega arith
-
--- in a sound table no version is above the highest there is, so used is not
-pub used-most : (P S : ℕ) (t : ℕ → Slot) (p : ℕ) → tableSound P S t ≡ true → usedOf S t p ≤ highestVersion
-unfolding usedOf mentioned
-used-most P S t p sound =
-    max-bound (λ k. mentioned p (t k)) S highestVersion (λ k h. mentioned-most (t k) (λ r e. sound-at t P S k sound h e))
-  where
-    most : (b : Bool) (n : ℕ) → n ≤ highestVersion → cond b n 0 ≤ highestVersion
-    most true n h = h
-    most false n h = omega arith
-
-    mentioned-most : (s : Slot) → ((r : Record) → s ≡ Holds r → recordSound P r ≡ true) → mentioned p s ≤ highestVersion
-    mentioned-most Blank ok = omega arith
-    mentioned-most (Holds r) ok =
-        let f = sound-facts P r (ok r refl) in
-        let a = most (eqb (r .p) p) (r .v) (f .v-most) in
-        let b = most (eqb (r .np) p) (r .nv) (f .nv-most) in
-        omega arith
 
 -- ---- recovery reads only the slot table
 

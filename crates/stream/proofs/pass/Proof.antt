@@ -3,8 +3,8 @@ use Prim.Native.Nat.{_-_}
 use native.Mathlib.Omega.{arith}
 use mathlib.Core.Path.{_≡_, refl, _∙_}
 use lib.ListN.{length}
-use Rattle.script_main.proofs.pass.Statement.{statement}
-use Rattle.script_main.proofs.pass.Tie as tie
+use Rattle.stream.proofs.pass.Statement.{statement}
+use Rattle.stream.proofs.pass.Tie as tie
 
 abbrev Inv-loop : tie.InvT-loop
 Inv-loop bytes line₀ words₀ contents₀ state₀ out₀ now₀ i₀ line words contents state out now i = (length line ≡ length line₀) × (length words ≡ length words₀) × (length contents ≡ length contents₀) × (length state ≡ length state₀) × (length out ≡ length out₀)

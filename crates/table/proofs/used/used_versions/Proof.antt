@@ -4,9 +4,9 @@ use mathlib.Core.Path.{_≡_, refl}
 use Rattle.bounded.specs.Below.{maxBelow}
 use Rattle.bounded.specs.Tabulate.{tabulate, tabulate-same}
 use Rattle.record.specs.Slot.{slotAt}
-use Rattle.rules.specs.Recover.{usedOf}
-use Rattle.recovery.proofs.fill.used_versions.Statement.{statement}
-use Rattle.recovery.proofs.fill.used_versions.Tie as tie
+use Rattle.table.specs.Table.{usedOf}
+use Rattle.table.proofs.used.used_versions.Statement.{statement}
+use Rattle.table.proofs.used.used_versions.Tie as tie
 
 abbrev Inv-loop : tie.InvT-loop
 Inv-loop sizes words used₀ k₀ used k = (k ≤ (sizes .slots)) × (used ≡ tabulate 256 (usedOf k (slotAt words)))

@@ -2,8 +2,8 @@ use borrow.Author.Needs.{needs}
 use Rattle.bounded.specs.Limits.{width}
 use Rattle.rules.specs.Volume.{volume}
 use Rattle.script.specs.StepLaws.{went-volume}
-use Rattle.script.proofs.step.volume_step.Statement.{statement}
-use Rattle.script.proofs.step.volume_step.Tie as tie
+use Rattle.script.proofs.volume_step.Statement.{statement}
+use Rattle.script.proofs.volume_step.Tie as tie
 
 call-requires : tie.Need-call-requires
 call-requires c κs = search needs

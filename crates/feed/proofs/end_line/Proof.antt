@@ -3,9 +3,9 @@ use lib.ListN.{length-replicate}
 use borrow.Author.Needs.{needs}
 use Rattle.bounded.specs.Limits.{width}
 use Rattle.rules.specs.Volume.{volume}
-use Rattle.script.specs.FeedLaws.{held-carried}
-use Rattle.script.proofs.feed.end_line.Statement.{statement}
-use Rattle.script.proofs.feed.end_line.Tie as tie
+use Rattle.feed.specs.FeedLaws.{held-carried}
+use Rattle.feed.proofs.end_line.Statement.{statement}
+use Rattle.feed.proofs.end_line.Tie as tie
 
 least-requires : tie.Need-least-requires
 least-requires c κs = search needs

@@ -5,8 +5,7 @@ ghost use Rattle.bounded.specs.Limits.{width};
 ghost use Rattle.text.specs.Print.{shown, added};
 ghost use Rattle.rules.specs.Volume.{volume};
 ghost use Rattle.report.specs.Report.{standing};
-ghost use Rattle.script.specs.Feed.{carried, fed};
-use super::step;
+ghost use Rattle.feed.specs.Feed.{carried, fed};
 use report::Run;
 
 // The line that is held, carried out.
@@ -27,7 +26,7 @@ pub fn end_line(
     let n = dispatch::least(run.held, buffer.len());
     let mut list = [0u32; 64];
     let line = line::line_of(&buffer[0..n], &mut list);
-    step::step(run.holding(0), line, &list, words, contents, state, out)
+    script::step(run.holding(0), line, &list, words, contents, state, out)
 }
 
 // The next byte of a script, which does nothing once the run is over.

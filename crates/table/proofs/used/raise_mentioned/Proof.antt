@@ -5,10 +5,10 @@ use mathlib.Core.Path.{sym, ap, _∙_}
 use mathlib.Core.List.{List}
 use lib.ListN.{set, getD}
 use Rattle.record.specs.SlotLaws.{sound-facts}
 use Rattle.table.specs.TableLaws.{sound-at}
-use Rattle.recovery.specs.Tables.{used-blank, used-raised}
-use Rattle.recovery.proofs.fill.raise_mentioned.Statement.{statement}
-use Rattle.recovery.proofs.fill.raise_mentioned.Tie as tie
+use Rattle.table.specs.Used.{used-blank, used-raised}
+use Rattle.table.proofs.used.raise_mentioned.Statement.{statement}
+use Rattle.table.proofs.used.raise_mentioned.Tie as tie
 
 slot-at-requires : tie.Need-slot-at-requires
 slot-at-requires c κs = search needs

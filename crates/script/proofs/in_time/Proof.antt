@@ -5,8 +5,8 @@ use borrow.Author.Needs.{needs}
 use Rattle.line.specs.Line.{said}
 use Rattle.script.specs.Script.{onFormat, isFormat}
 use Rattle.script.specs.StepLaws.{other-line, in-time-later, in-time-first, too-early}
-use Rattle.script.proofs.step.in_time.Statement.{statement}
-use Rattle.script.proofs.step.in_time.Tie as tie
+use Rattle.script.proofs.in_time.Statement.{statement}
+use Rattle.script.proofs.in_time.Tie as tie
 
 returns : tie.Need-returns
 returns c = λ (list : List ℕ). in-time-later _ _ (c .if1 .taken)

@@ -3,8 +3,8 @@ use Rattle.bounded.specs.Limits.{width}
 use Rattle.line.specs.Line.{said}
 use Rattle.rules.specs.Volume.{volume}
 use Rattle.script.specs.StepLaws.{went-in-front, went-over, went-line}
-use Rattle.script.proofs.step.step.Statement.{statement}
-use Rattle.script.proofs.step.step.Tie as tie
+use Rattle.script.proofs.step.Statement.{statement}
+use Rattle.script.proofs.step.Tie as tie
 
 returns : tie.Need-returns
 returns c =

@@ -4,8 +4,8 @@ use Prim.Native.Nat.{max}
 use mathlib.Core.Path.{_≡_, sym, ap, _∙_}
 use lib.ListN.{set, getD}
 use lib.Seq.{set-getD}
-use Rattle.recovery.proofs.fill.raise_entry.Statement.{statement}
-use Rattle.recovery.proofs.fill.raise_entry.Tie as tie
+use Rattle.table.proofs.used.raise_entry.Statement.{statement}
+use Rattle.table.proofs.used.raise_entry.Tie as tie
 
 mul-if1 : tie.Need-mul-if1
 mul-if1 c = search needs

@@ -3,9 +3,9 @@ use borrow.Author.Needs.{needs}
 use Rattle.bounded.specs.Limits.{width}
 use Rattle.rules.specs.Volume.{volume}
 use Rattle.report.specs.ReportLaws.{went-idle}
-use Rattle.script.specs.FeedLaws.{took-over, took-byte, took-line-end}
-use Rattle.script.proofs.feed.feed.Statement.{statement}
-use Rattle.script.proofs.feed.feed.Tie as tie
+use Rattle.feed.specs.FeedLaws.{took-over, took-byte, took-line-end}
+use Rattle.feed.proofs.feed.Statement.{statement}
+use Rattle.feed.proofs.feed.Tie as tie
 
 returns : tie.Need-returns
 returns c =

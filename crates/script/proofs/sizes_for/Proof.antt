@@ -7,8 +7,8 @@ use Rattle.rules.specs.Volume.{Volume}
 use Rattle.report.specs.Report.{standing}
 use Rattle.script.specs.Script.{onFormat, sizesFor}
 use Rattle.script.specs.StepLaws.{other-line}
-use Rattle.script.proofs.step.sizes_for.Statement.{statement}
-use Rattle.script.proofs.step.sizes_for.Tie as tie
+use Rattle.script.proofs.sizes_for.Statement.{statement}
+use Rattle.script.proofs.sizes_for.Tie as tie
 
 enum-known-line : tie.Need-enum-known-line
 enum-known-line c = search needs
