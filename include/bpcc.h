@@ -4,23 +4,19 @@
  *
  * A volume has P pages (1 to 256) and S slots (P to 1,024), both numbered from 0. The caller owns all memory and lends it:
  *
- *   words     BPCC_TABLE_WORDS(S) words, the slot table; slot k has words 5k to 5k+4
- *   contents  BPCC_CONTENTS_BYTES(S) bytes; slot k has bytes 32k to 32k+31
+ *   words     BPCC_TABLE_WORDS(S) words, the slot table: an image of the flash; slot k has words 5k to 5k+4
+ *   contents  BPCC_CONTENTS_BYTES(S) bytes, the slots' bytes: an image of the flash; slot k has bytes 32k to 32k+31
  *   state     BPCC_STATE_WORDS(P) words of working memory, lost when power fails; page p has words 4p to 4p+3:
  *             the last committed version, the last used version, the next page of its transaction (BPCC_NONE: not in flight),
  *             and written (0 or 1)
  *
- * The five words of a slot are its page p, its version v, its back pointer c (the page's last committed version at launch), the
- * next page np and its version nv. A blank slot has BPCC_NONE in all five. Any other slot is a record, sound if p and np are
- * below P, v, c and nv are at most 4,294,967,294, c is below v (or both are 0), and nv equals v where np equals p.
+ * A blank slot has BPCC_NONE in all five words. Any other slot is a record: its page p, its version v, its back pointer c (the
+ * page's committed version at launch), the next page np of its transaction and that page's version nv. docs/SPEC.md says when a
+ * record (section 2) and a state (section 3) are sound.
  *
- * A state is sound if, for each page, committed is at most used, used is at most 4,294,967,294, written is 0 or 1 and 0 where
- * the page is not in flight; and a page in flight has committed below used and a next page below P that is also in flight; no
- * two pages in flight share a next page.
- *
- * A buffer, and a list is one, is a pointer and then its length, in elements. The premises, which a caller must see to: each
- * buffer is really there, as long as stated, aligned for its type (a buffer of length 0 may be NULL), and no two buffers of one
- * call overlap. What the buffers hold, and all numbers and lengths, may be anything: every call either is done or refuses.
+ * A buffer, and a list is one, is a pointer and then its length, in elements; it is really there and as long as stated, as
+ * premise 1 of README.md says. What the buffers hold, and all numbers and lengths, may be anything: every call either is done or
+ * refuses. Nothing is kept between calls; two calls on one volume must not overlap in time.
  *
  * Every call returns the answer in the lower 32 bits (bpcc_answer) and a second number in the upper (bpcc_second). The answer
  * is 0 or the first refusal, from the lowest number up, whose condition holds, each tried for all pages or slots before the
@@ -35,6 +31,11 @@
 #ifdef __cplusplus
 extern "C" {
 #endif
+
+/* The interface's version: the major number rises where a caller must change, the minor where something is added or made
+ * stricter (docs/CHANGES.md). */
+#define BPCC_VERSION_MAJOR 1
+#define BPCC_VERSION_MINOR 0
 
 /* Bytes of contents for each slot, and the length of what is written and read. */
 #define BPCC_WIDTH 32
@@ -55,28 +56,50 @@ extern "C" {
 #define BPCC_CONTENTS_BYTES(slots) (BPCC_WIDTH * (size_t)(slots))
 #define BPCC_STATE_WORDS(pages) (BPCC_PAGE_WORDS * (size_t)(pages))
 
-/* The answers. */
+/* The answers. Each one's condition is in docs/SPEC.md, section 7; what to do about it in docs/INTEGRATION.md. */
 enum bpcc_answers {
     BPCC_DONE = 0,
-    BPCC_WRONG_SIZE = 1,            /* P, S or a buffer's length is wrong (lists may have any length) */
-    BPCC_SLOT_UNSOUND = 2,          /* a slot neither blank nor sound */
-    BPCC_RECORDS_CLASH = 3,         /* two records with equal page and version, or a page with no record */
-    BPCC_LINKS_ASTRAY = 4,          /* the links run into a ring that lacks the start */
-    BPCC_STATE_UNSOUND = 5,         /* the state is not sound: recover first */
-    BPCC_WRONG_LIST = 6,            /* an empty list, a repeated entry, or a page or slot out of range */
-    BPCC_PAGE_IN_FLIGHT = 7,        /* a listed page is in flight */
-    BPCC_VERSIONS_EXHAUSTED = 8,    /* a listed page's used version is 4,294,967,294 */
-    BPCC_PAGE_NOT_IN_FLIGHT = 9,    /* the page is not in flight */
-    BPCC_PAGE_WRITTEN = 10,         /* the page is already written */
-    BPCC_SLOT_NOT_BLANK = 11,       /* the slot is not blank */
-    BPCC_MAY_NOT_ERASE = 12,        /* a listed slot may not be erased */
-    BPCC_NOTHING_TO_ERASE = 13,     /* no slot may be erased */
-    BPCC_NO_COMMITTED_RECORD = 14   /* no record with the committed version */
+    BPCC_WRONG_SIZE = 1,
+    BPCC_SLOT_UNSOUND = 2,
+    BPCC_RECORDS_CLASH = 3,
+    BPCC_LINKS_ASTRAY = 4,
+    BPCC_STATE_UNSOUND = 5,
+    BPCC_WRONG_LIST = 6,
+    BPCC_PAGE_IN_FLIGHT = 7,
+    BPCC_VERSIONS_EXHAUSTED = 8,
+    BPCC_PAGE_NOT_IN_FLIGHT = 9,
+    BPCC_PAGE_WRITTEN = 10,
+    BPCC_SLOT_NOT_BLANK = 11,
+    BPCC_MAY_NOT_ERASE = 12,
+    BPCC_NOTHING_TO_ERASE = 13,
+    BPCC_NO_COMMITTED_RECORD = 14
 };
 
 /* The answer, 0 for done. */
 static inline uint32_t bpcc_answer(uint64_t reply) {
     return (uint32_t)(reply & UINT32_C(4294967295));
+}
+
+/* An answer in words. */
+static inline const char *bpcc_answer_text(uint32_t answer) {
+    switch (answer) {
+    case BPCC_DONE: return "done";
+    case BPCC_WRONG_SIZE: return "pages, slots or a length wrong";
+    case BPCC_SLOT_UNSOUND: return "slot neither blank nor sound";
+    case BPCC_RECORDS_CLASH: return "records clash or a page has none";
+    case BPCC_LINKS_ASTRAY: return "links astray";
+    case BPCC_STATE_UNSOUND: return "state not sound";
+    case BPCC_WRONG_LIST: return "wrong list, page or slot";
+    case BPCC_PAGE_IN_FLIGHT: return "page in flight";
+    case BPCC_VERSIONS_EXHAUSTED: return "versions exhausted";
+    case BPCC_PAGE_NOT_IN_FLIGHT: return "page not in flight";
+    case BPCC_PAGE_WRITTEN: return "page already written";
+    case BPCC_SLOT_NOT_BLANK: return "slot not blank";
+    case BPCC_MAY_NOT_ERASE: return "slot may not be erased";
+    case BPCC_NOTHING_TO_ERASE: return "nothing to erase";
+    case BPCC_NO_COMMITTED_RECORD: return "no committed record";
+    default: return "no answer of this library";
+    }
 }
 
 /* The second number: done of a write, the slot of a suggest, the set bits of a count; else 0. */
@@ -126,13 +149,8 @@ uint64_t bpcc_withdraw(uint32_t pages, uint32_t slots,
                        uint32_t page);
 
 /*
- * Erases the listed slots: all become blank with bytes 255; nothing else changes. The permission is judged for every slot on
- * the table before the call.
- *
- * A record is obsolete if v is below its page's committed version, exposed if above. K straddles I's link if K.p = I.np and
- * K.c < I.nv < K.v. An obsolete K is needed if no record has the same page and c with a higher v, and K straddles some exposed
- * record's link. A slot may be erased if it holds an obsolete record that is not needed, or an exposed record other than one
- * whose page is in flight with v = used.
+ * Erases the listed slots: all become blank with bytes 255; nothing else changes. Whether they may be erased (docs/SPEC.md,
+ * section 5) is judged for every slot on the table before the call.
  * Refuses: 1, 2, 5, 6, 12.
  */
 uint64_t bpcc_erase(uint32_t pages, uint32_t slots,
