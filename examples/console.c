@@ -3,10 +3,14 @@
  * and finds every set whole: all old or all new.
  *
  *   console FILE           powers up from FILE (made and formatted where it is missing) and lists the pistons
- *   console FILE N SEED    stores random sets, N times killed; after each kill powers up and compares
+ *   console FILE N SEED    formats FILE and stores random sets, N times killed; after each kill powers up and compares
+ *
+ * A FILE that is there and is no flash file of this console, by its length, is left as it is.
  *
  * The driver is what firmware has to supply: load the flash at power-up, and program one slot at a time from the images in
- * memory, wholly or not at all. POSIX for the processes; the use of the library is plain C99.
+ * memory, wholly or not at all, before the next call. A freshly formatted file is moved into place in one piece: that stands for
+ * the marker that a chip's driver keeps (docs/INTEGRATION.md, "First boot"). POSIX for the processes; the use of the library is
+ * plain C99.
  */
 #define _POSIX_C_SOURCE 200809L
 
@@ -17,6 +21,7 @@
 #include <stdio.h>
 #include <stdlib.h>
 #include <string.h>
+#include <sys/stat.h>
 #include <sys/types.h>
 #include <sys/wait.h>
 #include <unistd.h>
@@ -38,9 +43,18 @@ static int flash = -1;
 /* The power fails at the step that finds 0 here; below 0 it holds. */
 static long steps_left = -1;
 
-static void stop(const char *what, uint64_t reply) {
-    fprintf(stderr, "console: %s: answer %lu\n", what, (unsigned long)bpcc_answer(reply));
+static void fail(const char *what) {
+    fprintf(stderr, "console: %s\n", what);
     exit(1);
+}
+
+/* The second number of a call that is done; any other ends the console. */
+static uint32_t done(const char *call, uint64_t reply) {
+    if (bpcc_answer(reply) != BPCC_DONE) {
+        fprintf(stderr, "console: %s: answer %lu, %s\n", call, (unsigned long)bpcc_answer(reply), bpcc_answer_text(bpcc_answer(reply)));
+        exit(1);
+    }
+    return bpcc_second(reply);
 }
 
 /* A point at which the power may fail. */
@@ -57,7 +71,7 @@ static void program(uint32_t k) {
     memcpy(piece + 4 * BPCC_SLOT_WORDS, contents + BPCC_WIDTH * k, BPCC_WIDTH);
     step();
     if (pwrite(flash, piece, sizeof piece, (off_t)k * SLOT_BYTES) != (ssize_t)sizeof piece) {
-        stop("the flash file takes no slot", 0);
+        fail("the flash file takes no slot");
     }
     step();
 }
@@ -65,48 +79,58 @@ static void program(uint32_t k) {
 /* Makes a formatted flash file under another name and moves it into place, so that it is there whole or not at all. */
 static void make_flash(const char *path) {
     char fresh[4096];
-    uint64_t reply = bpcc_format(PAGES, SLOTS, WORDS, CONTENTS, STATE);
     uint32_t k;
-    if (bpcc_answer(reply) != BPCC_DONE) {
-        stop("format", reply);
+    if (snprintf(fresh, sizeof fresh, "%s.new", path) >= (int)sizeof fresh) {
+        fail("the flash file's name is too long");
     }
-    snprintf(fresh, sizeof fresh, "%s.new", path);
+    done("format", bpcc_format(PAGES, SLOTS, WORDS, CONTENTS, STATE));
     flash = open(fresh, O_RDWR | O_CREAT | O_TRUNC, 0600);
+    if (flash < 0) {
+        fail("the flash file cannot be made");
+    }
     for (k = 0; k < SLOTS; k++) {
         program(k);
     }
     close(flash);
     if (rename(fresh, path) != 0) {
-        stop("the flash file cannot be made", 0);
+        fail("the flash file cannot be made");
     }
+}
+
+/* Whether the file is there; one that is must have a flash file's length. */
+static int is_there(const char *path) {
+    struct stat file;
+    if (stat(path, &file) != 0) {
+        return 0;
+    }
+    if (!S_ISREG(file.st_mode) || file.st_size != (off_t)SLOTS * SLOT_BYTES) {
+        fail("the file is no flash file of this console");
+    }
+    return 1;
 }
 
 /* Power-up: load the flash, then recover. Nothing else is called before recovery has answered 0. */
 static void power_up(const char *path) {
-    uint64_t reply;
     uint32_t k;
-    if (access(path, F_OK) != 0) {
+    if (!is_there(path)) {
         make_flash(path);
+        close(flash);
     }
     flash = open(path, O_RDWR);
     for (k = 0; k < SLOTS; k++) {
         uint8_t piece[SLOT_BYTES];
         if (pread(flash, piece, sizeof piece, (off_t)k * SLOT_BYTES) != (ssize_t)sizeof piece) {
-            stop("the flash file is too short", 0);
+            fail("the flash file cannot be read");
         }
         memcpy(words + BPCC_SLOT_WORDS * k, piece, 4 * BPCC_SLOT_WORDS);
         memcpy(contents + BPCC_WIDTH * k, piece + 4 * BPCC_SLOT_WORDS, BPCC_WIDTH);
     }
     memset(state, 0xFF, sizeof state);
-    reply = bpcc_recover(PAGES, SLOTS, WORDS, STATE);
-    if (bpcc_answer(reply) != BPCC_DONE) {
-        stop("recover", reply);
-    }
+    done("recover", bpcc_recover(PAGES, SLOTS, WORDS, STATE));
 }
 
 /* A blank slot; where there is none, one that the library suggests is erased first. */
 static uint32_t blank_slot(uint32_t start) {
-    uint64_t reply;
     uint32_t i, slot;
     for (i = 0; i < SLOTS; i++) {
         slot = (start + i) % SLOTS;
@@ -114,15 +138,8 @@ static uint32_t blank_slot(uint32_t start) {
             return slot;
         }
     }
-    reply = bpcc_suggest(PAGES, SLOTS, WORDS, STATE);
-    if (bpcc_answer(reply) != BPCC_DONE) {
-        stop("suggest", reply);
-    }
-    slot = bpcc_second(reply);
-    reply = bpcc_erase(PAGES, SLOTS, WORDS, CONTENTS, STATE, &slot, 1);
-    if (bpcc_answer(reply) != BPCC_DONE) {
-        stop("erase", reply);
-    }
+    slot = done("suggest", bpcc_suggest(PAGES, SLOTS, WORDS, STATE));
+    done("erase", bpcc_erase(PAGES, SLOTS, WORDS, CONTENTS, STATE, &slot, 1));
     program(slot);
     return slot;
 }
@@ -138,28 +155,19 @@ static void piston(uint8_t *bytes, uint32_t page, uint32_t n) {
 /* Stores a set of pistons as one transaction, and gives 1; where only some pieces of it are to be written, withdraws it after
  * these, and gives 0. */
 static int store(const uint32_t *set, uint32_t count, uint32_t n, uint32_t pieces) {
-    uint64_t reply = bpcc_launch(PAGES, SLOTS, STATE, set, count);
     uint32_t i;
-    if (bpcc_answer(reply) != BPCC_DONE) {
-        stop("launch", reply);
-    }
+    done("launch", bpcc_launch(PAGES, SLOTS, STATE, set, count));
     for (i = 0; i < count && i < pieces; i++) {
         uint8_t bytes[BPCC_WIDTH];
         uint32_t slot = blank_slot((uint32_t)rand() % SLOTS);
         piston(bytes, set[i], n);
-        reply = bpcc_write(PAGES, SLOTS, WORDS, CONTENTS, STATE, set[i], slot, bytes, sizeof bytes);
-        if (bpcc_answer(reply) != BPCC_DONE) {
-            stop("write", reply);
-        }
+        done("write", bpcc_write(PAGES, SLOTS, WORDS, CONTENTS, STATE, set[i], slot, bytes, sizeof bytes));
         program(slot);
     }
     if (i == count) {
         return 1;
     }
-    reply = bpcc_withdraw(PAGES, SLOTS, STATE, set[0]);
-    if (bpcc_answer(reply) != BPCC_DONE) {
-        stop("withdraw", reply);
-    }
+    done("withdraw", bpcc_withdraw(PAGES, SLOTS, STATE, set[0]));
     return 0;
 }
 
@@ -193,10 +201,7 @@ static void play(const char *path, int notes, uint32_t n) {
 /* Whether piston `page`, read after power-up, holds what set n stored. */
 static int holds(uint32_t page, uint32_t n) {
     uint8_t out[BPCC_WIDTH], bytes[BPCC_WIDTH];
-    uint64_t reply = bpcc_read(PAGES, SLOTS, WORDS, CONTENTS, STATE, page, out, sizeof out);
-    if (bpcc_answer(reply) != BPCC_DONE) {
-        stop("read", reply);
-    }
+    done("read", bpcc_read(PAGES, SLOTS, WORDS, CONTENTS, STATE, page, out, sizeof out));
     piston(bytes, page, n);
     return memcmp(out, bytes, sizeof out) == 0;
 }
@@ -232,13 +237,15 @@ static struct note follow(int notes, uint32_t *kept, unsigned *sets) {
 static int trial(const char *path, unsigned kills, unsigned seed) {
     uint32_t kept[PAGES] = {0}, n = 1;
     unsigned i, sets = 0;
+    is_there(path);
     make_flash(path);
+    close(flash);
     for (i = 1; i <= kills; i++) {
         struct note last;
         int ends[2], status;
         pid_t child;
         if (pipe(ends) != 0 || (child = fork()) < 0) {
-            stop("no process", 0);
+            fail("no process");
         }
         if (child == 0) {
             close(ends[0]);
@@ -272,23 +279,30 @@ static int list(const char *path) {
     power_up(path);
     for (page = 0; page < PAGES; page++) {
         uint8_t out[BPCC_WIDTH];
-        uint64_t reply = bpcc_read(PAGES, SLOTS, WORDS, CONTENTS, STATE, page, out, sizeof out);
-        if (bpcc_answer(reply) != BPCC_DONE) {
-            stop("read", reply);
-        }
+        done("read", bpcc_read(PAGES, SLOTS, WORDS, CONTENTS, STATE, page, out, sizeof out));
         printf("piston %lu: version %lu, %lu stops drawn\n", (unsigned long)page, (unsigned long)state[BPCC_PAGE_WORDS * page],
-               (unsigned long)bpcc_second(bpcc_count(out, sizeof out)));
+               (unsigned long)done("count", bpcc_count(out, sizeof out)));
     }
     return 0;
 }
 
+/* A decimal number from 1 to 1,000,000,000; 0 where the word is none. */
+static unsigned number(const char *word) {
+    unsigned n = 0;
+    for (; *word >= '0' && *word <= '9' && n <= 100000000; word++) {
+        n = 10 * n + (unsigned)(*word - '0');
+    }
+    return *word == '\0' && n <= 1000000000 ? n : 0;
+}
+
 int main(int argc, char **argv) {
-    if (argc == 2) {
+    int named = argc > 1 && argv[1][0] != '-' && argv[1][0] != '\0';
+    if (named && argc == 2) {
         return list(argv[1]);
     }
-    if (argc == 4) {
-        return trial(argv[1], (unsigned)strtoul(argv[2], NULL, 10), (unsigned)strtoul(argv[3], NULL, 10));
+    if (named && argc == 4 && number(argv[2]) != 0 && number(argv[3]) != 0) {
+        return trial(argv[1], number(argv[2]), number(argv[3]));
     }
-    fprintf(stderr, "usage: console FILE [KILLS SEED]\n");
+    fprintf(stderr, "usage: console FILE [KILLS SEED]   (KILLS and SEED from 1 up)\n");
     return 2;
 }

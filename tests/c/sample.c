@@ -250,11 +250,26 @@ static void nulls(void) {
     expect_nulls(READ, WORDS | CONTENTS | STATE | OUT, "read with NULL, 0");
 }
 
+/* Every answer has a text of its own, and no other number has one. */
+static void texts(void) {
+    const char *none = bpcc_answer_text(BPCC_NO_COMMITTED_RECORD + 1);
+    uint32_t answer, other;
+    check(strcmp(none, bpcc_answer_text(BPCC_NONE)) == 0, "one text for numbers that are no answer");
+    for (answer = BPCC_DONE; answer <= BPCC_NO_COMMITTED_RECORD; answer++) {
+        int own = strcmp(bpcc_answer_text(answer), none) != 0;
+        for (other = BPCC_DONE; other < answer; other++) {
+            own &= strcmp(bpcc_answer_text(answer), bpcc_answer_text(other)) != 0;
+        }
+        check(own, "an answer's text");
+    }
+}
+
 int main(void) {
     sample();
     refusals();
     erasing();
     nulls();
+    texts();
     printf("%u passed, %u failed\n", passed, failed);
     return failed != 0;
 }

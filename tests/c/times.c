@@ -1,90 +1,326 @@
 /*
- * How long the calls take on the largest volumes: each line a call, its answer and its time. The last line of the output is
- * 'N passed, M failed', where a call passes that gives the answer expected; no time is a failure.
+ * The longest time of each call over S, the number of slots. A call is made on kinds of volume that keep it busy, at five sizes:
+ * a line for each kind says what it is and has its times, and the table at the end has the longest of each call, in milliseconds.
+ * No time is a failure; the last line is 'N passed, M failed', and a kind at a size passes if it could be made and each call on
+ * it gave the answer expected.
+ *
+ * A time is the shortest of ROUNDS calls, each on the volume as it was made, less what reading the clock takes: what else the
+ * machine does is left out. The calls themselves make the volumes, but for two made by hand, to which no list of calls leads:
+ * erase and suggest accept any sound records, and search longest on these.
  */
+#define _POSIX_C_SOURCE 200809L
+
 #include "bpcc.h"
 
 #include <stdio.h>
+#include <stdlib.h>
 #include <string.h>
 #include <time.h>
 
-enum { PAGES = BPCC_MAX_PAGES, SLOTS = BPCC_MAX_SLOTS };
+enum { SIZES = 5, ROUNDS = 101 };
+enum call { FORMAT, LAUNCH, WRITE, WITHDRAW, ERASE, SUGGEST, RECOVER, COUNT, READ, CALLS };
 
-static uint32_t words[BPCC_SLOT_WORDS * SLOTS];
-static uint8_t contents[BPCC_WIDTH * SLOTS];
-static uint32_t state[BPCC_PAGE_WORDS * PAGES];
-static uint32_t list[SLOTS]; /* the numbers from 0 up, pages or slots */
+static const char *const names[CALLS] = {"format", "launch", "write", "withdraw", "erase", "suggest", "recover", "count", "read"};
+static const uint32_t sizes[SIZES] = {64, 128, 256, 512, 1024};
+
+/* A volume. Calls on it are given its last page, its last slot, and the list of the pages or slots below `listed`. */
+static struct volume {
+    uint32_t pages, slots, listed;
+    uint32_t words[BPCC_SLOT_WORDS * BPCC_MAX_SLOTS];
+    uint8_t contents[BPCC_WIDTH * BPCC_MAX_SLOTS];
+    uint32_t state[BPCC_PAGE_WORDS * BPCC_MAX_PAGES];
+} v, made;
+
+static uint32_t list[BPCC_MAX_SLOTS]; /* the numbers from 0 up */
 static uint8_t bytes[BPCC_WIDTH];
+static unsigned passed, failed, wrong; /* wrong: answers not expected, on the volume at hand */
 
-static unsigned passed, failed;
-static clock_t started;
+#define WORDS v.words, BPCC_TABLE_WORDS(v.slots)
+#define CONTENTS v.contents, BPCC_CONTENTS_BYTES(v.slots)
+#define STATE v.state, BPCC_STATE_WORDS(v.pages)
 
-static void start(void) {
-    started = clock();
+static uint64_t reply_of(enum call call) {
+    switch (call) {
+    case FORMAT: return bpcc_format(v.pages, v.slots, WORDS, CONTENTS, STATE);
+    case LAUNCH: return bpcc_launch(v.pages, v.slots, STATE, list, v.listed);
+    case WRITE: return bpcc_write(v.pages, v.slots, WORDS, CONTENTS, STATE, v.pages - 1, v.slots - 1, bytes, sizeof bytes);
+    case WITHDRAW: return bpcc_withdraw(v.pages, v.slots, STATE, v.pages - 1);
+    case ERASE: return bpcc_erase(v.pages, v.slots, WORDS, CONTENTS, STATE, list, v.listed);
+    case SUGGEST: return bpcc_suggest(v.pages, v.slots, WORDS, STATE);
+    case RECOVER: return bpcc_recover(v.pages, v.slots, WORDS, STATE);
+    case COUNT: return bpcc_count(bytes, sizeof bytes);
+    case READ: return bpcc_read(v.pages, v.slots, WORDS, CONTENTS, STATE, v.pages - 1, bytes, sizeof bytes);
+    default: return BPCC_DONE; /* no call: what reading the clock takes */
+    }
 }
 
-/* Ends the time of a call and counts its answer. */
-static void done(const char *name, uint64_t reply, uint32_t answer) {
-    double ms = 1000.0 * (double)(clock() - started) / CLOCKS_PER_SEC;
-    int right = bpcc_answer(reply) == answer;
-    passed += (unsigned)right;
-    failed += (unsigned)!right;
-    printf("%s  %s: answer %lu, %.2f ms\n", right ? "ok    " : "FAILED", name, (unsigned long)bpcc_answer(reply), ms);
+static void expect(uint32_t answer, uint64_t reply) {
+    wrong += bpcc_answer(reply) != answer;
 }
 
-#define WORDS words, BPCC_TABLE_WORDS(SLOTS)
-#define CONTENTS contents, BPCC_CONTENTS_BYTES(SLOTS)
+/* A formatted volume of so many pages, at most 256. */
+static void format(uint32_t slots, uint32_t pages) {
+    v.slots = slots;
+    v.pages = v.listed = pages < BPCC_MAX_PAGES ? pages : BPCC_MAX_PAGES;
+    expect(BPCC_DONE, reply_of(FORMAT));
+}
 
-/* One transaction over 256 pages, the table full of records. */
-static void many_pages(void) {
-    uint32_t i, round;
-    uint64_t reply;
-    start();
-    done("format, P = 256, S = 1,024", bpcc_format(PAGES, SLOTS, WORDS, CONTENTS, state, BPCC_STATE_WORDS(PAGES)), BPCC_DONE);
-    for (round = 1; round < SLOTS / PAGES; round++) {
-        start();
-        done("launch of 256 pages", bpcc_launch(PAGES, SLOTS, state, BPCC_STATE_WORDS(PAGES), list, PAGES), BPCC_DONE);
-        reply = 0;
-        for (i = 0; i < PAGES; i++) {
-            start();
-            reply = bpcc_write(PAGES, SLOTS, WORDS, CONTENTS, state, BPCC_STATE_WORDS(PAGES), i, PAGES * round + i, bytes, sizeof bytes);
+/* Launches a ring of two pages, or of one. */
+static void launch(uint32_t first, uint32_t second) {
+    const uint32_t both[] = {first, second};
+    expect(BPCC_DONE, bpcc_launch(v.pages, v.slots, STATE, both, first == second ? 1 : 2));
+}
+
+/* Writes a page in flight. */
+static void put(uint32_t page, uint32_t slot) {
+    expect(BPCC_DONE, bpcc_write(v.pages, v.slots, WORDS, CONTENTS, STATE, page, slot, bytes, sizeof bytes));
+}
+
+/* A set of one page, stored. */
+static void store(uint32_t page, uint32_t slot) {
+    launch(page, page);
+    put(page, slot);
+}
+
+/* A set of two pages, withdrawn after the first. */
+static void abandon(uint32_t page, uint32_t other, uint32_t slot) {
+    launch(page, other);
+    put(page, slot);
+    expect(BPCC_DONE, bpcc_withdraw(v.pages, v.slots, STATE, page));
+}
+
+/* Erases a slot. */
+static void blank(uint32_t slot) {
+    expect(BPCC_DONE, bpcc_erase(v.pages, v.slots, WORDS, CONTENTS, STATE, &slot, 1));
+}
+
+/* The lowest blank slot; where there is none, one is erased. */
+static uint32_t blank_slot(void) {
+    uint32_t slot = 0;
+    while (slot < v.slots && v.words[BPCC_SLOT_WORDS * slot] != BPCC_NONE) {
+        slot++;
+    }
+    if (slot == v.slots) {
+        slot = bpcc_second(reply_of(SUGGEST));
+        blank(slot);
+    }
+    return slot;
+}
+
+/* Rings of all pages, stored one after the other in the slots below `end`. */
+static void fill(uint32_t end) {
+    uint32_t slot;
+    for (slot = v.pages; slot < end; slot++) {
+        if (slot % v.pages == 0) {
+            expect(BPCC_DONE, reply_of(LAUNCH));
         }
-        done("the last write of 256", reply, BPCC_DONE);
+        put(slot % v.pages, slot);
     }
-    start();
-    done("recover of one ring of 256", bpcc_recover(PAGES, SLOTS, WORDS, state, BPCC_STATE_WORDS(PAGES)), BPCC_DONE);
-    start();
-    done("suggest", bpcc_suggest(PAGES, SLOTS, WORDS, state, BPCC_STATE_WORDS(PAGES)), BPCC_DONE);
-    start();
-    done("erase of all 1,024 slots", bpcc_erase(PAGES, SLOTS, WORDS, CONTENTS, state, BPCC_STATE_WORDS(PAGES), list, SLOTS), BPCC_MAY_NOT_ERASE);
-    start();
-    done("read", bpcc_read(PAGES, SLOTS, WORDS, CONTENTS, state, BPCC_STATE_WORDS(PAGES), 255, bytes, sizeof bytes), BPCC_DONE);
-    start();
-    done("erase of 768 slots", bpcc_erase(PAGES, SLOTS, WORDS, CONTENTS, state, BPCC_STATE_WORDS(PAGES), list, SLOTS - PAGES), BPCC_DONE);
 }
 
-/* One page with 1,023 obsolete records. */
-static void one_page(void) {
-    uint32_t i;
-    uint64_t reply = bpcc_format(1, SLOTS, WORDS, CONTENTS, state, BPCC_STATE_WORDS(1));
-    for (i = 1; i < SLOTS && bpcc_answer(reply) == BPCC_DONE; i++) {
-        bpcc_launch(1, SLOTS, state, BPCC_STATE_WORDS(1), list, 1);
-        reply = bpcc_write(1, SLOTS, WORDS, CONTENTS, state, BPCC_STATE_WORDS(1), 0, i, bytes, sizeof bytes);
-    }
-    start();
-    done("erase of 1,023 slots, P = 1", bpcc_erase(1, SLOTS, WORDS, CONTENTS, state, BPCC_STATE_WORDS(1), list, SLOTS - 1), BPCC_DONE);
-    start();
-    done("recover after it", bpcc_recover(1, SLOTS, WORDS, state, BPCC_STATE_WORDS(1)), BPCC_DONE);
+/* 0 or 1, in an order that no processor foresees. */
+static uint32_t either(void) {
+    return (uint32_t)rand() / 64 % 2;
 }
 
-int main(void) {
-    uint32_t i;
-    for (i = 0; i < SLOTS; i++) {
-        list[i] = i;
+/* By hand: a record of page p that links to page np. */
+static void set(uint32_t slot, uint32_t p, uint32_t version, uint32_t c, uint32_t np, uint32_t nv) {
+    const uint32_t record[] = {p, version, c, np, nv};
+    memcpy(v.words + BPCC_SLOT_WORDS * slot, record, sizeof record);
+}
+
+/* As many pages as there may be, stored in rings of all of them until no slot is blank. */
+static void at_rest(uint32_t slots) {
+    format(slots, slots);
+    fill(slots);
+}
+
+/* … and launched again. */
+static void in_flight(uint32_t slots) {
+    at_rest(slots);
+    expect(BPCC_DONE, reply_of(LAUNCH));
+}
+
+/* As many pages as leave a slot blank, launched. */
+static void one_blank(uint32_t slots) {
+    format(slots, slots - 1);
+    expect(BPCC_DONE, reply_of(LAUNCH));
+}
+
+/* As many pages as can be stored in one ring, in rings of all of them; the last slot of the last ring is to be written. */
+static void ring_but_one(uint32_t slots) {
+    format(slots, slots / 2);
+    fill(slots - 1);
+}
+
+/* … and is. */
+static void ring(uint32_t slots) {
+    ring_but_one(slots);
+    expect(BPCC_DONE, reply_of(WRITE));
+}
+
+/* Page 0 or 1 is stored with each other page, so that all links but those of the last two sets are to older versions. */
+static void old_links(uint32_t slots) {
+    uint32_t i, hub;
+    format(slots, slots - 2);
+    for (i = 3 * v.pages - 4; i < slots; i++) {
+        store(either(), blank_slot());
     }
-    memset(bytes, 3, sizeof bytes);
-    many_pages();
-    one_page();
+    for (i = 2; i < v.pages; i++) {
+        hub = either();
+        launch(i, hub);
+        put(i, blank_slot());
+        put(hub, blank_slot());
+    }
+}
+
+/* Versions of page 0, all but the last abandoned; each straddles the link behind them, and is outdone by the next. */
+static void outdone(uint32_t slots) {
+    uint32_t slot;
+    format(slots, 2);
+    store(1, slots - 1);
+    blank(1);
+    abandon(1, 0, slots - 2);
+    for (slot = 1; slot < slots - 3; slot++) {
+        abandon(0, 1, slot);
+    }
+    store(0, slots - 3);
+    v.listed = slots - 3;
+}
+
+/* Versions of page 0, all stored; each straddles a link of its own behind them. */
+static void needed(uint32_t slots) {
+    uint32_t i;
+    format(slots, 2);
+    for (i = 2; i < slots / 2; i++) {
+        abandon(1, 0, slots / 2 + i - 1);
+        store(0, i);
+    }
+    blank(0);
+    store(0, 0);
+}
+
+/* By hand: all pages in flight, and obsolete records of pages 0 and 1, each of which straddles one of two links behind them. */
+static void mixed_needed(uint32_t slots) {
+    const uint32_t state[] = {5, 6, 1, 0, 5, 6, 2, 0, 0, 1, 3, 0};
+    uint32_t slot, p;
+    in_flight(slots);
+    memcpy(v.state, state, sizeof state);
+    for (slot = 0; slot < slots - 2; slot++) {
+        p = either();
+        set(slot, p, 3, either(), p, 3);
+    }
+    set(slots - 2, 2, 1, 0, 0, 2);
+    set(slots - 1, 2, 1, 0, 1, 2);
+}
+
+/* … and four before the links, one of which outdoes each. */
+static void mixed_outdone(uint32_t slots) {
+    uint32_t i;
+    mixed_needed(slots);
+    v.listed = slots - 6;
+    for (i = 0; i < 4; i++) {
+        set(v.listed + i, i % 2, 4, i / 2, i % 2, 4);
+    }
+}
+
+/* Each call on its kinds of volume, and the answer expected. */
+static const struct kind {
+    enum call call;
+    uint32_t answer;
+    void (*make)(uint32_t slots);
+    const char *what;
+} kinds[] = {
+    {FORMAT, BPCC_DONE, at_rest, "P = S"},
+    {LAUNCH, BPCC_DONE, at_rest, "P = S, all pages"},
+    {LAUNCH, BPCC_PAGE_IN_FLIGHT, in_flight, "P = S, all pages, all in flight already"},
+    {WRITE, BPCC_DONE, ring_but_one, "P = S/2, the last page of a ring of all"},
+    {WRITE, BPCC_DONE, one_blank, "P = S-1, the first page of a ring of all"},
+    {WITHDRAW, BPCC_DONE, in_flight, "P = S, a ring of all"},
+    {ERASE, BPCC_DONE, outdone, "P = 2, S-3 records before a link, each outdone by the next"},
+    {ERASE, BPCC_DONE, mixed_outdone, "P = S, by hand, S-6 records before their links and what outdoes them"},
+    {SUGGEST, BPCC_DONE, needed, "P = 2, S/2-2 needed records before their links"},
+    {SUGGEST, BPCC_NOTHING_TO_ERASE, mixed_needed, "P = S, by hand, S-2 needed records before their links"},
+    {RECOVER, BPCC_DONE, ring, "P = S/2, a ring of all, no slot blank"},
+    {RECOVER, BPCC_DONE, old_links, "P = S-2, links to older versions"},
+    {COUNT, BPCC_DONE, at_rest, "32 bytes"},
+    {READ, BPCC_DONE, in_flight, "P = S, all in flight"},
+};
+
+static double milliseconds(void) {
+    struct timespec t;
+    clock_gettime(CLOCK_MONOTONIC, &t);
+    return 1e3 * (double)t.tv_sec + 1e-6 * (double)t.tv_nsec;
+}
+
+/* The shortest time of a call on the volume made. */
+static double shortest(enum call call, uint32_t answer) {
+    double best = 0;
+    int i;
+    for (i = 0; i < ROUNDS; i++) {
+        double started, took;
+        uint64_t reply;
+        v = made;
+        started = milliseconds();
+        reply = reply_of(call);
+        took = milliseconds() - started;
+        best = i == 0 || took < best ? took : best;
+        expect(answer, reply);
+    }
+    return best;
+}
+
+static void print_times(const double *times) {
+    int s;
+    for (s = 0; s < SIZES; s++) {
+        printf(" %.5f", times[s]);
+    }
+    printf("\n");
+}
+
+/* Times a kind at each size, counts it, and raises the longest times of its call. */
+static void measure(const struct kind *kind, double clock_time, double *longest) {
+    double times[SIZES];
+    unsigned right = 0;
+    int s;
+    for (s = 0; s < SIZES; s++) {
+        wrong = 0;
+        kind->make(sizes[s]);
+        made = v;
+        times[s] = shortest(kind->call, kind->answer) - clock_time;
+        longest[s] = times[s] > longest[s] ? times[s] : longest[s];
+        right += wrong == 0;
+    }
+    passed += right;
+    failed += SIZES - right;
+    printf("%s  %s, %s:", right == SIZES ? "ok    " : "FAILED", names[kind->call], kind->what);
+    print_times(times);
+}
+
+int main(int argc, char **argv) {
+    static double longest[CALLS][SIZES];
+    double clock_time;
+    size_t i;
+    if (argc > 1) {
+        fprintf(stderr, "usage: %s\n", argv[0]);
+        return 2;
+    }
+    for (i = 0; i < BPCC_MAX_SLOTS; i++) {
+        list[i] = (uint32_t)i;
+    }
+    clock_time = shortest(CALLS, BPCC_DONE);
+    printf("kinds of volume (P is 256 where more are named), milliseconds at each number of slots\n");
+    for (i = 0; i < sizeof kinds / sizeof *kinds; i++) {
+        measure(&kinds[i], clock_time, longest[kinds[i].call]);
+    }
+    printf("slots");
+    for (i = 0; i < SIZES; i++) {
+        printf(" %lu%s", (unsigned long)sizes[i], i + 1 < SIZES ? "" : "\n");
+    }
+    for (i = 0; i < CALLS; i++) {
+        printf("%s", names[i]);
+        print_times(longest[i]);
+    }
     printf("%u passed, %u failed\n", passed, failed);
     return failed != 0;
 }
