@@ -35,7 +35,7 @@ extern "C" {
 /* The interface's version: the major number rises where a caller must change, the minor where something is added or made
  * stricter (docs/CHANGES.md). */
 #define BPCC_VERSION_MAJOR 1
-#define BPCC_VERSION_MINOR 0
+#define BPCC_VERSION_MINOR 1
 
 /* Bytes of contents for each slot, and the length of what is written and read. */
 #define BPCC_WIDTH 32
@@ -160,7 +160,7 @@ uint64_t bpcc_erase(uint32_t pages, uint32_t slots,
                     const uint32_t *list, size_t list_length);
 
 /*
- * Names, as the second number, some slot that may be erased (which one is not fixed). Alters nothing.
+ * Names, as the second number, the lowest slot that may be erased. Alters nothing.
  * Refuses, with BPCC_NONE as the second number: 1, 2, 5, 13.
  */
 uint64_t bpcc_suggest(uint32_t pages, uint32_t slots,

@@ -175,11 +175,9 @@ static void refusals(void) {
 
 /* What may be erased goes, one suggestion after another; then nothing is left to erase and the pages read the same. */
 static void erasing(void) {
-    int round;
-    for (round = 0; round < 2; round++) {
-        uint64_t reply = suggest();
-        uint32_t slot = bpcc_second(reply);
-        check(bpcc_answer(reply) == BPCC_DONE && (slot == 1 || slot == 2), "suggest the obsolete or the exposed slot");
+    uint32_t slot;
+    for (slot = 1; slot <= 2; slot++) {
+        expect(suggest(), BPCC_DONE, slot, "suggest the obsolete slot, then the exposed one");
         expect(erase(&slot, 1), BPCC_DONE, 0, "erase the suggested slot");
         check(words[BPCC_SLOT_WORDS * slot] == BPCC_NONE && contents[BPCC_WIDTH * slot] == 255, "the suggested slot is blank");
     }

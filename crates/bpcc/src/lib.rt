@@ -11,11 +11,12 @@ ghost use Rattle.rules.specs.Format.{formatOutcome};
 ghost use Rattle.rules.specs.Read.{readOutcome};
 ghost use Rattle.rules.specs.cases.Bounds.{boundRows};
 ghost use Rattle.rules.specs.cases.Write.{writeRows};
+ghost use Rattle.rules.specs.cases.Suggest.{suggestRows};
 ghost use Rattle.rules.specs.Launch.{launchOutcome};
 ghost use Rattle.rules.specs.Write.{writeOutcome};
 ghost use Rattle.rules.specs.Withdraw.{withdrawOutcome};
 ghost use Rattle.rules.specs.Erase.{eraseOutcome};
-ghost use Rattle.rules.specs.Suggest.{SuggestOutcome};
+ghost use Rattle.rules.specs.Suggest.{suggestOutcome};
 ghost use Rattle.rules.specs.Recover.{recoverOutcome};
 ghost use Rattle.rules.specs.cases.Star.{starTable};
 ghost use Rattle.atomicity.specs.Promise.{Promise3, OwnState};
@@ -96,10 +97,10 @@ pub extern "C" fn bpcc_erase(
     collect::erase(Sizes { pages, slots }, words, contents, state, list)
 }
 
-// Suggest some slot that may be erased.
+// Suggest the lowest slot that may be erased.
 #[no_mangle]
 pub extern "C" fn bpcc_suggest(pages: u32, slots: u32, words: &[u32], state: &[u32]) -> u64
-    ensures { λ r. ⌜ SuggestOutcome (sizesOf pages slots) (now (words .entry)) (now (state .entry)) (returned r tt) ⌝ }
+    ensures { λ r. ⌜ returned r tt ≡ suggestOutcome (sizesOf pages slots) (now (words .entry)) (now (state .entry)) ⌝ }
 {
     collect::suggest(Sizes { pages, slots }, words, state)
 }
@@ -137,12 +138,13 @@ pub extern "C" fn bpcc_read(
     reader::read(pages, slots, words, contents, state, page, out)
 }
 
-// Document 01's ★ cases hold of the definitions that the calls' contracts cite, and so do the bounds of P and S, and the records that a ring of two
-// stores.
+// Document 01's ★ cases hold of the definitions that the calls' contracts cite, and so do the bounds of P and S, the records that a ring of two
+// stores, and the slots that suggest names.
 pub fn star_cases()
     ensures cases { λ _. ⌜ RowsHold starTable ⌝ }
     ensures bounds { λ _. ⌜ RowsHold boundRows ⌝ }
     ensures records { λ _. ⌜ RowsHold writeRows ⌝ }
+    ensures suggested { λ _. ⌜ RowsHold suggestRows ⌝ }
 {}
 
 // Promise 3, whole: one theorem over all lists of calls and crashes; that it holds of the volume's own state; the paper's two invariants; that its

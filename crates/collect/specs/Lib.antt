@@ -1,4 +1,3 @@
 pub mod Within
 pub mod SearchLaws
 pub mod EraseLaws
-pub mod SuggestLaws

@@ -2,7 +2,6 @@
 ghost use mathlib.Core.Path.{_≡_};
 ghost use Prim.Native.Nat.{_+_, _*_, _≤_, _<_};
 ghost use lib.ListN.{length};
-ghost use Rattle.bounded.specs.Below.{firstBelow};
 ghost use Rattle.bounded.specs.Limits.{width};
 ghost use Rattle.outcome.specs.Outcome.{returned};
 ghost use Rattle.sizes.specs.Lists.{Listed};
@@ -12,7 +11,7 @@ ghost use Rattle.state.specs.State.{stateAt};
 ghost use Rattle.rules.specs.Volume.{volume};
 ghost use Rattle.rules.specs.Permission.{isObsolete, isExposed, outdoneBy, supports, isNeeded, isCurrent, mayEraseRecord, mayErase, mayEraseAll};
 ghost use Rattle.rules.specs.Erase.{eraseAnswer, eraseSteps, eraseOutcome};
-ghost use Rattle.rules.specs.Suggest.{SuggestOutcome};
+ghost use Rattle.rules.specs.Suggest.{suggestedSlot, suggestOutcome};
 ghost use Rattle.collect.specs.Within.{Within};
 ghost use Rattle.collect.specs.EraseLaws.{ListedIn};
 use record::Record;
@@ -167,7 +166,7 @@ fn may_erase_all(slots: u32, words: &[u32], state: &[u32], list: &[u32]) -> bool
 // The lowest slot that may be erased; `slots` where none may.
 fn first_erasable(slots: u32, words: &[u32], state: &[u32]) -> u32
     requires { ⌜ Within slots (now words) (now state) ⌝ }
-    ensures { λ r. ⌜ r ≡ firstBelow slots (mayErase slots (slotAt (now (words .entry))) (stateAt (now (state .entry)))) ⌝ }
+    ensures { λ r. ⌜ r ≡ suggestedSlot slots (now (words .entry)) (now (state .entry)) ⌝ }
 {
     let mut slot = 0;
     while slot < slots {
@@ -238,9 +237,9 @@ pub fn erase(
     outcome::reply(0, 0)
 }
 
-// Suggest some slot that may be erased: the lowest.
+// Suggest the lowest slot that may be erased.
 pub fn suggest(sizes: Sizes, words: &[u32], state: &[u32]) -> u64
-    ensures { λ r. ⌜ SuggestOutcome sizes (now (words .entry)) (now (state .entry)) (returned r tt) ⌝ }
+    ensures { λ r. ⌜ returned r tt ≡ suggestOutcome sizes (now (words .entry)) (now (state .entry)) ⌝ }
 {
     let fits = sizes::table_ok(sizes, words, state);
     let first = volume::judged(fits, sizes, words, state);

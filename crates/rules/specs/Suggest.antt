@@ -1,11 +1,10 @@
--- The call suggest. The slot that an accepted suggest names is free; what holds of it is that it may be erased.
-use Prim.Native.Nat.{ℕ, _<_}
-use mathlib.Core.Path.{_≡_}
+-- The call suggest.
+use Prim.Native.Nat.{ℕ}
 use mathlib.Core.List.{List}
-use mathlib.Core.Bool.{true, not, _&&_}
+use mathlib.Core.Bool.{not, _&&_}
 use Rattle.bounded.specs.Limits.{noNumber}
-use Rattle.bounded.specs.Below.{someBelow}
-use Rattle.outcome.specs.Outcome.{_⇒_otherwise_, Outcome}
+use Rattle.bounded.specs.Below.{someBelow, firstBelow}
+use Rattle.outcome.specs.Outcome.{_⇒_otherwise_, Outcome, settled}
 use Rattle.sizes.specs.declared.Sizes.{Sizes}
 use Rattle.sizes.specs.Sizes.{sizesOk, wordsFit, stateFits}
 use Rattle.record.specs.Slot.{slotAt}
@@ -21,9 +20,10 @@ suggestAnswer sizes words state =
     not (someBelow (sizes .slots) (mayErase (sizes .slots) (slotAt words) (stateAt state))) ⇒ 13 otherwise
     0
 
--- What holds of a suggest's outcome: the answer is the one above; accepted, the second number is "some slot that may be erased";
--- refused, "the suggested slot is 4,294,967,295". It alters no buffer.
-pub record SuggestOutcome (sizes : Sizes) (words state : List ℕ) (o : Outcome (Unit {0})) : Type 0 where
-  pub answered : o .answer ≡ suggestAnswer sizes words state
-  pub named : o .answer ≡ 0 → (o .second < sizes .slots) × (mayErase (sizes .slots) (slotAt words) (stateAt state) (o .second) ≡ true)
-  pub refused : ¬ (o .answer ≡ 0) → o .second ≡ noNumber
+-- Document 02: "It shall name the lowest." The lowest slot that may be erased; S where none may
+unfoldable pub suggestedSlot : ℕ → (words state : List ℕ) → ℕ
+suggestedSlot S words state = firstBelow S (mayErase S (slotAt words) (stateAt state))
+
+-- Accepted, the second number is that slot; refused, "the suggested slot is 4,294,967,295". It alters nothing.
+unfoldable pub suggestOutcome : (sizes : Sizes) (words state : List ℕ) → Outcome (Unit {0})
+suggestOutcome sizes words state = settled (suggestAnswer sizes words state) noNumber (suggestedSlot (sizes .slots) words state) tt tt

@@ -4,5 +4,6 @@ pub mod Bounds
 pub mod Launch
 pub mod Write
 pub mod Erase
+pub mod Suggest
 pub mod Recover
 pub mod Star

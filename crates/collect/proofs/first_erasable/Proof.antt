@@ -7,6 +7,7 @@ use Rattle.bounded.specs.BelowLaws.{first-is, first-none}
 use Rattle.record.specs.Slot.{slotAt}
 use Rattle.state.specs.State.{stateAt}
 use Rattle.rules.specs.Permission.{mayErase}
+use Rattle.rules.specs.Suggest.{suggestedSlot}
 use Rattle.collect.specs.SearchLaws.{none-more}
 use Rattle.collect.proofs.first_erasable.Statement.{statement}
 use Rattle.collect.proofs.first_erasable.Tie as tie
@@ -24,6 +25,7 @@ may-erase-requires : tie.Need-may-erase-requires Inv-loop μ-loop
 may-erase-requires c κs = (c .before .before .before .before .pre, c .loop-test .taken)
 
 returns : tie.Need-returns Inv-loop μ-loop
+unfolding suggestedSlot
 returns c =
     let l = c .before .before .before .loop in
     sym (first-is _ _ (l .slot) (c .before .before .loop-test .taken) (sym (c .before .may-erase .ensures) ∙ c .if1 .taken) (l .inv .1))
@@ -38,6 +40,7 @@ loop-again : tie.Need-loop-again Inv-loop μ-loop
 loop-again c = (omega arith, none-more _ _ (c .before .before .before .loop .inv .1) (sym (c .before .may-erase .ensures) ∙ c .if1 .left))
 
 returns-2 : tie.Need-returns-2 Inv-loop μ-loop
+unfolding suggestedSlot
 returns-2 c = let l = c .before .loop in sym (first-none _ _ (λ k h. l .inv .1 k (omega arith)))
 
 pub first-erasable-spec : {M : Type 1} → statement M

@@ -1,11 +1,14 @@
--- Each return is a refusal without a slot, or the first slot that the search found.
+-- Each return is a refusal without a slot, or the slot that the search found.
+use Prim.Native.Nat.{ℕ}
 use native.Mathlib.Omega.{arith}
-use mathlib.Core.Path.{refl, sym, _∙_}
+use mathlib.Core.Path.{refl, sym, ap, _∙_}
 use borrow.Author.Needs.{needs}
 use Rattle.bounded.specs.Limits.{noNumber}
+use Rattle.outcome.specs.Reply.{outcomeOf, reply-refused, reply-done}
+use Rattle.rules.specs.Suggest.{suggestedSlot, suggestOutcome}
 use Rattle.rules.specs.laws.Chains.{suggestOwn, suggest-chain, judged-passed, judged-refuses, judged-passes, table-spans}
 use Rattle.collect.specs.Within.{judged-within}
-use Rattle.collect.specs.SuggestLaws.{found-passes, found-some, found-none, suggest-refused, suggest-named}
+use Rattle.collect.specs.SearchLaws.{found-some, found-none}
 use Rattle.collect.proofs.suggest.Statement.{statement}
 use Rattle.collect.proofs.suggest.Tie as tie
 
@@ -19,10 +22,11 @@ reply-requires : tie.Need-reply-requires
 reply-requires c κs = search needs
 
 returns : tie.Need-returns
+unfolding suggestOutcome
 returns c =
-    suggest-refused _ _ _ (c .reply .result) (c .before .before .judged .result) noNumber (c .reply .ensures)
+    reply-refused (c .reply .result) (c .before .before .judged .result) noNumber _ tt tt (c .reply .ensures)
     (judged-refuses _ _ _ _ _ _ _ _ (suggest-chain _ _ _) (c .before .before .before .table-ok .ensures) _ (c .before .before .judged .ensures) (c .before .if1 .taken))
-    (c .before .if1 .taken) refl
+    (c .before .if1 .taken)
 
 first-erasable-requires : tie.Need-first-erasable-requires
 first-erasable-requires c κs =
@@ -33,24 +37,23 @@ reply-requires-2 : tie.Need-reply-requires-2
 reply-requires-2 c κs = search needs
 
 returns-2 : tie.Need-returns-2
-unfolding suggestOwn
+unfolding suggestOwn suggestedSlot suggestOutcome
 returns-2 c =
-    suggest-refused _ _ _ (c .reply2 .result) 13 noNumber (c .reply2 .ensures)
+    reply-refused (c .reply2 .result) 13 noNumber _ tt tt (c .reply2 .ensures)
     (judged-passes _ _ _ _ _ _ _ _ (suggest-chain _ _ _) (c .before .before .before .before .before .before .table-ok .ensures) _ (c .before .before .before .before .before .judged .ensures) (c .before .before .before .before .if1 .left)
     (rw (found-none _ _ (c .before .before .before .first-erasable .result) (c .before .before .before .first-erasable .ensures) (c .before .if2 .taken))))
-    (λ z. omega arith) refl
+    (λ z. omega arith)
 
 reply-requires-3 : tie.Need-reply-requires-3
 reply-requires-3 c κs = search needs
 
 returns-3 : tie.Need-returns-3
-unfolding suggestOwn
+unfolding suggestOwn suggestedSlot suggestOutcome
 returns-3 c =
-    suggest-named _ _ _ (c .reply3 .result) 0 (c .before .before .before .first-erasable .result) (c .reply3 .ensures)
+    reply-done (c .reply3 .result) 0 noNumber _ tt tt (c .reply3 .ensures ∙ ap (λ (slot : ℕ). outcomeOf 0 slot tt) (c .before .before .before .first-erasable .ensures))
     (judged-passes _ _ _ _ _ _ _ _ (suggest-chain _ _ _) (c .before .before .before .before .before .before .table-ok .ensures) _ (c .before .before .before .before .before .judged .ensures) (c .before .before .before .before .if1 .left)
     (rw (found-some _ _ (c .before .before .before .first-erasable .result) (c .before .before .before .first-erasable .ensures) (c .before .if2 .left))))
-    refl (c .before .if2 .left)
-    (found-passes _ _ (c .before .before .before .first-erasable .result) (c .before .before .before .first-erasable .ensures) (c .before .if2 .left))
+    refl
 
 pub suggest-spec : {M : Type 1} → statement M
 suggest-spec =

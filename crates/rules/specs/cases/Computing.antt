@@ -12,10 +12,10 @@ use Rattle.rules.specs.Withdraw.{withdrawAnswer, withdrawOutcome}
 use Rattle.rules.specs.Write.{planOf, writeAnswer, writeStep, writeDone, writeChange, writeOutcome}
 use Rattle.rules.specs.Erase.{eraseAnswer, eraseSteps, eraseOutcome}
 use Rattle.rules.specs.Permission.{isObsolete, isExposed, outdoneBy, supports, isNeeded, isCurrent, mayEraseRecord, mayErase, mayEraseAll}
-use Rattle.rules.specs.Suggest.{suggestAnswer}
+use Rattle.rules.specs.Suggest.{suggestAnswer, suggestedSlot, suggestOutcome}
 use Rattle.rules.specs.Recover.{walkOf, backPointer, committedBy, committedOf, recovered, recoverAnswer, recoverOutcome}
 use Rattle.rules.specs.Verdict.{isStraddled, linkVerdict, slotVerdict, verdict}
 
 unfoldable pub computing : Unit {0}
-unfolding table-computing state-computing outcome-computing formattedWords formattedContents formatted formatAnswer formatOutcome readSlot readAnswer readOutcome sizesOk wordsFit contentsFit stateFits volumeFits noRepeats inRange listOk somePage usedUp launchAnswer launchOutcome withdrawAnswer withdrawOutcome planOf writeAnswer writeStep writeDone writeChange writeOutcome eraseAnswer eraseSteps eraseOutcome isObsolete isExposed outdoneBy supports isNeeded isCurrent mayEraseRecord mayErase mayEraseAll suggestAnswer endsHere oneMore link followFrom follow walkOf isAstray backPointer committedBy committedOf recovered recoverAnswer recoverOutcome isStraddled linkVerdict slotVerdict verdict
+unfolding table-computing state-computing outcome-computing formattedWords formattedContents formatted formatAnswer formatOutcome readSlot readAnswer readOutcome sizesOk wordsFit contentsFit stateFits volumeFits noRepeats inRange listOk somePage usedUp launchAnswer launchOutcome withdrawAnswer withdrawOutcome planOf writeAnswer writeStep writeDone writeChange writeOutcome eraseAnswer eraseSteps eraseOutcome isObsolete isExposed outdoneBy supports isNeeded isCurrent mayEraseRecord mayErase mayEraseAll suggestAnswer suggestedSlot suggestOutcome endsHere oneMore link followFrom follow walkOf isAstray backPointer committedBy committedOf recovered recoverAnswer recoverOutcome isStraddled linkVerdict slotVerdict verdict
 computing = tt

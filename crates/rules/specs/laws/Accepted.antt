@@ -7,9 +7,11 @@ use lib.Dec.{ltb, eqb}
 use lib.ListN.{length}
 use borrow.Author.Tests.{ltb-true, eqb-true}
 use Rattle.bounded.specs.Choice.{both-left, both-right}
+use Rattle.bounded.specs.Below.{someBelow}
+use Rattle.bounded.specs.BelowLaws.{first-found, first-passes, first-none-before}
 use Rattle.outcome.specs.OutcomeLaws.{passed, held}
 use Rattle.sizes.specs.declared.Sizes.{Sizes}
-use Rattle.sizes.specs.Sizes.{sizesOk, stateFits, listOk}
+use Rattle.sizes.specs.Sizes.{sizesOk, wordsFit, stateFits, listOk}
 use Rattle.sizes.specs.SizesLaws.{state-fits-exactly}
 use Rattle.record.specs.Slot.{slotAt, isBlank}
 use Rattle.state.specs.State.{stateAt, stateSound, inFlight, isWritten}
@@ -19,8 +21,10 @@ use Rattle.rules.specs.laws.Volume.{Fits, fits-facts}
 use Rattle.rules.specs.Launch.{somePage, usedUp, launchAnswer}
 use Rattle.rules.specs.Write.{writeAnswer}
 use Rattle.rules.specs.Withdraw.{withdrawAnswer}
-use Rattle.rules.specs.Permission.{mayEraseAll}
+use Rattle.rules.specs.Permission.{mayErase, mayEraseAll}
 use Rattle.rules.specs.Erase.{eraseAnswer}
+use Rattle.rules.specs.Suggest.{suggestAnswer, suggestedSlot, suggestOutcome}
+use Rattle.rules.specs.laws.Outcomes.{suggest-done}
 
 pub record LaunchTests (P : ℕ) (state pages : List ℕ) : Type 0 where
   pub state-sized : length state ≡ 4 * P
@@ -104,3 +108,22 @@ erase-tests w sizes v list e =
     let d = held (listOk (sizes .slots) list) _ _ (c .1) in
     let f = held (mayEraseAll (sizes .slots) (slotAt (v .flash .words)) (stateAt (v .state)) list) _ _ (d .1) in
     record { fits = fits-facts w sizes v (a .0); listed = d .0; permitted = f .0 }
+
+-- "the lowest": a slot that may be erased, and none below it may
+pub record Lowest (S : ℕ) (words state : List ℕ) (slot : ℕ) : Type 0 where
+  pub slot-below : slot < S
+  pub permitted : mayErase S (slotAt words) (stateAt state) slot ≡ true
+  pub none-lower : (k : ℕ) → k < slot → mayErase S (slotAt words) (stateAt state) k ≡ false
+
+-- Where suggest answers 0 the slot that it names is the lowest that may be erased.
+pub suggested-lowest : (sizes : Sizes) (words state : List ℕ) → suggestAnswer sizes words state ≡ 0 → Lowest (sizes .slots) words state (suggestOutcome sizes words state .second)
+unfolding suggestAnswer suggestedSlot
+suggested-lowest sizes words state z =
+    let S = sizes .slots in
+    let may = mayErase S (slotAt words) (stateAt state) in
+    let a = held (sizesOk sizes && (wordsFit S words && stateFits (sizes .pages) state)) _ _ z in
+    let b = held (tableSound (sizes .pages) S (slotAt words)) _ _ (a .1) in
+    let c = held (stateSound (sizes .pages) (stateAt state)) _ _ (b .1) in
+    let d = held (someBelow S may) _ _ (c .1) in
+    let l = first-found may S (d .0) in
+    rw (suggest-done sizes words state z) (record { slot-below = l; permitted = first-passes may S l; none-lower = first-none-before may S })

@@ -1,7 +1,8 @@
--- The calls' outcomes: refused, every buffer is as it was and the second number 0; done, the outcome is what the call says.
+-- The calls' outcomes: refused, every buffer is as it was and the second number 0 (of suggest: no number); done, the outcome is what the call says.
 use Prim.Native.Nat.{ℕ}
 use mathlib.Core.Path.{_≡_}
 use mathlib.Core.List.{List}
+use Rattle.bounded.specs.Limits.{noNumber}
 use Rattle.outcome.specs.OutcomeLaws.{settled-refused, settled-done}
 use Rattle.sizes.specs.declared.Sizes.{Sizes}
 use Rattle.record.specs.Slot.{bytesAt}
@@ -15,6 +16,7 @@ use Rattle.rules.specs.Launch.{launchAnswer, launchOutcome}
 use Rattle.rules.specs.Write.{writeAnswer, writeDone, writeChange, writeOutcome}
 use Rattle.rules.specs.Withdraw.{withdrawAnswer, withdrawOutcome}
 use Rattle.rules.specs.Erase.{eraseAnswer, eraseSteps, eraseOutcome}
+use Rattle.rules.specs.Suggest.{suggestAnswer, suggestedSlot, suggestOutcome}
 
 module _ (w : ℕ) (sizes : Sizes) (v : Volume) where
   pub format-refused : ¬ (formatAnswer w sizes v ≡ 0) → formatOutcome w sizes v ≡ record { answer = formatAnswer w sizes v; second = 0; left = v }
@@ -69,3 +71,12 @@ module _ (w : ℕ) (sizes : Sizes) (v : Volume) (slots : List ℕ) where
   pub erase-done : eraseAnswer w sizes v slots ≡ 0 → eraseOutcome w sizes v slots ≡ record { answer = 0; second = 0; left = applyAll w (v .flash) (eraseSteps slots) }
   unfolding eraseOutcome
   erase-done e = settled-done (eraseAnswer w sizes v slots) 0 0 (v .flash) (applyAll w (v .flash) (eraseSteps slots)) e
+
+module _ (sizes : Sizes) (words state : List ℕ) where
+  pub suggest-refused : ¬ (suggestAnswer sizes words state ≡ 0) → suggestOutcome sizes words state ≡ record { answer = suggestAnswer sizes words state; second = noNumber; left = tt }
+  unfolding suggestOutcome
+  suggest-refused h = settled-refused (suggestAnswer sizes words state) noNumber (suggestedSlot (sizes .slots) words state) tt tt h
+
+  pub suggest-done : suggestAnswer sizes words state ≡ 0 → suggestOutcome sizes words state ≡ record { answer = 0; second = suggestedSlot (sizes .slots) words state; left = tt }
+  unfolding suggestOutcome
+  suggest-done e = settled-done (suggestAnswer sizes words state) noNumber (suggestedSlot (sizes .slots) words state) tt tt e

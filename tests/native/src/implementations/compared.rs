@@ -2,8 +2,7 @@
 //! nothing touched beside them.
 
 use super::reference::Reference;
-use crate::interface::{Arguments, Calls, Name, Reply, NONE};
-use crate::rules::may_erase;
+use crate::interface::{Arguments, Calls, Name, Reply};
 use std::cell::RefCell;
 use std::collections::BTreeMap;
 use std::fmt::Debug;
@@ -132,26 +131,8 @@ impl Calls for Compared<'_> {
         let got = self.tested.call(name, &mut copies.lent(a));
         let expected = Reference.call(name, a);
         copies.assert_are(a, name);
-        if name == Name::Suggest {
-            assert_suggested(a, got, expected);
-        } else {
-            assert_same(name, got, expected);
-        }
+        assert!(got == expected, "{name} gives {got:?} for {expected:?}");
         *self.seen.borrow_mut().entry((name, got.answer, got.second)).or_default() += 1;
         got
-    }
-}
-
-fn assert_same(name: Name, got: Reply, expected: Reply) {
-    assert!(got == expected, "{name} gives {got:?} for {expected:?}");
-}
-
-/// The slot that an accepted suggest names is free: it may be erased.
-fn assert_suggested(a: &Arguments, got: Reply, expected: Reply) {
-    if got.answer == 0 && expected.answer == 0 {
-        assert!(got.second < a.slots && may_erase(a.words, a.state, got.second), "suggest names slot {}", got.second);
-    } else {
-        assert!(got.answer == 0 || got.second == NONE, "a refused suggest names slot {}", got.second);
-        assert_same(Name::Suggest, got, expected);
     }
 }

@@ -34,6 +34,8 @@ faults! {
     EraseLooksAtHighestLinksOnly,
     SuggestSaysNothingToErase,
     SuggestNamesABlankSlot,
+    SuggestNamesTheHighestSlot,
+    SuggestSkipsSlotZero,
     RecoverDoesNothing,
     RecoverPutsEveryPageAtZero,
     RecoverTakesUsedFromVersionsAlone,
@@ -193,6 +195,14 @@ impl Impostor {
             (Name::Suggest, Fault::SuggestNamesABlankSlot) => {
                 let blank = (0..a.slots).find(|&k| slot(a.words, k).is_none());
                 blank.map_or(right, Reply::done)
+            }
+            (Name::Suggest, Fault::SuggestNamesTheHighestSlot) => {
+                let highest = (0..a.slots).rev().find(|&k| may_erase(a.words, a.state, k));
+                highest.map_or(right, Reply::done)
+            }
+            (Name::Suggest, Fault::SuggestSkipsSlotZero) => {
+                let later = (1..a.slots).find(|&k| may_erase(a.words, a.state, k));
+                later.map_or(Reply { answer: 13, second: NONE }, Reply::done)
             }
             (Name::Count, Fault::CountGivesZero) => Reply::done(0),
             (Name::Count, Fault::CountLooksAtOneBitOfEachByte) => Reply::done(a.bytes.iter().filter(|&&b| b & 1 == 1).count() as u32),

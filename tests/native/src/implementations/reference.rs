@@ -129,12 +129,12 @@ fn erase(a: &mut Arguments) -> Outcome {
     Ok(0)
 }
 
-/// Names the highest slot that may be erased: which one is free.
+/// Names the lowest slot that may be erased.
 fn suggest(a: &mut Arguments) -> Outcome {
     refuse(1, table_misfits(a))?;
     refuse(2, !table_sound(a.pages, a.words))?;
     refuse(5, !state_sound(a.pages, a.state))?;
-    (0..a.slots).rev().find(|&k| may_erase(a.words, a.state, k)).ok_or(13)
+    (0..a.slots).find(|&k| may_erase(a.words, a.state, k)).ok_or(13)
 }
 
 fn recover(a: &mut Arguments) -> Outcome {

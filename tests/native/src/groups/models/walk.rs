@@ -1,7 +1,7 @@
 //! The paper's models walked whole (section 4.3, appendix B): every state that its actions reach, breadth first, each action
 //! done by the calls, each invariant checked, each permission compared with the listing's own operators.
 
-use crate::interface::{Calls, NONE, PAGE_WORDS, WIDTH};
+use crate::interface::{Calls, Reply, NONE, PAGE_WORDS, WIDTH};
 use crate::rules::{entry, records, set_slot, slot, Record};
 use crate::volume::{Call, Volume};
 use std::collections::HashSet;
@@ -264,7 +264,7 @@ impl Model<'_> {
         }
     }
 
-    /// Erase refuses exactly the slots that the listing does not collect, and suggest names one that it does.
+    /// Erase refuses exactly the slots that the listing does not collect, and suggest names the lowest that it does.
     fn check_permission(&self, s: &Volume, collectable: &[u32]) {
         for k in (0..self.slots).filter(|k| !collectable.contains(k)) {
             let mut t = s.clone();
@@ -273,11 +273,7 @@ impl Model<'_> {
             assert!(t == *s, "a refused erase alters nothing");
         }
         let reply = s.clone().suggest(self.calls);
-        let right = if collectable.is_empty() {
-            reply.answer == 13 && reply.second == NONE
-        } else {
-            reply.answer == 0 && collectable.contains(&reply.second)
-        };
-        assert!(right, "suggest names a collectable record exactly where there is one");
+        let right = collectable.iter().min().map_or(Reply { answer: 13, second: NONE }, |&k| Reply::done(k));
+        assert_eq!(reply, right, "suggest names the lowest collectable record");
     }
 }
