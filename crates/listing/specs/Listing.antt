@@ -1,7 +1,7 @@
 -- What the script line op=list prints of a volume of P pages and S slots of w bytes.
 use Prim.Native.Nat.{ℕ, zero, suc}
 use mathlib.Core.List.{List, _++_}
-use mathlib.Core.Bool.{cond}
+use mathlib.Core.Bool.{Bool, cond}
 use lib.Dec.{eqb}
 use lib.ListN.{replicate}
 use Rattle.bounded.specs.Parts.{joinParts}
@@ -10,7 +10,7 @@ use Rattle.sizes.specs.declared.Sizes.{Sizes}
 use Rattle.text.specs.Scan.{bytes}
 use Rattle.text.specs.Print.{decimal}
 use Rattle.bits.specs.Bits.{countOutcome}
-use Rattle.state.specs.State.{stateAt}
+use Rattle.state.specs.State.{stateAt, isSet}
 use Rattle.rules.specs.Volume.{Volume}
 use Rattle.rules.specs.Read.{readSlot, readOutcome}
 
@@ -26,22 +26,24 @@ pageRead w sizes v page = readOutcome w sizes v page (replicate w 0)
 unfoldable pub drawnOf : (w : ℕ) (sizes : Sizes) → Volume → ℕ → ℕ
 drawnOf w sizes v page = countOutcome w (pageRead w sizes v page .left) .second
 
--- "a page is empty if drawn is 0, otherwise set"
-unfoldable pub stateText : ℕ → List ℕ
-stateText drawn = cond (eqb drawn 0) (bytes " state=empty\n") (bytes " state=set\n")
+-- a page is set or empty
+unfoldable pub stateText : Bool → List ℕ
+stateText set = cond set (bytes " state=set\n") (bytes " state=empty\n")
 
 -- "page=1 version=2 slot=3 drawn=64 state=set"
-unfoldable pub fieldsText : (page version slot drawn : ℕ) → List ℕ
-fieldsText page version slot drawn =
+unfoldable pub fieldsText : (page version slot drawn : ℕ) (set : Bool) → List ℕ
+fieldsText page version slot drawn set =
     bytes "page=" ++ (decimal page ++ (
     bytes " version=" ++ (decimal version ++ (
     bytes " slot=" ++ (decimal slot ++ (
     bytes " drawn=" ++ (decimal drawn ++
-    stateText drawn)))))))
+    stateText set)))))))
 
--- the line of a page: its committed version; "slot is the one read"
+-- the line of a page: its committed version; "slot is the one read"; "a stored silence is set, with drawn 0"
 unfoldable pub pageText : (w : ℕ) (sizes : Sizes) → Volume → ℕ → List ℕ
-pageText w sizes v page = fieldsText page (stateAt (v .state) page .committed) (readSlot (sizes .slots) v page) (drawnOf w sizes v page)
+pageText w sizes v page =
+    let s = stateAt (v .state) page in
+    fieldsText page (s .committed) (readSlot (sizes .slots) v page) (drawnOf w sizes v page) (isSet s)
 
 -- "the first such number": of n answers the first that is not 0; 0 where all are
 unfoldable pub firstRefusal : ℕ → (ℕ → ℕ) → ℕ

@@ -22,24 +22,32 @@ pub fn put_answer(out: &mut [u8], at: usize, answer: u32) -> usize
     print::put_text(out, next, b"\n")
 }
 
-// "a page is empty if drawn is 0, otherwise set"
-fn put_state(out: &mut [u8], at: usize, drawn: u32) -> usize
-    ensures { λ r. ⌜ shown (now (out .exit)) r ≡ added (now (out .entry)) at (stateText drawn) ⌝ }
+// Whether a page is set or empty.
+fn put_state(out: &mut [u8], at: usize, set: bool) -> usize
+    ensures { λ r. ⌜ shown (now (out .exit)) r ≡ added (now (out .entry)) at (stateText set) ⌝ }
 {
-    if drawn == 0 {
-        return print::put_text(out, at, b" state=empty\n");
+    if set {
+        return print::put_text(out, at, b" state=set\n");
     }
-    print::put_text(out, at, b" state=set\n")
+    print::put_text(out, at, b" state=empty\n")
 }
 
-fn put_fields(out: &mut [u8], at: usize, page: u32, version: u32, slot: u32, drawn: u32) -> usize
-    ensures { λ r. ⌜ shown (now (out .exit)) r ≡ added (now (out .entry)) at (fieldsText page version slot drawn) ⌝ }
+fn put_fields(
+    out: &mut [u8],
+    at: usize,
+    page: u32,
+    version: u32,
+    slot: u32,
+    drawn: u32,
+    set: bool,
+) -> usize
+    ensures { λ r. ⌜ shown (now (out .exit)) r ≡ added (now (out .entry)) at (fieldsText page version slot drawn set) ⌝ }
 {
     let a = print::put_field(out, at, b"page=", page);
     let b = print::put_field(out, a, b" version=", version);
     let c = print::put_field(out, b, b" slot=", slot);
     let d = print::put_field(out, c, b" drawn=", drawn);
-    put_state(out, d, drawn)
+    put_state(out, d, set)
 }
 
 // The answer of a page's read on a volume that conditions 1, 2 and 5 answer by `first`.
@@ -101,7 +109,15 @@ fn put_page(
 {
     let s = state::page_at(state, page);
     let slot = reader::committed_slot(sizes.slots, words, state, page);
-    put_fields(out, at, page, s.committed, slot, drawn_in(contents, slot))
+    put_fields(
+        out,
+        at,
+        page,
+        s.committed,
+        slot,
+        drawn_in(contents, slot),
+        s.is_set(),
+    )
 }
 
 // The lines of all pages.

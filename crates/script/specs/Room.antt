@@ -67,18 +67,18 @@ done-room a d =
     let k = field-room (bytes " done=") (bytes "\n") d in
     omega arith
 
-state-room : (drawn : ℕ) → length (stateText drawn) ≤ 13
+state-room : (set : Bool) → length (stateText set) ≤ 13
 unfolding stateText bytes
-state-room drawn = either-way (eqb drawn 0) (λ (l : List ℕ). length l ≤ 13) (bytes " state=empty\n") (bytes " state=set\n") (omega arith) (omega arith)
+state-room set = either-way set (λ (l : List ℕ). length l ≤ 13) (bytes " state=set\n") (bytes " state=empty\n") (omega arith) (omega arith)
 
-fields-room : (page version slot drawn : ℕ) → length (fieldsText page version slot drawn) ≤ 80
+fields-room : (page version slot drawn : ℕ) (set : Bool) → length (fieldsText page version slot drawn set) ≤ 80
 unfolding fieldsText bytes
-fields-room page version slot drawn =
-    let h = state-room drawn in
-    let d = field-room (bytes " drawn=") (stateText drawn) drawn in
-    let c = field-room (bytes " slot=") (bytes " drawn=" ++ (decimal drawn ++ stateText drawn)) slot in
-    let b = field-room (bytes " version=") (bytes " slot=" ++ (decimal slot ++ (bytes " drawn=" ++ (decimal drawn ++ stateText drawn)))) version in
-    let a = field-room (bytes "page=") (bytes " version=" ++ (decimal version ++ (bytes " slot=" ++ (decimal slot ++ (bytes " drawn=" ++ (decimal drawn ++ stateText drawn)))))) page in
+fields-room page version slot drawn set =
+    let h = state-room set in
+    let d = field-room (bytes " drawn=") (stateText set) drawn in
+    let c = field-room (bytes " slot=") (bytes " drawn=" ++ (decimal drawn ++ stateText set)) slot in
+    let b = field-room (bytes " version=") (bytes " slot=" ++ (decimal slot ++ (bytes " drawn=" ++ (decimal drawn ++ stateText set)))) version in
+    let a = field-room (bytes "page=") (bytes " version=" ++ (decimal version ++ (bytes " slot=" ++ (decimal slot ++ (bytes " drawn=" ++ (decimal drawn ++ stateText set)))))) page in
     omega arith
 
 join-room : (most n i : ℕ) (f : ℕ → List ℕ) → ((k : ℕ) → length (f k) ≤ most) → length (joinFrom n i f) ≤ most * n
@@ -94,7 +94,7 @@ join-room most (suc n) i f h =
 list-room : (w : ℕ) (sizes : Sizes) (v : Volume) → sizes .pages ≤ 256 → length (listText w sizes v) ≤ mostPrinted
 unfolding listText joinParts pageText
 list-room w sizes v h =
-    let j = join-room 80 (sizes .pages) 0 (pageText w sizes v) (λ (k : ℕ). fields-room k _ _ _) in
+    let j = join-room 80 (sizes .pages) 0 (pageText w sizes v) (λ (k : ℕ). fields-room k _ _ _ _) in
     let a = answer-room 0 in
     let r = answer-room (listAnswer w sizes v) in
     let e = length-append (joinFrom (sizes .pages) 0 (pageText w sizes v)) (answerText 0) in

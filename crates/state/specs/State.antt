@@ -1,4 +1,4 @@
--- The state ("sheet"): its words, and when it is sound. Document 01, "The volume and the sheet".
+-- The state ("sheet"): its words, and when it is sound (document 01, "The volume and the sheet"); when a page is set (document 02, wish 3).
 use Prim.Native.Nat.{ℕ}
 use mathlib.Core.List.{List, [], _∷_}
 use mathlib.Core.Bool.{Bool, not, _&&_, _||_}
@@ -31,6 +31,10 @@ inFlight s = not (eqb (s .next) noNumber)
 
 unfoldable pub isWritten : PageState → Bool
 isWritten s = eqb (s .written) 1
+
+-- Document 02: "A page is empty exactly when its committed version is 0"; any other is set.
+unfoldable pub isSet : PageState → Bool
+isSet s = not (eqb (s .committed) 0)
 
 -- "committed is at most used, used is at most 4,294,967,294"
 unfoldable pub versionsSound : PageState → Bool

@@ -9,7 +9,7 @@ ghost use Prim.Native.Nat.{_+_, _*_, _≤_, _<_};
 ghost use lib.ListN.{length};
 ghost use Rattle.bounded.specs.Below.{allBelow};
 ghost use Rattle.bounded.specs.Parts.{putPart};
-ghost use Rattle.state.specs.State.{pageWords, stateAt, inFlight, isWritten, versionsSound, flightSound, writtenSound, pageSound, shareNext, nextsApart, stateSound};
+ghost use Rattle.state.specs.State.{pageWords, stateAt, inFlight, isWritten, isSet, versionsSound, flightSound, writtenSound, pageSound, shareNext, nextsApart, stateSound};
 ghost use Rattle.state.specs.Change.{atRest, launchedPage, writtenPage};
 ghost use Rattle.state.specs.Walk.{endedPage};
 
@@ -71,6 +71,13 @@ impl PageState {
         ensures { λ r. ⌜ r ≡ isWritten self ⌝ }
     {
         self.written == 1
+    }
+
+    // "A page is empty exactly when its committed version is 0"; any other is set.
+    pub fn is_set(self) -> bool
+        ensures { λ r. ⌜ r ≡ isSet self ⌝ }
+    {
+        self.committed != 0
     }
 
     // Launched with this next page: "used rises by 1 …, written is 0".

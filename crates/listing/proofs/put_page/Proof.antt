@@ -21,6 +21,9 @@ drawn-in-requires c κs =
     let slot = c .before .committed-slot .ensures in
     omega arith
 
+is-set-requires : tie.Need-is-set-requires
+is-set-requires c κs = search needs
+
 put-fields-requires : tie.Need-put-fields-requires
 put-fields-requires c κs = search needs
 
@@ -30,10 +33,10 @@ same-length c = search needs
 returns : tie.Need-returns
 unfolding pageText readSlot
 returns c =
-    let s = c .before .before .before .before .before .before .page-at in
-    let slot = c .before .before .before .before .before .committed-slot in
-    let r = readable _ _ _ _ (c .before .before .before .before .before .before .before .before .before .before .before .pre) in
-    rw (c .before .before .before .drawn-in .ensures, s .ensures, slot .ensures, r .drawn-there) at (c .before .before .put-fields .ensures)
+    let s = c .before .before .before .before .before .before .before .page-at in
+    let slot = c .before .before .before .before .before .before .committed-slot in
+    let r = readable _ _ _ _ (c .before .before .before .before .before .before .before .before .before .before .before .before .pre) in
+    rw (c .before .before .before .is-set .ensures, c .before .before .before .before .drawn-in .ensures, s .ensures, slot .ensures, r .drawn-there) at (c .before .before .put-fields .ensures)
 
 pub put-page-spec : {M : Type 1} → statement M
 put-page-spec =
@@ -42,6 +45,7 @@ put-page-spec =
     page-at-requires
     committed-slot-requires
     drawn-in-requires
+    is-set-requires
     put-fields-requires
     same-length
     returns)

@@ -1,5 +1,4 @@
 use borrow.Author.Needs.{needs}
-use borrow.Author.Tests.{eq-eqb, ne-eqb}
 use Rattle.text.specs.Scan.{bytes}
 use Rattle.listing.specs.Listing.{stateText}
 use Rattle.listing.proofs.put_state.Statement.{statement}
@@ -16,7 +15,7 @@ same-length c = search needs
 
 returns : tie.Need-returns
 unfolding stateText bytes
-returns c = rw (eq-eqb _ _ (c .before .before .before .before .before .if1 .taken)) (c .before .before .put-text .ensures)
+returns c = rw (c .before .before .before .before .before .if1 .taken) (c .before .before .put-text .ensures)
 
 slice-aggregate-put-text-2 : tie.Need-slice-aggregate-put-text-2
 slice-aggregate-put-text-2 c = search needs
@@ -29,7 +28,7 @@ same-length-2 c = search needs
 
 returns-2 : tie.Need-returns-2
 unfolding stateText bytes
-returns-2 c = rw (ne-eqb _ _ (c .before .before .before .before .before .if1 .left)) (c .before .before .put-text2 .ensures)
+returns-2 c = rw (c .before .before .before .before .before .if1 .left) (c .before .before .put-text2 .ensures)
 
 pub put-state-spec : {M : Type 1} → statement M
 put-state-spec =

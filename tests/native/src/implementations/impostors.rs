@@ -1,4 +1,4 @@
-//! Implementations that are wrong in one way each, as document 01 names them: the tests must tell every one from a right one.
+//! Implementations that are wrong in one way each, as documents 01 and 02 name them: the tests must tell every one from a right one.
 
 use super::reference::Reference;
 use crate::interface::{Arguments, Calls, Name, Reply, NONE, WIDTH};

@@ -1,4 +1,4 @@
-//! The second implementation of the calls, written from document 01 for clarity and not for speed.
+//! The second implementation of the calls, written from documents 01 and 02 for clarity and not for speed.
 
 use crate::interface::{Arguments, Calls, Name, Reply, NONE, WIDTH};
 use crate::rules::{

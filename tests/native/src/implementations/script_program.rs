@@ -133,7 +133,7 @@ fn listing(calls: &dyn Calls, volume: &mut Volume) -> Result<String, u32> {
         let version = entry(&volume.state, page).committed;
         let slot = lowest_slot(&volume.words, page, version).expect("a page that was read has a slot");
         let drawn = calls.call(Name::Count, &mut Arguments { bytes: &bytes, ..Arguments::default() }).second;
-        let is = if drawn == 0 { "empty" } else { "set" };
+        let is = if version == 0 { "empty" } else { "set" };
         lines += &format!("page={page} version={version} slot={slot} drawn={drawn} state={is}\n");
     }
     Ok(lines + "answer=0\n")
