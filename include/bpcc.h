@@ -35,7 +35,7 @@ extern "C" {
 /* The interface's version: the major number rises where a caller must change, the minor where something is added or made
  * stricter (docs/CHANGES.md). */
 #define BPCC_VERSION_MAJOR 1
-#define BPCC_VERSION_MINOR 1
+#define BPCC_VERSION_MINOR 2
 
 /* Bytes of contents for each slot, and the length of what is written and read. */
 #define BPCC_WIDTH 32
@@ -151,7 +151,7 @@ uint64_t bpcc_withdraw(uint32_t pages, uint32_t slots,
 /*
  * Erases the listed slots: all become blank with bytes 255; nothing else changes. Whether they may be erased (docs/SPEC.md,
  * section 5) is judged for every slot on the table before the call.
- * Refuses: 1, 2, 5, 6, 12.
+ * Refuses: 1, 2, 5, 6, 12. Uses less than 7 KiB of stack.
  */
 uint64_t bpcc_erase(uint32_t pages, uint32_t slots,
                     uint32_t *words, size_t words_length,
@@ -161,7 +161,7 @@ uint64_t bpcc_erase(uint32_t pages, uint32_t slots,
 
 /*
  * Names, as the second number, the lowest slot that may be erased. Alters nothing.
- * Refuses, with BPCC_NONE as the second number: 1, 2, 5, 13.
+ * Refuses, with BPCC_NONE as the second number: 1, 2, 5, 13. Uses less than 7 KiB of stack.
  */
 uint64_t bpcc_suggest(uint32_t pages, uint32_t slots,
                       const uint32_t *words, size_t words_length,

@@ -23,9 +23,9 @@ enum call { FORMAT, LAUNCH, WRITE, WITHDRAW, ERASE, SUGGEST, RECOVER, COUNT, REA
 static const char *const names[CALLS] = {"format", "launch", "write", "withdraw", "erase", "suggest", "recover", "count", "read"};
 static const uint32_t sizes[SIZES] = {64, 128, 256, 512, 1024};
 
-/* A volume. Calls on it are given its last page, its last slot, and the list of the pages or slots below `listed`. */
+/* A volume. Calls on it are given its last page, its last slot, and the list of the `listed` pages or slots from `first` up. */
 static struct volume {
-    uint32_t pages, slots, listed;
+    uint32_t pages, slots, first, listed;
     uint32_t words[BPCC_SLOT_WORDS * BPCC_MAX_SLOTS];
     uint8_t contents[BPCC_WIDTH * BPCC_MAX_SLOTS];
     uint32_t state[BPCC_PAGE_WORDS * BPCC_MAX_PAGES];
@@ -42,10 +42,10 @@ static unsigned passed, failed, wrong; /* wrong: answers not expected, on the vo
 static uint64_t reply_of(enum call call) {
     switch (call) {
     case FORMAT: return bpcc_format(v.pages, v.slots, WORDS, CONTENTS, STATE);
-    case LAUNCH: return bpcc_launch(v.pages, v.slots, STATE, list, v.listed);
+    case LAUNCH: return bpcc_launch(v.pages, v.slots, STATE, list + v.first, v.listed);
     case WRITE: return bpcc_write(v.pages, v.slots, WORDS, CONTENTS, STATE, v.pages - 1, v.slots - 1, bytes, sizeof bytes);
     case WITHDRAW: return bpcc_withdraw(v.pages, v.slots, STATE, v.pages - 1);
-    case ERASE: return bpcc_erase(v.pages, v.slots, WORDS, CONTENTS, STATE, list, v.listed);
+    case ERASE: return bpcc_erase(v.pages, v.slots, WORDS, CONTENTS, STATE, list + v.first, v.listed);
     case SUGGEST: return bpcc_suggest(v.pages, v.slots, WORDS, STATE);
     case RECOVER: return bpcc_recover(v.pages, v.slots, WORDS, STATE);
     case COUNT: return bpcc_count(bytes, sizeof bytes);
@@ -61,6 +61,7 @@ static void expect(uint32_t answer, uint64_t reply) {
 /* A formatted volume of so many pages, at most 256. */
 static void format(uint32_t slots, uint32_t pages) {
     v.slots = slots;
+    v.first = 0;
     v.pages = v.listed = pages < BPCC_MAX_PAGES ? pages : BPCC_MAX_PAGES;
     expect(BPCC_DONE, reply_of(FORMAT));
 }
@@ -174,18 +175,34 @@ static void old_links(uint32_t slots) {
     }
 }
 
-/* Versions of page 0, all but the last abandoned; each straddles the link behind them, and is outdone by the next. */
+/* Versions of page 0, from the last slot but two down, all but the last abandoned; each straddles the link behind them, and is outdone by those before it. */
 static void outdone(uint32_t slots) {
     uint32_t slot;
     format(slots, 2);
     store(1, slots - 1);
     blank(1);
     abandon(1, 0, slots - 2);
-    for (slot = 1; slot < slots - 3; slot++) {
+    for (slot = slots - 3; slot > 1; slot--) {
         abandon(0, 1, slot);
     }
-    store(0, slots - 3);
-    v.listed = slots - 3;
+    store(0, 1);
+    v.first = 2;
+    v.listed = slots - 4;
+}
+
+/* Versions of page 0, all stored, and as many records of page 1, all abandoned; none of the one straddles a link of the other. */
+static void unstraddled(uint32_t slots) {
+    uint32_t slot;
+    format(slots, 2);
+    store(1, slots - 1);
+    blank(1);
+    for (slot = 1; slot < slots / 2; slot++) {
+        store(0, slot);
+    }
+    for (; slot < slots - 1; slot++) {
+        abandon(1, 0, slot);
+    }
+    v.listed = slots / 2 - 1;
 }
 
 /* Versions of page 0, all stored; each straddles a link of its own behind them. */
@@ -200,28 +217,25 @@ static void needed(uint32_t slots) {
     store(0, 0);
 }
 
-/* By hand: all pages in flight, and obsolete records of pages 0 and 1, each of which straddles one of two links behind them. */
-static void mixed_needed(uint32_t slots) {
-    const uint32_t state[] = {5, 6, 1, 0, 5, 6, 2, 0, 0, 1, 3, 0};
-    uint32_t slot, p;
+/* By hand: all pages in flight, and obsolete records of page 0 on one chain, each of which straddles the link behind them. */
+static void chain_needed(uint32_t slots) {
+    const uint32_t state[] = {9, 10, 1, 0, 0, 1, 2, 0};
+    uint32_t slot;
     in_flight(slots);
     memcpy(v.state, state, sizeof state);
-    for (slot = 0; slot < slots - 2; slot++) {
-        p = either();
-        set(slot, p, 3, either(), p, 3);
+    for (slot = 0; slot < slots - 1; slot++) {
+        set(slot, 0, 7, 4 * either(), 0, 7);
     }
-    set(slots - 2, 2, 1, 0, 0, 2);
-    set(slots - 1, 2, 1, 0, 1, 2);
+    set(slots - 1, 1, 1, 0, 0, 6);
 }
 
-/* … and four before the links, one of which outdoes each. */
-static void mixed_outdone(uint32_t slots) {
-    uint32_t i;
-    mixed_needed(slots);
-    v.listed = slots - 6;
-    for (i = 0; i < 4; i++) {
-        set(v.listed + i, i % 2, 4, i / 2, i % 2, 4);
-    }
+/* … and two before them that outdo all. */
+static void chain_outdone(uint32_t slots) {
+    chain_needed(slots);
+    set(0, 0, 8, 0, 0, 8);
+    set(1, 0, 8, 4, 0, 8);
+    v.first = 2;
+    v.listed = slots - 3;
 }
 
 /* Each call on its kinds of volume, and the answer expected. */
@@ -237,10 +251,11 @@ static const struct kind {
     {WRITE, BPCC_DONE, ring_but_one, "P = S/2, the last page of a ring of all"},
     {WRITE, BPCC_DONE, one_blank, "P = S-1, the first page of a ring of all"},
     {WITHDRAW, BPCC_DONE, in_flight, "P = S, a ring of all"},
-    {ERASE, BPCC_DONE, outdone, "P = 2, S-3 records before a link, each outdone by the next"},
-    {ERASE, BPCC_DONE, mixed_outdone, "P = S, by hand, S-6 records before their links and what outdoes them"},
+    {ERASE, BPCC_DONE, unstraddled, "P = 2, half of the slots, the others exposed"},
+    {ERASE, BPCC_DONE, outdone, "P = 2, S-4 records, each outdone by those before it"},
+    {ERASE, BPCC_DONE, chain_outdone, "P = S, by hand, S-3 records of one chain, outdone by its first two"},
     {SUGGEST, BPCC_DONE, needed, "P = 2, S/2-2 needed records before their links"},
-    {SUGGEST, BPCC_NOTHING_TO_ERASE, mixed_needed, "P = S, by hand, S-2 needed records before their links"},
+    {SUGGEST, BPCC_NOTHING_TO_ERASE, chain_needed, "P = S, by hand, S-1 needed records of one chain"},
     {RECOVER, BPCC_DONE, ring, "P = S/2, a ring of all, no slot blank"},
     {RECOVER, BPCC_DONE, old_links, "P = S-2, links to older versions"},
     {COUNT, BPCC_DONE, at_rest, "32 bytes"},

@@ -1,6 +1,7 @@
--- "Each", "there is", "how many", "the highest" and "the first" over the numbers below n.
+-- "Each", "there is", "how many", "the highest", "the first", "the last" and "those that" over the numbers below n.
 -- A counting loop's invariant is the definition at its counter.
 use Prim.Native.Nat.{ℕ, zero, suc, _+_, max}
+use mathlib.Core.List.{List, [], _∷_, _++_}
 use mathlib.Core.Bool.{Bool, true, false, cond, _&&_, _||_}
 use lib.Dec.{ltb}
 
@@ -32,3 +33,13 @@ foundOr found n passes = cond (ltb found n) found (cond passes n (suc n))
 unfoldable pub firstBelow : ℕ → (ℕ → Bool) → ℕ
 firstBelow zero f = 0
 firstBelow (suc n) f = foundOr (firstBelow n f) n (f n)
+
+-- where the numbers below n that pass end: 1 more than the last of them; 0 where none passes
+unfoldable pub endBelow : ℕ → (ℕ → Bool) → ℕ
+endBelow zero f = 0
+endBelow (suc n) f = cond (f n) (suc n) (endBelow n f)
+
+-- the numbers below n that pass, rising
+unfoldable pub listBelow : ℕ → (ℕ → Bool) → List ℕ
+listBelow zero f = []
+listBelow (suc n) f = cond (f n) (listBelow n f ++ (n ∷ [])) (listBelow n f)

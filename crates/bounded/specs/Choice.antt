@@ -54,6 +54,10 @@ pub neither-right : (a b : Bool) → (a || b) ≡ false → b ≡ false
 neither-right true b e = absurd (never refl e)
 neither-right false b e = e
 
+pub or-false : (b : Bool) → (b || false) ≡ b
+or-false true = refl
+or-false false = refl
+
 pub not-yes : {b : Bool} → b ≡ true → not b ≡ false
 not-yes e = rw e
 

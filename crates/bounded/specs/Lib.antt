@@ -2,6 +2,7 @@ pub mod Choice
 pub mod Limits
 pub mod Below
 pub mod BelowLaws
+pub mod Passing
 pub mod Parts
 pub mod PartsLaws
 pub mod Pigeonhole

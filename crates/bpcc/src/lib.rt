@@ -1,4 +1,4 @@
-// The C interface: every call, exported. The functions `star_cases` and `promise_3` pin theorems in their contracts.
+// The C interface: every call, exported. The functions `star_cases`, `exposed_found` and `promise_3` pin theorems in their contracts.
 ghost use mathlib.Core.Path.{_≡_};
 ghost use Rattle.bounded.specs.Limits.{width};
 ghost use Rattle.outcome.specs.Outcome.{returned};
@@ -19,6 +19,8 @@ ghost use Rattle.rules.specs.Erase.{eraseOutcome};
 ghost use Rattle.rules.specs.Suggest.{suggestOutcome};
 ghost use Rattle.rules.specs.Recover.{recoverOutcome};
 ghost use Rattle.rules.specs.cases.Star.{starTable};
+ghost use Rattle.rules.specs.cases.Found.{foundRows};
+ghost use Rattle.rules.specs.laws.Found.{FoundExactly, JudgedByFound};
 ghost use Rattle.atomicity.specs.Promise.{Promise3, OwnState};
 ghost use Rattle.atomicity.specs.Companions.{StatesAgree, PremisesMet, StagesInOrder};
 ghost use Rattle.atomicity.specs.Runs.{RunsComputed};
@@ -145,6 +147,14 @@ pub fn star_cases()
     ensures bounds { λ _. ⌜ RowsHold boundRows ⌝ }
     ensures records { λ _. ⌜ RowsHold writeRows ⌝ }
     ensures suggested { λ _. ⌜ RowsHold suggestRows ⌝ }
+{}
+
+// Document 02, wish 2: "what is found is every exposed record and no other, and … judging by it is the rule's permission for any list"; and what is
+// found on one volume.
+pub fn exposed_found()
+    ensures exactly { λ _. ⌜ FoundExactly ⌝ }
+    ensures judged { λ _. ⌜ JudgedByFound ⌝ }
+    ensures found { λ _. ⌜ RowsHold foundRows ⌝ }
 {}
 
 // Promise 3, whole: one theorem over all lists of calls and crashes; that it holds of the volume's own state; the paper's two invariants; that its

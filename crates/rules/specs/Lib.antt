@@ -4,6 +4,7 @@ pub mod Launch
 pub mod Write
 pub mod Withdraw
 pub mod Permission
+pub mod Found
 pub mod Erase
 pub mod Suggest
 pub mod Verdict

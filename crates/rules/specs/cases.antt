@@ -4,6 +4,7 @@ pub mod Bounds
 pub mod Launch
 pub mod Write
 pub mod Erase
+pub mod Found
 pub mod Suggest
 pub mod Recover
 pub mod Star

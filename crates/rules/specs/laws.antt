@@ -4,4 +4,5 @@ pub mod Outcomes
 pub mod Accepted
 pub mod Chains
 pub mod Permission
+pub mod Found
 pub mod Recover

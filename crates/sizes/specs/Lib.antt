@@ -1,3 +1,4 @@
 pub mod Sizes
 pub mod SizesLaws
 pub mod Lists
+pub mod Marks

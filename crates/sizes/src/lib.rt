@@ -1,10 +1,8 @@
 // The sizes of a volume, the lengths of its buffers, and lists of pages or slots, as every call checks them. The definitions are in specs/.
 ghost use mathlib.Core.Path.{_≡_};
 ghost use mathlib.Core.Bool.{_&&_};
-ghost use Prim.Native.Nat.{_<_};
-ghost use lib.ListN.{length};
+ghost use Prim.Native.Nat.{_≤_};
 ghost use Rattle.sizes.specs.Sizes.{sizesOk, wordsFit, contentsFit, stateFits, listOk};
-ghost use Rattle.sizes.specs.Lists.{newAt};
 
 // Bytes of contents a slot has: the `width` of the contracts.
 pub const WIDTH: usize = 32;
@@ -83,37 +81,26 @@ pub fn table_ok(sizes: Sizes, words: &[u32], state: &[u32]) -> bool
     state_fits(sizes.pages, state)
 }
 
-// Entry i of the list is none of the entries before it.
-fn is_new(list: &[u32], i: usize) -> bool
-    requires { ⌜ i < length (now list) ⌝ }
-    ensures { λ r. ⌜ r ≡ newAt (now (list .entry)) i ⌝ }
-{
-    let mut j = 0;
-    while j < i {
-        if list[j] == list[i] {
-            return false;
-        }
-        j += 1;
-    }
-    true
-}
-
-// No "empty list, repeated entry, or a page or slot out of range", which is `bound` or above. Each entry is tried for both
-// before the next, so that at most bound + 1 are.
+// No "empty list, repeated entry, or a page or slot out of range", which is `bound` or above, in one pass: a mark stands for each
+// number listed so far. Each entry is tried for both before the next, so that at most bound + 1 are.
 pub fn list_ok(bound: u32, list: &[u32]) -> bool
+    requires { ⌜ bound ≤ 1024 ⌝ }
     ensures { λ r. ⌜ r ≡ listOk bound (now (list .entry)) ⌝ }
 {
     if list.len() < 1 {
         return false;
     }
+    let mut marks = [0u8; 1024];
     let mut i = 0;
     while i < list.len() {
-        if list[i] >= bound {
+        let entry = list[i];
+        if entry >= bound {
             return false;
         }
-        if !is_new(list, i) {
+        if marks[entry as usize] != 0 {
             return false;
         }
+        marks[entry as usize] = 1;
         i += 1;
     }
     true

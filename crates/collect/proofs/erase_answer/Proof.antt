@@ -3,7 +3,7 @@ use borrow.Author.Needs.{needs}
 use Rattle.bounded.specs.Choice.{said-no, said-yes}
 use Rattle.sizes.specs.Lists.{list-facts}
 use Rattle.rules.specs.laws.Chains.{eraseOwn, erase-chain, judged-passed, judged-refuses, judged-passes, volume-spans}
-use Rattle.collect.specs.Within.{judged-within}
+use Rattle.permit.specs.Prepared.{judged-linkable}
 use Rattle.collect.proofs.erase_answer.Statement.{statement}
 use Rattle.collect.proofs.erase_answer.Tie as tie
 
@@ -17,7 +17,9 @@ returns : tie.Need-returns
 returns c = judged-refuses _ _ _ _ _ _ _ _ (erase-chain _ _ _ _) (c .before .before .volume-fits .ensures) _ (c .before .judged .ensures) (c .if1 .taken)
 
 list-ok-requires : tie.Need-list-ok-requires
-list-ok-requires c κs = search needs
+list-ok-requires c κs =
+    let j = judged-passed _ _ _ _ _ (sym (c .before .judged .ensures) ∙ c .if1 .left) in
+    volume-spans _ _ _ (sym (c .before .before .volume-fits .ensures) ∙ j .fitting) .bounds .slots-most
 
 returns-2 : tie.Need-returns-2
 unfolding eraseOwn
@@ -27,10 +29,9 @@ returns-2 c =
 
 may-erase-all-requires : tie.Need-may-erase-all-requires
 may-erase-all-requires c κs =
-    let j = judged-passed _ _ _ _ _ (sym (c .before .before .before .judged .ensures) ∙ c .before .before .if1 .left) in (
-      judged-within _ _ _ _ (volume-spans _ _ _ (sym (c .before .before .before .before .volume-fits .ensures) ∙ j .fitting)) (j .table),
-      list-facts _ _ (said-yes (c .before .list-ok .ensures) (c .if2 .left)),
-    )
+    let j = judged-passed _ _ _ _ _ (sym (c .before .before .before .judged .ensures) ∙ c .before .before .if1 .left) in
+    let s = volume-spans _ _ _ (sym (c .before .before .before .before .volume-fits .ensures) ∙ j .fitting) in
+    (judged-linkable _ _ _ _ s (j .table), (s .pages-in, list-facts _ _ (said-yes (c .before .list-ok .ensures) (c .if2 .left))))
 
 returns-3 : tie.Need-returns-3
 unfolding eraseOwn

@@ -7,8 +7,8 @@ use Rattle.bounded.specs.Limits.{noNumber}
 use Rattle.outcome.specs.Reply.{outcomeOf, reply-refused, reply-done}
 use Rattle.rules.specs.Suggest.{suggestedSlot, suggestOutcome}
 use Rattle.rules.specs.laws.Chains.{suggestOwn, suggest-chain, judged-passed, judged-refuses, judged-passes, table-spans}
-use Rattle.collect.specs.Within.{judged-within}
-use Rattle.collect.specs.SearchLaws.{found-some, found-none}
+use Rattle.permit.specs.Prepared.{judged-linkable}
+use Rattle.permit.specs.SearchLaws.{found-some, found-none}
 use Rattle.collect.proofs.suggest.Statement.{statement}
 use Rattle.collect.proofs.suggest.Tie as tie
 
@@ -31,7 +31,8 @@ returns c =
 first-erasable-requires : tie.Need-first-erasable-requires
 first-erasable-requires c κs =
     let j = judged-passed _ _ _ _ _ (sym (c .before .judged .ensures) ∙ c .if1 .left) in
-    judged-within _ _ _ _ (table-spans _ _ _ (sym (c .before .before .table-ok .ensures) ∙ j .fitting)) (j .table)
+    let s = table-spans _ _ _ (sym (c .before .before .table-ok .ensures) ∙ j .fitting) in
+    (judged-linkable _ _ _ _ s (j .table), s .pages-in)
 
 reply-requires-2 : tie.Need-reply-requires-2
 reply-requires-2 c κs = search needs

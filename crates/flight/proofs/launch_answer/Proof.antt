@@ -1,5 +1,6 @@
 use mathlib.Core.Path.{sym, _∙_}
 use borrow.Author.Needs.{needs}
+use native.Mathlib.Omega.{arith}
 use Rattle.bounded.specs.Choice.{said-no, said-yes}
 use Rattle.outcome.specs.Chain.{first-refuses, first-passes}
 use Rattle.rules.specs.laws.Chains.{launchOwn, launch-chain, state-judged-passed}
@@ -14,7 +15,8 @@ returns : tie.Need-returns
 returns c = first-refuses _ _ (c .before .state-judged .ensures) (c .if1 .taken) ∙ sym (launch-chain _ _ _)
 
 list-ok-requires : tie.Need-list-ok-requires
-list-ok-requires c κs = search needs
+list-ok-requires c κs =
+    let b = state-judged-passed _ _ (sym (c .before .state-judged .ensures) ∙ c .if1 .left) .bounds in omega arith
 
 returns-2 : tie.Need-returns-2
 unfolding launchOwn

@@ -14,7 +14,7 @@ use Rattle.outcome.specs.OutcomeLaws.{held}
 use Rattle.outcome.specs.Chain.{firstOf, first-refuses, first-passes, split-two, split-three}
 use Rattle.sizes.specs.declared.Sizes.{Sizes}
 use Rattle.sizes.specs.Sizes.{sizesOk, wordsFit, stateFits, listOk}
-use Rattle.sizes.specs.SizesLaws.{words-fit-exactly, state-fits-exactly}
+use Rattle.sizes.specs.SizesLaws.{SizesFacts, sizes-facts, words-fit-exactly, state-fits-exactly}
 use Rattle.record.specs.Slot.{slotAt, isBlank}
 use Rattle.state.specs.declared.PageState.{PageState}
 use Rattle.state.specs.State.{stateAt, inFlight, isWritten, stateSound}
@@ -71,20 +71,26 @@ module _ (answer own : ℕ) (fits test : Bool) (P S : ℕ) (words state : List �
   pub judged-passes : n ≡ 0 → {m : ℕ} → m ≡ own → m ≡ answer
   judged-passes z {m} e = first-passes n m first-is z e ∙ sym chain
 
-pub record StateJudged (P : ℕ) (state : List ℕ) : Type 0 where
-  pub fitting : stateFits P state ≡ true
-  pub sound : stateSound P (stateAt state) ≡ true
+pub record StateJudged (sizes : Sizes) (state : List ℕ) : Type 0 where
+  pub bounds : SizesFacts (sizes .pages) (sizes .slots)
+  pub fitting : stateFits (sizes .pages) state ≡ true
+  pub sound : stateSound (sizes .pages) (stateAt state) ≡ true
 
-pub state-judged-passed : (sizes : Sizes) (state : List ℕ) → stateJudged sizes state ≡ 0 → StateJudged (sizes .pages) state
+pub state-judged-passed : (sizes : Sizes) (state : List ℕ) → stateJudged sizes state ≡ 0 → StateJudged sizes state
 unfolding stateJudged
 state-judged-passed sizes state e =
     let a = held (sizesOk sizes && stateFits (sizes .pages) state) _ _ e in
     let b = held (stateSound (sizes .pages) (stateAt state)) _ _ (a .1) in
-    record { fitting = both-right (sizesOk sizes) (stateFits (sizes .pages) state) (a .0); sound = b .0 }
+    record {
+      bounds = sizes-facts sizes (both-left (sizesOk sizes) (stateFits (sizes .pages) state) (a .0));
+      fitting = both-right (sizesOk sizes) (stateFits (sizes .pages) state) (a .0);
+      sound = b .0;
+    }
 
--- ---- lengths that fit span all slots and pages
+-- ---- sizes within their limits, and lengths that span all slots and pages
 
 pub record Spans (P S : ℕ) (words state : List ℕ) : Type 0 where
+  pub bounds : SizesFacts P S
   pub slots-in : 5 * S ≤ length words
   pub pages-in : 4 * P ≤ length state
 
@@ -93,7 +99,7 @@ volume-spans w sizes v e =
     let f = fits-facts w sizes v e in
     let x = f .flash-sized .words-sized in
     let y = f .state-sized in
-    record { slots-in = omega arith; pages-in = omega arith }
+    record { bounds = f .bounds; slots-in = omega arith; pages-in = omega arith }
 
 -- … with one test more
 pub slice-spans : (w : ℕ) (sizes : Sizes) (v : Volume) (b : Bool) → (volumeFits w sizes v && b) ≡ true → Spans (sizes .pages) (sizes .slots) (v .flash .words) (v .state)
@@ -109,7 +115,11 @@ table-spans sizes words state e =
     let f = both-right (sizesOk sizes) (wordsFit (sizes .slots) words && stateFits (sizes .pages) state) e in
     let x = words-fit-exactly (sizes .slots) words .0 (both-left (wordsFit (sizes .slots) words) (stateFits (sizes .pages) state) f) in
     let y = state-fits-exactly (sizes .pages) state .0 (both-right (wordsFit (sizes .slots) words) (stateFits (sizes .pages) state) f) in
-    record { slots-in = omega arith; pages-in = omega arith }
+    record {
+      bounds = sizes-facts sizes (both-left (sizesOk sizes) (wordsFit (sizes .slots) words && stateFits (sizes .pages) state) e);
+      slots-in = omega arith;
+      pages-in = omega arith;
+    }
 
 -- ---- each call's own conditions, and its whole chain
 

@@ -1,0 +1,41 @@
+-- The invariant: those of the slots below k are noted.
+use Prim.Native.Nat.{_≤_, _-_}
+use native.Mathlib.Omega.{arith}
+use mathlib.Core.Path.{_≡_, refl}
+use Rattle.permit.specs.Prepared.{Noted, noted-none}
+use Rattle.permit.proofs.find_exposed.Statement.{statement}
+use Rattle.permit.proofs.find_exposed.Tie as tie
+
+abbrev Inv-loop : tie.InvT-loop
+Inv-loop slots words state found₀ count₀ k₀ found count k = (k ≤ slots) × Noted k words state found count
+
+abbrev μ-loop : tie.MeasureT-loop
+μ-loop slots words state found₀ count₀ k₀ found count k = slots - k
+
+loop-holds : tie.Need-loop-holds Inv-loop μ-loop
+loop-holds c = (omega arith, noted-none _ _ 1024 refl)
+
+note-exposed-requires : tie.Need-note-exposed-requires Inv-loop μ-loop
+note-exposed-requires c κs =
+    (c .before .before .before .before .before .before .pre, (c .before .loop-test .taken, c .before .before .loop .inv .1))
+
+add-k : tie.Need-add-k Inv-loop μ-loop
+add-k c = omega arith
+
+loop-less : tie.Need-loop-less Inv-loop μ-loop
+loop-less c = omega arith
+
+loop-again : tie.Need-loop-again Inv-loop μ-loop
+loop-again c = (omega arith, c .note-exposed .ensures)
+
+returns : tie.Need-returns Inv-loop μ-loop
+returns c =
+    let l = c .before .loop in
+    let e : l .k ≡ c .before .before .before .before .before .args .slots = omega arith in
+    let n : Noted (c .before .before .before .before .before .args .slots) _ _ _ _ = rw e at (l .inv .1) in
+    (n, n .noted)
+
+pub find-exposed-spec : {M : Type 1} → statement M
+find-exposed-spec =
+    tie.close
+    (tie.spec Inv-loop μ-loop loop-holds note-exposed-requires add-k loop-less loop-again returns)

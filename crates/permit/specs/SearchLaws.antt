@@ -1,0 +1,97 @@
+-- The permission as the code decides it: what one slot, one straddler and one record settle.
+use Prim.Native.Nat.{ℕ, _+_, _≤_, _<_}
+use native.Mathlib.Omega.{arith}
+use mathlib.Core.Path.{_≡_, refl, ap, _∙_}
+use mathlib.Core.List.{List}
+use mathlib.Core.Bool.{Bool, true, false, not, _&&_}
+use lib.Dec.{ltb, eqb}
+use lib.ListN.{length, getD}
+use borrow.Author.Tests.{eqb-true, eq-eqb}
+use Rattle.bounded.specs.Choice.{on-lt, both-left, both-right}
+use Rattle.bounded.specs.Below.{someBelow, firstBelow}
+use Rattle.bounded.specs.BelowLaws.{some-of, some-none, first-passes, first-none-before}
+use Rattle.record.specs.declared.Record.{Record}
+use Rattle.record.specs.declared.Slot.{Slot}
+use Rattle.record.specs.declared.Slot.the-variants.{Blank, Holds}
+use Rattle.record.specs.Slot.{holds, someRecord, straddles}
+use Rattle.state.specs.declared.PageState.{PageState}
+use Rattle.record.specs.SlotLaws.{holds-exactly}
+use Rattle.table.specs.TableLaws.{holds-of}
+use Rattle.rules.specs.Permission.{isObsolete, isExposed, outdoneBy, isCurrent}
+use Rattle.rules.specs.Found.{neededBy, mayEraseRecordBy}
+use Rattle.chain.specs.Chain.{chainOf, inChain}
+
+-- ---- a search upward
+
+-- one number more that does not pass
+pub none-more : (f : ℕ → Bool) (n : ℕ) → ((k : ℕ) → k < n → f k ≡ false) → f n ≡ false → (k : ℕ) → k < n + 1 → f k ≡ false
+none-more f n none e k h = on-lt k n (none k) (λ l. let q : k ≡ n = omega arith in ap f q ∙ e)
+
+-- what the first that passes says of "some"
+module _ (S : ℕ) (f : ℕ → Bool) (k : ℕ) (e : k ≡ firstBelow S f) where
+  pub found-some : k < S → someBelow S f ≡ true
+  found-some h = some-of f S (firstBelow S f) (omega arith) (first-passes f S (omega arith))
+
+  pub found-none : S ≤ k → someBelow S f ≡ false
+  found-none h = some-none f S (λ j l. first-none-before f S j (omega arith))
+
+-- ---- what a slot holds
+
+pub holds-none : (f : Record → Bool) {s : Slot} → s ≡ Blank → holds f s ≡ false
+unfolding holds
+holds-none f e = rw e
+
+pub holds-record : (f : Record → Bool) {s : Slot} {r : Record} → s ≡ Holds r → holds f s ≡ f r
+unfolding holds
+holds-record f e = rw e
+
+-- ---- a straddler, judged by what was found
+
+-- a better straddler is in its chain
+pub outdone-in-chain : (t : ℕ → Slot) (K : Record) (k : ℕ) → holds (outdoneBy K) (t k) ≡ true → inChain t (chainOf K) k ≡ true
+unfolding inChain outdoneBy chainOf
+outdone-in-chain t K k e =
+    let h = holds-exactly (outdoneBy K) (t k) .0 e in
+    holds-of (λ r. eqb (chainOf r) (chainOf K)) (h .1) (same-chain (h .0) (h .2))
+  where
+    same-chain : (r : Record) → outdoneBy K r ≡ true → eqb (chainOf r) (chainOf K) ≡ true
+    same-chain r q =
+        let p = eqb-true (r .p) (K .p) (both-left (eqb (r .p) (K .p)) (eqb (r .c) (K .c) && ltb (K .v) (r .v)) q) in
+        let c = eqb-true (r .c) (K .c) (both-left (eqb (r .c) (K .c)) (ltb (K .v) (r .v)) (both-right (eqb (r .p) (K .p)) (eqb (r .c) (K .c) && ltb (K .v) (r .v)) q)) in
+        eq-eqb (chainOf r) (chainOf K) (rw (p, c))
+
+module _ (S : ℕ) (t : ℕ → Slot) (found : List ℕ) (K : Record) where
+  -- a better straddler settles it
+  pub outdone-not-needed : someBelow S (λ k. holds (outdoneBy K) (t k)) ≡ true → neededBy S t found K ≡ false
+  unfolding neededBy someRecord
+  outdone-not-needed e = rw e
+
+  -- an exposed link settles it, where there is no better straddler
+  pub straddled-needed : (i : ℕ) → i < length found → holds (straddles K) (t (getD found i 0)) ≡ true → someBelow S (λ k. holds (outdoneBy K) (t k)) ≡ false → neededBy S t found K ≡ true
+  unfolding neededBy someRecord
+  straddled-needed i h e none = rw (none, some-of (λ j. holds (straddles K) (t (getD found j 0))) (length found) i h e)
+
+  -- no exposed link
+  pub nothing-straddled : someBelow (length found) (λ i. holds (straddles K) (t (getD found i 0))) ≡ false → neededBy S t found K ≡ false
+  unfolding neededBy
+  nothing-straddled e = rw e (never-both (not (someRecord S t (outdoneBy K))))
+    where
+      never-both : (b : Bool) → (b && false) ≡ false
+      never-both true = refl
+      never-both false = refl
+
+-- ---- a record
+
+module _ (S : ℕ) (t : ℕ → Slot) (st : ℕ → PageState) (found : List ℕ) (r : Record) where
+  pub obsolete-by : isObsolete st r ≡ true → mayEraseRecordBy S t st found r ≡ not (neededBy S t found r)
+  unfolding mayEraseRecordBy
+  obsolete-by e = rw e
+
+  pub exposed-by : isObsolete st r ≡ false → isExposed st r ≡ true → mayEraseRecordBy S t st found r ≡ not (isCurrent st r)
+  unfolding mayEraseRecordBy
+  exposed-by e h = rw (e, h)
+
+  -- a committed record stays
+  pub committed-stays : isObsolete st r ≡ false → isExposed st r ≡ false → mayEraseRecordBy S t st found r ≡ false
+  unfolding mayEraseRecordBy
+  committed-stays e h = rw (e, h)
