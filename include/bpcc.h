@@ -32,8 +32,8 @@
 extern "C" {
 #endif
 
-/* The interface's version: the major number rises where a caller must change, the minor where something is added or made
- * stricter (docs/CHANGES.md). */
+/* The interface's version: the major number rises where a caller must change, the minor where something is added, made
+ * stricter, or costs otherwise (docs/CHANGES.md). */
 #define BPCC_VERSION_MAJOR 1
 #define BPCC_VERSION_MINOR 2
 

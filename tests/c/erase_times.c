@@ -6,6 +6,7 @@
  * symbols and link both:
  *
  *     objcopy --prefix-symbols=before_ OTHER.a before.a
+ *     objcopy --redefine-sym before_memset=memset before.a
  *     gcc -O2 -DBESIDE -Iinclude tests/c/erase_times.c target/staticlib/libbpcc.a before.a
  */
 #define _POSIX_C_SOURCE 200809L
