@@ -3,6 +3,7 @@ use Prim.Native.Nat.{ℕ}
 use mathlib.Core.List.{List, [], _∷_}
 use mathlib.Core.Bool.{cond}
 use lib.Dec.{eqb}
+use Rattle.bounded.specs.Limits.{Widths}
 use Rattle.outcome.specs.Outcome.{Outcome}
 use Rattle.sizes.specs.declared.Sizes.{Sizes}
 use Rattle.record.specs.Flash.{Flash, Step}
@@ -30,12 +31,12 @@ unfoldable pub withFlash : Volume → Outcome Flash → Outcome Volume
 withFlash v o = record { answer = o .answer; second = o .second; left = record { flash = o .left; state = v .state } }
 
 -- what the call gives and leaves of the volume
-unfoldable pub perform : (w : ℕ) (sizes : Sizes) → Volume → Call → Outcome Volume
-perform w sizes v (Launch pages) = withState v (launchOutcome sizes (v .state) pages)
-perform w sizes v (Write page slot bytes) = writeOutcome w sizes v page slot bytes
-perform w sizes v (Withdraw page) = withState v (withdrawOutcome sizes (v .state) page)
-perform w sizes v (Erase slots) = withFlash v (eraseOutcome w sizes v slots)
-perform w sizes v Recover = withState v (recoverOutcome sizes (v .flash .words) (v .state))
+unfoldable pub perform : Widths → Sizes → Volume → Call → Outcome Volume
+perform widths sizes v (Launch pages) = withState v (launchOutcome widths sizes (v .state) pages)
+perform widths sizes v (Write page slot bytes) = writeOutcome widths sizes v page slot bytes
+perform widths sizes v (Withdraw page) = withState v (withdrawOutcome widths sizes (v .state) page)
+perform widths sizes v (Erase slots) = withFlash v (eraseOutcome widths sizes v slots)
+perform widths sizes v Recover = withState v (recoverOutcome widths sizes (v .flash .words) (v .state))
 
 -- What the call does to the flash, were it accepted: stages, one after the other, each of single steps. They are fixed before the call.
 -- A write is one stage with its one step, an erase one stage with a step for each listed slot; every other call alters no flash.
@@ -47,5 +48,5 @@ plannedStages v (Erase slots) = eraseSteps slots ∷ []
 plannedStages v Recover = []
 
 -- the stages that the call does: none where it is refused
-unfoldable pub flashStages : (w : ℕ) (sizes : Sizes) → Volume → Call → List (List Step)
-flashStages w sizes v call = cond (eqb (perform w sizes v call .answer) 0) (plannedStages v call) []
+unfoldable pub flashStages : Widths → Sizes → Volume → Call → List (List Step)
+flashStages widths sizes v call = cond (eqb (perform widths sizes v call .answer) 0) (plannedStages v call) []

@@ -4,6 +4,7 @@ use mathlib.Core.Path.{_≡_}
 use mathlib.Core.List.{List, [], _∷_, _++_, map, flatten}
 use mathlib.Core.Bool.{Bool, true, false}
 use lib.ListN.{length}
+use Rattle.bounded.specs.Limits.{Widths}
 use Rattle.sizes.specs.declared.Sizes.{Sizes}
 use Rattle.record.specs.declared.Slot.the-variants.{Holds}
 use Rattle.record.specs.Slot.{slotAt}
@@ -31,37 +32,37 @@ pub record Agrees (P S : ℕ) (v : Volume) : Type 0 where
 -- after every list under the premises that leaves the state known
 abbrev pub StatesAgree : Type 0
 StatesAgree =
-    (w : ℕ) (sizes : Sizes) (v : Volume) (events : List Event)
-    → Premises w sizes v events
-    → after w sizes (started w sizes v) events .lost ≡ false
-    → Agrees (sizes .pages) (sizes .slots) (after w sizes (started w sizes v) events .volume)
+    (widths : Widths) (sizes : Sizes) (v : Volume) (events : List Event)
+    → Premises widths sizes v events
+    → after widths sizes (started widths sizes v) events .lost ≡ false
+    → Agrees (sizes .pages) (sizes .slots) (after widths sizes (started widths sizes v) events .volume)
 
 -- ---- the premises are met
 
 -- a list of events under the premises, with one more event behind it
-abbrev pub MayFollow : (w : ℕ) (sizes : Sizes) → Volume → List Event → Event → Type 0
-MayFollow w sizes v events e = Premises w sizes v (events ++ e ∷ [])
+abbrev pub MayFollow : Widths → Sizes → Volume → List Event → Event → Type 0
+MayFollow widths sizes v events e = Premises widths sizes v (events ++ e ∷ [])
 
 -- the state is known after the list
-abbrev pub StateKnown : (w : ℕ) (sizes : Sizes) → Volume → List Event → Type 0
-StateKnown w sizes v events = after w sizes (started w sizes v) events .lost ≡ false
+abbrev pub StateKnown : Widths → Sizes → Volume → List Event → Type 0
+StateKnown widths sizes v events = after widths sizes (started widths sizes v) events .lost ≡ false
 
 -- The premises are met: by every volume whose P, S and lengths are right, before any event; by every list of calls that return; and a list that meets them
 -- still does with a crash behind it, with a recover, returned or crashed, and, where the state is known, with any call, returned or crashed.
 pub record PremisesMet : Type 0 where
-  pub at-first : (w : ℕ) (sizes : Sizes) (v : Volume) → Fits w sizes v → Premises w sizes v []
-  pub calls : (w : ℕ) (sizes : Sizes) (v : Volume) → Fits w sizes v → (list : List Call) → Premises w sizes v (map Event.Returns list)
-  pub crash : (w : ℕ) (sizes : Sizes) (v : Volume) (events : List Event) → Premises w sizes v events → (state : List ℕ) → length state ≡ 4 * sizes .pages → MayFollow w sizes v events (Event.Crash state)
-  pub recover : (w : ℕ) (sizes : Sizes) (v : Volume) (events : List Event) → Premises w sizes v events → MayFollow w sizes v events (Event.Returns Call.Recover)
+  pub at-first : (widths : Widths) (sizes : Sizes) (v : Volume) → Fits widths sizes v → Premises widths sizes v []
+  pub calls : (widths : Widths) (sizes : Sizes) (v : Volume) → Fits widths sizes v → (list : List Call) → Premises widths sizes v (map Event.Returns list)
+  pub crash : (widths : Widths) (sizes : Sizes) (v : Volume) (events : List Event) → Premises widths sizes v events → (state : List ℕ) → length state ≡ 4 * sizes .pages → MayFollow widths sizes v events (Event.Crash state)
+  pub recover : (widths : Widths) (sizes : Sizes) (v : Volume) (events : List Event) → Premises widths sizes v events → MayFollow widths sizes v events (Event.Returns Call.Recover)
   pub crashed-recover :
-      (w : ℕ) (sizes : Sizes) (v : Volume) (events : List Event) → Premises w sizes v events
-      → (stage : ℕ) (done : ℕ → Bool) (state : List ℕ) → length state ≡ 4 * sizes .pages → MayFollow w sizes v events (Event.CrashIn Call.Recover stage done state)
-  pub call : (w : ℕ) (sizes : Sizes) (v : Volume) (events : List Event) → Premises w sizes v events → StateKnown w sizes v events → (c : Call) → MayFollow w sizes v events (Event.Returns c)
+      (widths : Widths) (sizes : Sizes) (v : Volume) (events : List Event) → Premises widths sizes v events
+      → (stage : ℕ) (done : ℕ → Bool) (state : List ℕ) → length state ≡ 4 * sizes .pages → MayFollow widths sizes v events (Event.CrashIn Call.Recover stage done state)
+  pub call : (widths : Widths) (sizes : Sizes) (v : Volume) (events : List Event) → Premises widths sizes v events → StateKnown widths sizes v events → (c : Call) → MayFollow widths sizes v events (Event.Returns c)
   pub crashed-call :
-      (w : ℕ) (sizes : Sizes) (v : Volume) (events : List Event) → Premises w sizes v events → StateKnown w sizes v events
-      → (c : Call) (stage : ℕ) (done : ℕ → Bool) (state : List ℕ) → length state ≡ 4 * sizes .pages → MayFollow w sizes v events (Event.CrashIn c stage done state)
+      (widths : Widths) (sizes : Sizes) (v : Volume) (events : List Event) → Premises widths sizes v events → StateKnown widths sizes v events
+      → (c : Call) (stage : ℕ) (done : ℕ → Bool) (state : List ℕ) → length state ≡ 4 * sizes .pages → MayFollow widths sizes v events (Event.CrashIn c stage done state)
   -- and behind a recover the state is known
-  pub recover-finds : (w : ℕ) (sizes : Sizes) (v : Volume) (events : List Event) → Premises w sizes v events → StateKnown w sizes v (events ++ Event.Returns Call.Recover ∷ [])
+  pub recover-finds : (widths : Widths) (sizes : Sizes) (v : Volume) (events : List Event) → Premises widths sizes v events → StateKnown widths sizes v (events ++ Event.Returns Call.Recover ∷ [])
 
 -- ---- stages
 
@@ -73,7 +74,7 @@ doneIn test k (first ∷ rest) = doneOf (test k) 0 first ++ doneIn test (suc k) 
 -- What ties a call's stages to what it leaves, and a crash to the stages.
 pub record StagesInOrder : Type 0 where
   -- a call that returns leaves the flash that all its stages leave, done one after the other
-  pub performed : (w : ℕ) (sizes : Sizes) (v : Volume) (call : Call) → perform w sizes v call .left .flash ≡ applyAll w (v .flash) (flatten (flashStages w sizes v call))
+  pub performed : (widths : Widths) (sizes : Sizes) (v : Volume) (call : Call) → perform widths sizes v call .left .flash ≡ applyAll (sizes .width) (v .flash) (flatten (flashStages widths sizes v call))
   -- a crash past the last stage leaves all done
   pub past-last : (stage : ℕ) (done : ℕ → Bool) (stages : List (List Step)) → length stages ≤ stage → cutShort stage done stages ≡ flatten stages
   -- any crash leaves done exactly the steps that `wasDone` names

@@ -5,6 +5,8 @@ use mathlib.Core.List.{List, [], _∷_}
 use mathlib.Core.Bool.{Bool, true, false}
 use lib.Dec.{eqb}
 use lib.ListN.{replicate}
+use Rattle.bounded.specs.Limits.{Widths}
+use Rattle.sizes.specs.declared.Sizes.{Sizes}
 use Rattle.sizes.specs.Sizes.{sizesOf}
 use Rattle.record.specs.Slot.{blankRecord}
 use Rattle.table.specs.Given.{given, tableOf}
@@ -14,7 +16,14 @@ use Rattle.atomicity.specs.Run.{Event, started, after}
 use Rattle.atomicity.specs.Model.{freshModel}
 use Rattle.atomicity.specs.Promise.{Premises, modelAfter}
 
--- buffers for 2 pages and 5 slots of 1 byte
+-- Slots of 1 byte: the theorem is for any widths, and what is computed is shorter so.
+unfoldable pub oneByte : Widths
+oneByte w = eqb w 1
+
+-- 2 pages and 5 slots of 1 byte; and buffers for them
+abbrev pub sizes2 : Sizes
+sizes2 = sizesOf 2 5 1
+
 unfoldable pub blankBuffers : Volume
 blankBuffers = record { flash = record { words = replicate 25 7; contents = replicate 5 7 }; state = replicate 8 7 }
 
@@ -79,20 +88,20 @@ runClosed =
 
 -- what the reference model keeps of pages 0 and 1 after a run
 unfoldable pub keptAfter : List Event → List (List ℕ)
-keptAfter events = let m = modelAfter 1 (sizesOf 2 5) (started 1 (sizesOf 2 5) blankBuffers) (freshModel 1) events in m .kept 0 ∷ m .kept 1 ∷ []
+keptAfter events = let m = modelAfter oneByte sizes2 (started oneByte sizes2 blankBuffers) (freshModel 1) events in m .kept 0 ∷ m .kept 1 ∷ []
 
 -- the records left in the table after a run: its words
 unfoldable pub wordsAfter : List Event → List ℕ
-wordsAfter events = after 1 (sizesOf 2 5) (started 1 (sizesOf 2 5) blankBuffers) events .volume .flash .words
+wordsAfter events = after oneByte sizes2 (started oneByte sizes2 blankBuffers) events .volume .flash .words
 
 -- What is computed of them. The crashed erasure blanked slot 2 and not slot 0, and neither crashed write stored its slot.
 pub record RunsComputed : Type 0 where
-  pub completed-meets : Premises 1 (sizesOf 2 5) blankBuffers runCompleted
+  pub completed-meets : Premises oneByte sizes2 blankBuffers runCompleted
   pub completed-keeps : keptAfter runCompleted ≡ (5 ∷ []) ∷ (6 ∷ []) ∷ []
-  pub erased-meets : Premises 1 (sizesOf 2 5) blankBuffers runErased
+  pub erased-meets : Premises oneByte sizes2 blankBuffers runErased
   pub erased-keeps : keptAfter runErased ≡ (6 ∷ []) ∷ (0 ∷ []) ∷ []
   pub erased-leaves : wordsAfter runErased ≡ tableOf 5 (given 0 0 0 0 0 ∷ given 1 0 0 1 0 ∷ blankRecord ∷ given 0 2 1 0 2 ∷ [])
-  pub past-meets : Premises 1 (sizesOf 2 5) blankBuffers runPast
+  pub past-meets : Premises oneByte sizes2 blankBuffers runPast
   pub past-keeps : keptAfter runPast ≡ (5 ∷ []) ∷ (0 ∷ []) ∷ []
-  pub closed-meets : Premises 1 (sizesOf 2 5) blankBuffers runClosed
+  pub closed-meets : Premises oneByte sizes2 blankBuffers runClosed
   pub closed-keeps : keptAfter runClosed ≡ (0 ∷ []) ∷ (0 ∷ []) ∷ []

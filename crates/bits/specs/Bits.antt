@@ -2,8 +2,8 @@
 use Prim.Native.Nat.{ℕ, _*_, _/_, _%_, _^_}
 use mathlib.Core.List.{List}
 use mathlib.Core.Bool.{not}
-use lib.Dec.{eqb}
 use lib.ListN.{length, getD}
+use Rattle.bounded.specs.Limits.{Widths}
 use Rattle.bounded.specs.Below.{sumBelow}
 use Rattle.outcome.specs.Outcome.{_⇒_otherwise_, Outcome, settled}
 
@@ -15,10 +15,10 @@ bitAt bytes s = getD bytes (s / 8) 0 / 2 ^ (s % 8) % 2
 unfoldable pub setBits : List ℕ → ℕ
 setBits bytes = sumBelow (8 * length bytes) (bitAt bytes)
 
--- Count, of w bytes: 1 where the slice's length is wrong.
-unfoldable pub countAnswer : ℕ → List ℕ → ℕ
-countAnswer w bytes = not (eqb (length bytes) w) ⇒ 1 otherwise 0
+-- Document 02: "Count, which takes no volume, takes a slice of 32 or 64 bytes and no width": 1 where the slice's length is no width.
+unfoldable pub countAnswer : Widths → List ℕ → ℕ
+countAnswer widths bytes = not (widths (length bytes)) ⇒ 1 otherwise 0
 
 -- "Count 32 bytes: how many stops are drawn; it takes no volume." It alters no buffer; refused, the drawn count is 0.
-unfoldable pub countOutcome : ℕ → List ℕ → Outcome (Unit {0})
-countOutcome w bytes = settled (countAnswer w bytes) 0 (setBits bytes) tt tt
+unfoldable pub countOutcome : Widths → List ℕ → Outcome (Unit {0})
+countOutcome widths bytes = settled (countAnswer widths bytes) 0 (setBits bytes) tt tt

@@ -4,6 +4,7 @@ use native.Mathlib.Omega.{arith}
 use mathlib.Core.Path.{_≡_}
 use mathlib.Core.List.{List}
 use lib.ListN.{length}
+use Rattle.bounded.specs.Limits.{Widths}
 use Rattle.bounded.specs.Below.{sumBelow}
 use Rattle.outcome.specs.OutcomeLaws.{settled-refused, settled-done}
 use Rattle.bits.specs.Bits.{bitAt, setBits, countAnswer, countOutcome}
@@ -24,10 +25,10 @@ unfolding setBits
 set-bits-at-most bytes = sum-of-ones (bitAt bytes) (8 * length bytes) (bit-at-most-one bytes)
 
 -- Refused, the drawn count is 0; done, it is the count of set bits.
-pub count-refused : (w : ℕ) (bytes : List ℕ) → ¬ (countAnswer w bytes ≡ 0) → countOutcome w bytes ≡ record { answer = countAnswer w bytes; second = 0; left = tt }
+pub count-refused : (widths : Widths) (bytes : List ℕ) → ¬ (countAnswer widths bytes ≡ 0) → countOutcome widths bytes ≡ record { answer = countAnswer widths bytes; second = 0; left = tt }
 unfolding countOutcome
-count-refused w bytes h = settled-refused (countAnswer w bytes) 0 (setBits bytes) tt tt h
+count-refused widths bytes h = settled-refused (countAnswer widths bytes) 0 (setBits bytes) tt tt h
 
-pub count-done : (w : ℕ) (bytes : List ℕ) → countAnswer w bytes ≡ 0 → countOutcome w bytes ≡ record { answer = 0; second = setBits bytes; left = tt }
+pub count-done : (widths : Widths) (bytes : List ℕ) → countAnswer widths bytes ≡ 0 → countOutcome widths bytes ≡ record { answer = 0; second = setBits bytes; left = tt }
 unfolding countOutcome
-count-done w bytes e = settled-done (countAnswer w bytes) 0 (setBits bytes) tt tt e
+count-done widths bytes e = settled-done (countAnswer widths bytes) 0 (setBits bytes) tt tt e

@@ -2,7 +2,7 @@
 ghost use mathlib.Core.Path.{_≡_};
 ghost use Prim.Native.Nat.{_*_, _≤_, _<_};
 ghost use lib.ListN.{length};
-ghost use Rattle.bounded.specs.Limits.{width};
+ghost use Rattle.bounded.specs.Limits.{twoWidths};
 ghost use Rattle.outcome.specs.Outcome.{returned};
 ghost use Rattle.bits.specs.Bits.{bitAt, setBits, countOutcome};
 
@@ -30,11 +30,11 @@ pub fn count_bits(bytes: &[u8]) -> u32
     set
 }
 
-// "Count 32 bytes: how many stops are drawn". Any other length answers 1.
+// "Count 32 bytes: how many stops are drawn"; "a slice of 32 or 64 bytes". Any other length answers 1.
 pub fn count(bytes: &[u8]) -> u64
-    ensures { λ r. ⌜ returned r tt ≡ countOutcome width (now (bytes .entry)) ⌝ }
+    ensures { λ r. ⌜ returned r tt ≡ countOutcome twoWidths (now (bytes .entry)) ⌝ }
 {
-    if bytes.len() != 32 {
+    if !sizes::width_ok(bytes.len()) {
         return outcome::reply(1, 0);
     }
     let set = count_bits(bytes);

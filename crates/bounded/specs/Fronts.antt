@@ -1,9 +1,9 @@
 -- The front of a list, lent and put back.
-use Prim.Native.Nat.{ℕ, _-_, _≤_, _<_, min}
+use Prim.Native.Nat.{ℕ, zero, suc, _-_, _≤_, _<_, min}
 use native.Mathlib.Omega.{arith}
-use mathlib.Core.Path.{_≡_}
-use mathlib.Core.List.{List, _++_}
-use lib.ListN.{length, take, drop, drop-of-length-le}
+use mathlib.Core.Path.{_≡_, refl, ap}
+use mathlib.Core.List.{List, _∷_, _++_}
+use lib.ListN.{length, take, drop, replicate, drop-of-length-le}
 use lib.Seq.{take-all}
 use borrow.Rule.Slice.PartMut.{putMid, post-is}
 use Rattle.bounded.specs.Choice.{on-lt}
@@ -30,3 +30,14 @@ module _ (n k : ℕ) (l : List ℕ) (e : k ≡ min n (length l)) where
 
   pub front-back : (ys : List ℕ) → putMid 0 (k - 0) l ys ≡ ys ++ drop n l
   front-back ys = rw (post-is 0 k l (omega arith), e, drop-least n l)
+
+-- the first k of n equal elements
+equal-front : (k n x : ℕ) → k ≤ n → take k (replicate n x) ≡ replicate k x
+equal-front zero zero x h = refl
+equal-front zero (suc n) x h = refl
+equal-front (suc k) zero x h = absurd (omega arith)
+equal-front (suc k) (suc n) x h = ap (λ (l : List ℕ). x ∷ l) (equal-front k n x (omega arith))
+
+-- … lent
+pub equal-lent : (k n x : ℕ) → k ≤ n → take (k - 0) (drop 0 (replicate n x)) ≡ replicate k x
+equal-lent k n x h = let z : k - 0 ≡ k = omega arith in rw z (equal-front k n x h)

@@ -1,5 +1,7 @@
--- Document 01's numbers.
+-- Document 01's numbers, and the widths of document 02.
 use Prim.Native.Nat.{ℕ}
+use mathlib.Core.Bool.{Bool, _||_}
+use lib.Dec.{eqb}
 
 -- "P pages (pistons), 1 to 256"
 abbrev pub maxPages : ℕ
@@ -9,9 +11,14 @@ maxPages = 256
 abbrev pub maxSlots : ℕ
 maxSlots = 1024
 
--- The bytes of contents a slot has. Every definition takes the width as a parameter; the calls pass this one.
-abbrev pub width : ℕ
-width = 32
+-- Which widths are allowed: the width is the number of bytes of contents that a slot has. What a call answers, gives and leaves takes them as a
+-- parameter, and so does all that is shown of it.
+abbrev pub Widths : Type 0
+Widths = ℕ → Bool
+
+-- Document 02: "A volume's contents are 32 or 64 bytes per slot". The calls take these two.
+unfoldable pub twoWidths : Widths
+twoWidths w = eqb w 32 || eqb w 64
 
 -- "4,294,967,295 in all five words" of a blank slot; in the state "4,294,967,295: not in flight"; the slot that a refused suggest names
 abbrev pub noNumber : ℕ

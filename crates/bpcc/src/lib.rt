@@ -1,11 +1,12 @@
-// The C interface: every call, exported. The functions `star_cases`, `exposed_found` and `promise_3` pin theorems in their contracts.
+// The C interface: every call, exported. The functions `star_cases`, `exposed_found`, `promise_3` and `two_widths` pin theorems in their contracts.
 ghost use mathlib.Core.Path.{_≡_};
-ghost use Rattle.bounded.specs.Limits.{width};
+ghost use Rattle.bounded.specs.Limits.{twoWidths};
 ghost use Rattle.outcome.specs.Outcome.{returned};
 ghost use Rattle.outcome.specs.Row.{RowsHold};
 ghost use Rattle.sizes.specs.Sizes.{sizesOf};
 ghost use Rattle.record.specs.Flash.{flash};
 ghost use Rattle.bits.specs.Bits.{countOutcome};
+ghost use Rattle.bits.specs.Cases.{countRows};
 ghost use Rattle.rules.specs.Volume.{volume};
 ghost use Rattle.rules.specs.Format.{formatOutcome};
 ghost use Rattle.rules.specs.Read.{readOutcome};
@@ -20,8 +21,9 @@ ghost use Rattle.rules.specs.Suggest.{suggestOutcome};
 ghost use Rattle.rules.specs.Recover.{recoverOutcome};
 ghost use Rattle.rules.specs.cases.Star.{starTable};
 ghost use Rattle.rules.specs.cases.Found.{foundRows};
+ghost use Rattle.rules.specs.cases.Width.{widthRows};
 ghost use Rattle.rules.specs.laws.Found.{FoundExactly, JudgedByFound};
-ghost use Rattle.atomicity.specs.Promise.{Promise3, OwnState};
+ghost use Rattle.atomicity.specs.Promise.{PromiseAt, Promise3, OwnState};
 ghost use Rattle.atomicity.specs.Companions.{StatesAgree, PremisesMet, StagesInOrder};
 ghost use Rattle.atomicity.specs.Runs.{RunsComputed};
 use sizes::Sizes;
@@ -31,22 +33,46 @@ use sizes::Sizes;
 pub extern "C" fn bpcc_format(
     pages: u32,
     slots: u32,
+    width: u32,
     words: &mut [u32],
     contents: &mut [u8],
     state: &mut [u32],
 ) -> u64
     ensures { λ r. ⌜ returned r (volume (now (words .exit)) (now (contents .exit)) (now (state .exit)))
-        ≡ formatOutcome width (sizesOf pages slots) (volume (now (words .entry)) (now (contents .entry)) (now (state .entry))) ⌝ }
+        ≡ formatOutcome twoWidths (sizesOf pages slots width) (volume (now (words .entry)) (now (contents .entry)) (now (state .entry))) ⌝ }
 {
-    volume::format(Sizes { pages, slots }, words, contents, state)
+    volume::format(
+        Sizes {
+            pages,
+            slots,
+            width,
+        },
+        words,
+        contents,
+        state,
+    )
 }
 
 // Launch a list of pages as one transaction.
 #[no_mangle]
-pub extern "C" fn bpcc_launch(pages: u32, slots: u32, state: &mut [u32], list: &[u32]) -> u64
-    ensures { λ r. ⌜ returned r (now (state .exit)) ≡ launchOutcome (sizesOf pages slots) (now (state .entry)) (now (list .entry)) ⌝ }
+pub extern "C" fn bpcc_launch(
+    pages: u32,
+    slots: u32,
+    width: u32,
+    state: &mut [u32],
+    list: &[u32],
+) -> u64
+    ensures { λ r. ⌜ returned r (now (state .exit)) ≡ launchOutcome twoWidths (sizesOf pages slots width) (now (state .entry)) (now (list .entry)) ⌝ }
 {
-    flight::launch(Sizes { pages, slots }, state, list)
+    flight::launch(
+        Sizes {
+            pages,
+            slots,
+            width,
+        },
+        state,
+        list,
+    )
 }
 
 // Write a page of a launched transaction into a blank slot.
@@ -54,6 +80,7 @@ pub extern "C" fn bpcc_launch(pages: u32, slots: u32, state: &mut [u32], list: &
 pub extern "C" fn bpcc_write(
     pages: u32,
     slots: u32,
+    width: u32,
     words: &mut [u32],
     contents: &mut [u8],
     state: &mut [u32],
@@ -62,10 +89,14 @@ pub extern "C" fn bpcc_write(
     bytes: &[u8],
 ) -> u64
     ensures { λ r. ⌜ returned r (volume (now (words .exit)) (now (contents .exit)) (now (state .exit)))
-        ≡ writeOutcome width (sizesOf pages slots) (volume (now (words .entry)) (now (contents .entry)) (now (state .entry))) page slot (now (bytes .entry)) ⌝ }
+        ≡ writeOutcome twoWidths (sizesOf pages slots width) (volume (now (words .entry)) (now (contents .entry)) (now (state .entry))) page slot (now (bytes .entry)) ⌝ }
 {
     transact::write(
-        Sizes { pages, slots },
+        Sizes {
+            pages,
+            slots,
+            width,
+        },
         words,
         contents,
         state,
@@ -77,10 +108,24 @@ pub extern "C" fn bpcc_write(
 
 // Withdraw the transaction that a page is in.
 #[no_mangle]
-pub extern "C" fn bpcc_withdraw(pages: u32, slots: u32, state: &mut [u32], page: u32) -> u64
-    ensures { λ r. ⌜ returned r (now (state .exit)) ≡ withdrawOutcome (sizesOf pages slots) (now (state .entry)) page ⌝ }
+pub extern "C" fn bpcc_withdraw(
+    pages: u32,
+    slots: u32,
+    width: u32,
+    state: &mut [u32],
+    page: u32,
+) -> u64
+    ensures { λ r. ⌜ returned r (now (state .exit)) ≡ withdrawOutcome twoWidths (sizesOf pages slots width) (now (state .entry)) page ⌝ }
 {
-    flight::withdraw(Sizes { pages, slots }, state, page)
+    flight::withdraw(
+        Sizes {
+            pages,
+            slots,
+            width,
+        },
+        state,
+        page,
+    )
 }
 
 // Erase a list of slots.
@@ -88,37 +133,76 @@ pub extern "C" fn bpcc_withdraw(pages: u32, slots: u32, state: &mut [u32], page:
 pub extern "C" fn bpcc_erase(
     pages: u32,
     slots: u32,
+    width: u32,
     words: &mut [u32],
     contents: &mut [u8],
     state: &[u32],
     list: &[u32],
 ) -> u64
     ensures { λ r. ⌜ returned r (flash (now (words .exit)) (now (contents .exit)))
-        ≡ eraseOutcome width (sizesOf pages slots) (volume (now (words .entry)) (now (contents .entry)) (now (state .entry))) (now (list .entry)) ⌝ }
+        ≡ eraseOutcome twoWidths (sizesOf pages slots width) (volume (now (words .entry)) (now (contents .entry)) (now (state .entry))) (now (list .entry)) ⌝ }
 {
-    collect::erase(Sizes { pages, slots }, words, contents, state, list)
+    collect::erase(
+        Sizes {
+            pages,
+            slots,
+            width,
+        },
+        words,
+        contents,
+        state,
+        list,
+    )
 }
 
 // Suggest the lowest slot that may be erased.
 #[no_mangle]
-pub extern "C" fn bpcc_suggest(pages: u32, slots: u32, words: &[u32], state: &[u32]) -> u64
-    ensures { λ r. ⌜ returned r tt ≡ suggestOutcome (sizesOf pages slots) (now (words .entry)) (now (state .entry)) ⌝ }
+pub extern "C" fn bpcc_suggest(
+    pages: u32,
+    slots: u32,
+    width: u32,
+    words: &[u32],
+    state: &[u32],
+) -> u64
+    ensures { λ r. ⌜ returned r tt ≡ suggestOutcome twoWidths (sizesOf pages slots width) (now (words .entry)) (now (state .entry)) ⌝ }
 {
-    collect::suggest(Sizes { pages, slots }, words, state)
+    collect::suggest(
+        Sizes {
+            pages,
+            slots,
+            width,
+        },
+        words,
+        state,
+    )
 }
 
 // Recover the state from the slot table.
 #[no_mangle]
-pub extern "C" fn bpcc_recover(pages: u32, slots: u32, words: &[u32], state: &mut [u32]) -> u64
-    ensures { λ r. ⌜ returned r (now (state .exit)) ≡ recoverOutcome (sizesOf pages slots) (now (words .entry)) (now (state .entry)) ⌝ }
+pub extern "C" fn bpcc_recover(
+    pages: u32,
+    slots: u32,
+    width: u32,
+    words: &[u32],
+    state: &mut [u32],
+) -> u64
+    ensures { λ r. ⌜ returned r (now (state .exit)) ≡ recoverOutcome twoWidths (sizesOf pages slots width) (now (words .entry)) (now (state .entry)) ⌝ }
 {
-    recovery::recover(Sizes { pages, slots }, words, state)
+    recovery::recover(
+        Sizes {
+            pages,
+            slots,
+            width,
+        },
+        words,
+        state,
+    )
 }
 
 // Count the set bits of a slot's contents.
 #[no_mangle]
 pub extern "C" fn bpcc_count(bytes: &[u8]) -> u64
-    ensures { λ r. ⌜ returned r tt ≡ countOutcome width (now (bytes .entry)) ⌝ }
+    ensures { λ r. ⌜ returned r tt ≡ countOutcome twoWidths (now (bytes .entry)) ⌝ }
 {
     bits::count(bytes)
 }
@@ -128,6 +212,7 @@ pub extern "C" fn bpcc_count(bytes: &[u8]) -> u64
 pub extern "C" fn bpcc_read(
     pages: u32,
     slots: u32,
+    width: u32,
     words: &[u32],
     contents: &[u8],
     state: &[u32],
@@ -135,9 +220,9 @@ pub extern "C" fn bpcc_read(
     out: &mut [u8],
 ) -> u64
     ensures { λ r. ⌜ returned r (now (out .exit))
-        ≡ readOutcome width (sizesOf pages slots) (volume (now (words .entry)) (now (contents .entry)) (now (state .entry))) page (now (out .entry)) ⌝ }
+        ≡ readOutcome twoWidths (sizesOf pages slots width) (volume (now (words .entry)) (now (contents .entry)) (now (state .entry))) page (now (out .entry)) ⌝ }
 {
-    reader::read(pages, slots, words, contents, state, page, out)
+    reader::read(pages, slots, width, words, contents, state, page, out)
 }
 
 // Document 01's ★ cases hold of the definitions that the calls' contracts cite, and so do the bounds of P and S, the records that a ring of two
@@ -157,7 +242,7 @@ pub fn exposed_found()
     ensures found { λ _. ⌜ RowsHold foundRows ⌝ }
 {}
 
-// Promise 3, whole: one theorem over all lists of calls and crashes; that it holds of the volume's own state; the paper's two invariants; that its
+// Promise 3, whole: one theorem over all lists of calls and crashes, for any widths; that it holds of the volume's own state; the paper's two invariants; that its
 // premises are met by every volume that formats, and what may follow a list; what ties a call's stages to what it leaves and to a crash in it; and four
 // runs, computed.
 pub fn promise_3()
@@ -167,4 +252,12 @@ pub fn promise_3()
     ensures premises { λ _. ⌜ PremisesMet ⌝ }
     ensures stages { λ _. ⌜ StagesInOrder ⌝ }
     ensures runs { λ _. ⌜ RunsComputed ⌝ }
+{}
+
+// Document 02, wish 10: promise 3, shown once for any width, used at the two that the calls take; and what the calls answer at these and at others, and
+// count of 32 and of 64 bytes, computed.
+pub fn two_widths()
+    ensures promise { λ _. ⌜ PromiseAt twoWidths ⌝ }
+    ensures widths { λ _. ⌜ RowsHold widthRows ⌝ }
+    ensures counts { λ _. ⌜ RowsHold countRows ⌝ }
 {}

@@ -6,6 +6,7 @@ use mathlib.Core.Path.{_≡_, refl}
 use mathlib.Core.List.{List, [], _∷_}
 use lib.ListN.{length, getD, take}
 use lib.Seq.{take-length}
+use Rattle.bounded.specs.Limits.{Widths}
 use Rattle.bounded.specs.PartsLaws.{part-inside}
 use Rattle.sizes.specs.declared.Sizes.{Sizes}
 use Rattle.sizes.specs.Lists.{Listed, list-facts}
@@ -46,12 +47,12 @@ module _ (w : ℕ) where
 -- ---- an accepted erase
 
 -- each listed slot is inside a volume that fits
-listed-in : (w : ℕ) (sizes : Sizes) (v : Volume) (list : List ℕ) → Fits w sizes v → Listed (sizes .slots) list → ListedIn w (v .flash .words) (v .flash .contents) list
-listed-in w sizes v list f l = record {
+listed-in : (widths : Widths) (sizes : Sizes) (v : Volume) (list : List ℕ) → Fits widths sizes v → Listed (sizes .slots) list → ListedIn (sizes .width) (v .flash .words) (v .flash .contents) list
+listed-in widths sizes v list f l = record {
   words-in = λ i h. let k = l .in-range i h in let e = f .flash-sized .words-sized in omega arith;
-  contents-in = λ i h. let e = f .flash-sized .contents-sized in let k = part-inside w (sizes .slots) (getD list i 0) (l .in-range i h) in omega arith;
+  contents-in = λ i h. let e = f .flash-sized .contents-sized in let k = part-inside (sizes .width) (sizes .slots) (getD list i 0) (l .in-range i h) in omega arith;
 }
 
-pub accepted-listed : (w : ℕ) (sizes : Sizes) (v : Volume) (list : List ℕ) → eraseAnswer w sizes v list ≡ 0 → ListedIn w (v .flash .words) (v .flash .contents) list
-accepted-listed w sizes v list e =
-    let t = erase-tests w sizes v list e in listed-in w sizes v list (t .fits) (list-facts (sizes .slots) list (t .listed))
+pub accepted-listed : (widths : Widths) (sizes : Sizes) (v : Volume) (list : List ℕ) → eraseAnswer widths sizes v list ≡ 0 → ListedIn (sizes .width) (v .flash .words) (v .flash .contents) list
+accepted-listed widths sizes v list e =
+    let t = erase-tests widths sizes v list e in listed-in widths sizes v list (t .fits) (list-facts (sizes .slots) list (t .listed))

@@ -2,6 +2,7 @@
 use Prim.Native.Nat.{ℕ}
 use mathlib.Core.List.{List}
 use lib.ListN.{length, replicate}
+use Rattle.bounded.specs.Limits.{Widths}
 use Rattle.outcome.specs.Outcome.{Outcome}
 use Rattle.sizes.specs.declared.Sizes.{Sizes}
 use Rattle.line.specs.Line.{Said}
@@ -17,14 +18,15 @@ lost state = replicate (length state) 4294967295
 unfoldable pub accepted : Volume → Outcome Volume
 accepted v = record { answer = 0; second = 0; left = v }
 
--- what a line's call gives and leaves of a volume of these sizes; "cut sets every sheet word to 4,294,967,295"
-unfoldable pub lineOutcome : (w : ℕ) (sizes : Sizes) → Volume → Said → Outcome Volume
-lineOutcome w sizes v (Said.Format pages slots) = formatOutcome w sizes v
-lineOutcome w sizes v (Said.Launch pages) = perform w sizes v (Call.Launch pages)
-lineOutcome w sizes v (Said.Write page slot fill) = perform w sizes v (Call.Write page slot (replicate w fill))
-lineOutcome w sizes v (Said.Withdraw page) = perform w sizes v (Call.Withdraw page)
-lineOutcome w sizes v (Said.Erase slots) = perform w sizes v (Call.Erase slots)
-lineOutcome w sizes v Said.Recover = perform w sizes v Call.Recover
-lineOutcome w sizes v Said.Cut = accepted (record { flash = v .flash; state = lost (v .state) })
-lineOutcome w sizes v Said.Listing = accepted v
-lineOutcome w sizes v Said.Malformed = accepted v
+-- What a line's call gives and leaves of a volume of these sizes. "fill is the value of all 32 bytes", or of as many as the width says; "cut sets every
+-- sheet word to 4,294,967,295".
+unfoldable pub lineOutcome : Widths → Sizes → Volume → Said → Outcome Volume
+lineOutcome widths sizes v (Said.Format own) = formatOutcome widths sizes v
+lineOutcome widths sizes v (Said.Launch pages) = perform widths sizes v (Call.Launch pages)
+lineOutcome widths sizes v (Said.Write page slot fill) = perform widths sizes v (Call.Write page slot (replicate (sizes .width) fill))
+lineOutcome widths sizes v (Said.Withdraw page) = perform widths sizes v (Call.Withdraw page)
+lineOutcome widths sizes v (Said.Erase slots) = perform widths sizes v (Call.Erase slots)
+lineOutcome widths sizes v Said.Recover = perform widths sizes v Call.Recover
+lineOutcome widths sizes v Said.Cut = accepted (record { flash = v .flash; state = lost (v .state) })
+lineOutcome widths sizes v Said.Listing = accepted v
+lineOutcome widths sizes v Said.Malformed = accepted v

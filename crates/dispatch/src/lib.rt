@@ -1,10 +1,12 @@
 // The call that a line of a script names, carried out on a volume.
 ghost use Prim.Native.Nat.{min};
 ghost use mathlib.Core.Path.{_≡_};
-ghost use Rattle.bounded.specs.Limits.{width};
+ghost use lib.ListN.{replicate};
+ghost use Rattle.bounded.specs.Limits.{twoWidths};
 ghost use Rattle.outcome.specs.Outcome.{returned};
 ghost use Rattle.line.specs.Line.{said};
 ghost use Rattle.rules.specs.Volume.{volume};
+ghost use Rattle.rules.specs.Write.{writeOutcome};
 ghost use Rattle.dispatch.specs.Dispatch.{lost, lineOutcome};
 use line::Line;
 use sizes::Sizes;
@@ -30,7 +32,25 @@ fn lose(state: &mut [u32])
     }
 }
 
-// The number back of a line's call on a volume; 0 for a line that is no call. "fill is the value of all 32 bytes"
+// A write whose bytes are all `fill`, as many as the width says. A width above the largest has fewer, and the write refuses it whatever they are.
+fn write_filled(
+    sizes: Sizes,
+    words: &mut [u32],
+    contents: &mut [u8],
+    state: &mut [u32],
+    page: u32,
+    slot: u32,
+    fill: u8,
+) -> u64
+    ensures { λ r. ⌜ returned r (volume (now (words .exit)) (now (contents .exit)) (now (state .exit)))
+        ≡ writeOutcome twoWidths sizes (volume (now (words .entry)) (now (contents .entry)) (now (state .entry))) page slot (replicate (sizes .width) fill) ⌝ }
+{
+    let bytes = [fill; sizes::MAX_WIDTH];
+    let n = least(sizes.width as usize, sizes::MAX_WIDTH);
+    transact::write(sizes, words, contents, state, page, slot, &bytes[0..n])
+}
+
+// The number back of a line's call on a volume; 0 for a line that is no call.
 pub fn call(
     sizes: Sizes,
     line: Line,
@@ -40,17 +60,16 @@ pub fn call(
     state: &mut [u32],
 ) -> u64
     ensures { λ r. ⌜ returned r (volume (now (words .exit)) (now (contents .exit)) (now (state .exit)))
-        ≡ lineOutcome width sizes (volume (now (words .entry)) (now (contents .entry)) (now (state .entry))) (said line (now (list .entry))) ⌝ }
+        ≡ lineOutcome twoWidths sizes (volume (now (words .entry)) (now (contents .entry)) (now (state .entry))) (said line (now (list .entry))) ⌝ }
 {
     match line {
-        Line::Format { pages: _, slots: _ } => volume::format(sizes, words, contents, state),
+        Line::Format { sizes: _ } => volume::format(sizes, words, contents, state),
         Line::Launch { count } => {
             let n = least(count, list.len());
             flight::launch(sizes, state, &list[0..n])
         }
         Line::Write { page, slot, fill } => {
-            let bytes = [fill; sizes::WIDTH];
-            transact::write(sizes, words, contents, state, page, slot, &bytes)
+            write_filled(sizes, words, contents, state, page, slot, fill)
         }
         Line::Withdraw { page } => flight::withdraw(sizes, state, page),
         Line::Erase { count } => {

@@ -4,6 +4,7 @@ use mathlib.Core.List.{List, [], _∷_, _++_}
 use mathlib.Core.Bool.{cond}
 use lib.Dec.{eqb}
 use lib.ListN.{take}
+use Rattle.bounded.specs.Limits.{Widths}
 use Rattle.line.specs.Line.{lineMeans}
 use Rattle.report.specs.Report.{Standing, Turn, idleTurn}
 use Rattle.script.specs.Script.{turn}
@@ -13,8 +14,8 @@ abbrev pub maxEntries : ℕ
 maxEntries = 64
 
 -- what a line of these bytes does: by `turn`, nothing once the run is over
-unfoldable pub carried : (w : ℕ) → Standing → List ℕ → Turn
-carried w s line = turn w s (lineMeans maxEntries line)
+unfoldable pub carried : Widths → Standing → List ℕ → Turn
+carried widths s line = turn widths s (lineMeans maxEntries line)
 
 -- What a byte does: a turn, and the bytes that are then held of a line that has not ended.
 pub record Fed : Type 0 where
@@ -24,10 +25,10 @@ pub record Fed : Type 0 where
 -- The next byte of a script, where these bytes are held of a line that has not ended and there is room for `room` of them: a line end
 -- (byte 10) has the line carried out; any other byte is held, as far as there is room. 513 bytes of room hold every line of 512, and enough of a longer one
 -- for it to be refused. After a line that "prints answer=line and ends the run" a byte does nothing, and what is held stays.
-unfoldable pub fed : (w room : ℕ) → Standing → (held : List ℕ) (byte : ℕ) → Fed
-fed w room s held byte =
+unfoldable pub fed : Widths → (room : ℕ) → Standing → (held : List ℕ) (byte : ℕ) → Fed
+fed widths room s held byte =
     cond (s .over)
     (record { turned = idleTurn s; held = held })
     (cond (eqb byte 10)
-    (record { turned = carried w s held; held = [] })
+    (record { turned = carried widths s held; held = [] })
     (record { turned = idleTurn s; held = take room (held ++ (byte ∷ [])) }))

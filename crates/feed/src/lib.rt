@@ -1,7 +1,7 @@
 // The bytes of a script one by one: a line is held in a buffer until it ends.
 ghost use mathlib.Core.Path.{_≡_};
 ghost use lib.ListN.{length};
-ghost use Rattle.bounded.specs.Limits.{width};
+ghost use Rattle.bounded.specs.Limits.{twoWidths};
 ghost use Rattle.text.specs.Print.{shown, added};
 ghost use Rattle.rules.specs.Volume.{volume};
 ghost use Rattle.report.specs.Report.{standing};
@@ -18,9 +18,9 @@ pub fn end_line(
     out: &mut [u8],
 ) -> Run
     ensures stands { λ s. ⌜ standing s (volume (now (words .exit)) (now (contents .exit)) (now (state .exit)))
-        ≡ carried width (standing run (volume (now (words .entry)) (now (contents .entry)) (now (state .entry)))) (shown (now (buffer .entry)) (run .held)) .leaves ⌝ }
+        ≡ carried twoWidths (standing run (volume (now (words .entry)) (now (contents .entry)) (now (state .entry)))) (shown (now (buffer .entry)) (run .held)) .leaves ⌝ }
     ensures prints { λ s. ⌜ shown (now (out .exit)) (s .at) ≡ added (now (out .entry)) (run .at)
-        (carried width (standing run (volume (now (words .entry)) (now (contents .entry)) (now (state .entry)))) (shown (now (buffer .entry)) (run .held)) .prints) ⌝ }
+        (carried twoWidths (standing run (volume (now (words .entry)) (now (contents .entry)) (now (state .entry)))) (shown (now (buffer .entry)) (run .held)) .prints) ⌝ }
     ensures holds { λ s. ⌜ s .held ≡ 0 ⌝ }
 {
     let n = dispatch::least(run.held, buffer.len());
@@ -40,11 +40,11 @@ pub fn feed(
     out: &mut [u8],
 ) -> Run
     ensures stands { λ s. ⌜ standing s (volume (now (words .exit)) (now (contents .exit)) (now (state .exit)))
-        ≡ fed width (length (now (buffer .entry))) (standing run (volume (now (words .entry)) (now (contents .entry)) (now (state .entry)))) (shown (now (buffer .entry)) (run .held)) byte .turned .leaves ⌝ }
+        ≡ fed twoWidths (length (now (buffer .entry))) (standing run (volume (now (words .entry)) (now (contents .entry)) (now (state .entry)))) (shown (now (buffer .entry)) (run .held)) byte .turned .leaves ⌝ }
     ensures prints { λ s. ⌜ shown (now (out .exit)) (s .at) ≡ added (now (out .entry)) (run .at)
-        (fed width (length (now (buffer .entry))) (standing run (volume (now (words .entry)) (now (contents .entry)) (now (state .entry)))) (shown (now (buffer .entry)) (run .held)) byte .turned .prints) ⌝ }
+        (fed twoWidths (length (now (buffer .entry))) (standing run (volume (now (words .entry)) (now (contents .entry)) (now (state .entry)))) (shown (now (buffer .entry)) (run .held)) byte .turned .prints) ⌝ }
     ensures holds { λ s. ⌜ shown (now (buffer .exit)) (s .held)
-        ≡ fed width (length (now (buffer .entry))) (standing run (volume (now (words .entry)) (now (contents .entry)) (now (state .entry)))) (shown (now (buffer .entry)) (run .held)) byte .held ⌝ }
+        ≡ fed twoWidths (length (now (buffer .entry))) (standing run (volume (now (words .entry)) (now (contents .entry)) (now (state .entry)))) (shown (now (buffer .entry)) (run .held)) byte .held ⌝ }
 {
     if run.over {
         return run;

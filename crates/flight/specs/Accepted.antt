@@ -6,7 +6,7 @@ use mathlib.Core.List.{List}
 use mathlib.Core.Bool.{true, false}
 use lib.ListN.{length, getD}
 use borrow.Author.Tests.{eq-eqb}
-use Rattle.bounded.specs.Limits.{highestVersion}
+use Rattle.bounded.specs.Limits.{highestVersion, Widths}
 use Rattle.bounded.specs.Choice.{on-eq, never}
 use Rattle.bounded.specs.BelowLaws.{some-not-at}
 use Rattle.sizes.specs.declared.Sizes.{Sizes}
@@ -35,7 +35,7 @@ pub record Launches (P : ℕ) (state pages : List ℕ) : Type 0 where
   pub sized : length state ≡ 4 * pagesIn state
   pub launchable : Launchable (pagesIn state) (stateAt state) pages
 
-module _ (sizes : Sizes) (state pages : List ℕ) where
+module _ (widths : Widths) (sizes : Sizes) (state pages : List ℕ) where
   launchable-of : stateSound (sizes .pages) (stateAt state) ≡ true → Listed (sizes .pages) pages → somePage pages (stateAt state) inFlight ≡ false → somePage pages (stateAt state) usedUp ≡ false → Launchable (sizes .pages) (stateAt state) pages
   unfolding somePage usedUp
   launchable-of s l f u =
@@ -51,9 +51,9 @@ module _ (sizes : Sizes) (state pages : List ℕ) where
             (λ q. omega arith);
       }
 
-  pub launch-accepted : launchAnswer sizes state pages ≡ 0 → Launches (sizes .pages) state pages
+  pub launch-accepted : launchAnswer widths sizes state pages ≡ 0 → Launches (sizes .pages) state pages
   launch-accepted z =
-      let t = launch-tests sizes state pages z in
+      let t = launch-tests widths sizes state pages z in
       let q = pages-in (sizes .pages) state (t .state-sized) in
       record {
         all-pages = q;
@@ -62,16 +62,16 @@ module _ (sizes : Sizes) (state pages : List ℕ) where
             subst (λ (n : ℕ). Launchable n (stateAt state) pages) (sym q) (launchable-of (t .sound) (list-facts (sizes .pages) pages (t .listed)) (t .none-flying) (t .none-used-up));
       }
 
-  pub launch-leaves : launchAnswer sizes state pages ≡ 0 → stateWords (pagesIn state) (launched pages (stateAt state)) ≡ stateWords (sizes .pages) (launched pages (stateAt state))
+  pub launch-leaves : launchAnswer widths sizes state pages ≡ 0 → stateWords (pagesIn state) (launched pages (stateAt state)) ≡ stateWords (sizes .pages) (launched pages (stateAt state))
   launch-leaves z = ap (λ (n : ℕ). stateWords n (launched pages (stateAt state))) (launch-accepted z .all-pages)
 
 -- ---- withdraw
 
-module _ (sizes : Sizes) (state : List ℕ) (page : ℕ) where
-  pub withdraw-accepted : withdrawAnswer sizes state page ≡ 0 → Walkable (pagesIn state) state page
+module _ (widths : Widths) (sizes : Sizes) (state : List ℕ) (page : ℕ) where
+  pub withdraw-accepted : withdrawAnswer widths sizes state page ≡ 0 → Walkable (pagesIn state) state page
   withdraw-accepted z =
-      let t = withdraw-tests sizes state page z in
+      let t = withdraw-tests widths sizes state page z in
       walkable-in (sizes .pages) state page (record { fits = t .state-sized; sound = t .sound; below = t .page-below; flies = t .flying })
 
-  pub withdraw-leaves : withdrawAnswer sizes state page ≡ 0 → stateWords (pagesIn state) (withdrawn (pagesIn state) (stateAt state) page) ≡ stateWords (sizes .pages) (withdrawn (sizes .pages) (stateAt state) page)
-  withdraw-leaves z = ap (λ (n : ℕ). stateWords n (withdrawn n (stateAt state) page)) (pages-in (sizes .pages) state (withdraw-tests sizes state page z .state-sized))
+  pub withdraw-leaves : withdrawAnswer widths sizes state page ≡ 0 → stateWords (pagesIn state) (withdrawn (pagesIn state) (stateAt state) page) ≡ stateWords (sizes .pages) (withdrawn (sizes .pages) (stateAt state) page)
+  withdraw-leaves z = ap (λ (n : ℕ). stateWords n (withdrawn n (stateAt state) page)) (pages-in (sizes .pages) state (withdraw-tests widths sizes state page z .state-sized))

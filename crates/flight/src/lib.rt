@@ -1,5 +1,6 @@
 // Transactions ("rings") launched and withdrawn: they see the state alone, so that every family of records shares them. The definitions are in crate rules.
 ghost use mathlib.Core.Path.{_≡_};
+ghost use Rattle.bounded.specs.Limits.{twoWidths};
 ghost use Rattle.outcome.specs.Outcome.{returned};
 ghost use Rattle.sizes.specs.Lists.{Listed};
 ghost use Rattle.state.specs.State.{stateAt};
@@ -46,7 +47,7 @@ fn some_page(state: &[u32], list: &[u32], bar: Bar) -> bool
 
 // Conditions 1 and 5, which the calls on the state alone share; 0 where none holds.
 fn state_judged(sizes: Sizes, state: &[u32]) -> u32
-    ensures { λ r. ⌜ r ≡ stateJudged sizes (now (state .entry)) ⌝ }
+    ensures { λ r. ⌜ r ≡ stateJudged twoWidths sizes (now (state .entry)) ⌝ }
 {
     if !sizes::state_ok(sizes, state) {
         return 1;
@@ -73,7 +74,7 @@ fn list_answer(state: &[u32], list: &[u32]) -> u32
 
 // The number back of a launch: the first refusal that holds, or 0.
 fn launch_answer(sizes: Sizes, state: &[u32], list: &[u32]) -> u32
-    ensures { λ r. ⌜ r ≡ launchAnswer sizes (now (state .entry)) (now (list .entry)) ⌝ }
+    ensures { λ r. ⌜ r ≡ launchAnswer twoWidths sizes (now (state .entry)) (now (list .entry)) ⌝ }
 {
     let first = state_judged(sizes, state);
     if first != 0 {
@@ -87,7 +88,7 @@ fn launch_answer(sizes: Sizes, state: &[u32], list: &[u32]) -> u32
 
 // Launch a list of pages: they form a cycle in flight, each at a new version.
 pub fn launch(sizes: Sizes, state: &mut [u32], list: &[u32]) -> u64
-    ensures { λ r. ⌜ returned r (now (state .exit)) ≡ launchOutcome sizes (now (state .entry)) (now (list .entry)) ⌝ }
+    ensures { λ r. ⌜ returned r (now (state .exit)) ≡ launchOutcome twoWidths sizes (now (state .entry)) (now (list .entry)) ⌝ }
 {
     let answer = launch_answer(sizes, state, list);
     if answer != 0 {
@@ -99,7 +100,7 @@ pub fn launch(sizes: Sizes, state: &mut [u32], list: &[u32]) -> u64
 
 // The number back of a withdraw: the first refusal that holds, or 0.
 fn withdraw_answer(sizes: Sizes, state: &[u32], page: u32) -> u32
-    ensures { λ r. ⌜ r ≡ withdrawAnswer sizes (now (state .entry)) page ⌝ }
+    ensures { λ r. ⌜ r ≡ withdrawAnswer twoWidths sizes (now (state .entry)) page ⌝ }
 {
     let first = state_judged(sizes, state);
     if first != 0 {
@@ -116,7 +117,7 @@ fn withdraw_answer(sizes: Sizes, state: &[u32], page: u32) -> u32
 
 // Withdraw the cycle of a page: "every page of the ring leaves flight, written 0; nothing else changes".
 pub fn withdraw(sizes: Sizes, state: &mut [u32], page: u32) -> u64
-    ensures { λ r. ⌜ returned r (now (state .exit)) ≡ withdrawOutcome sizes (now (state .entry)) page ⌝ }
+    ensures { λ r. ⌜ returned r (now (state .exit)) ≡ withdrawOutcome twoWidths sizes (now (state .entry)) page ⌝ }
 {
     let answer = withdraw_answer(sizes, state, page);
     if answer != 0 {

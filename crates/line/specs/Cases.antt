@@ -1,9 +1,10 @@
--- Lines read: document 01's sample, the other calls, and lines that are not as shown.
+-- Lines read: document 01's sample, the other calls, document 02's width, and lines that are not as shown.
 use Prim.Native.String.{String}
 use mathlib.Core.Path.{_≡_, refl}
 use mathlib.Core.List.{List, [], _∷_, map}
+use Rattle.sizes.specs.Sizes.{sizesOf}
 use Rattle.text.specs.Scan.{bytes, behind, maxNumber, isDigit, endNumber, numberFrom, number}
-use Rattle.line.specs.Line.{Said, numberThen, onNumber, onText, onNumbers, atEnd, listBehind, listFrom, numbers, formatMeans, fillMeans, writeMeans, withdrawMeans, launchMeans, eraseMeans, plainMeans, callMeans, lineMeans}
+use Rattle.line.specs.Line.{Said, numberThen, onNumber, onText, onNumbers, atEnd, listBehind, listFrom, numbers, sizesMeans, formatMeans, fillMeans, writeMeans, withdrawMeans, launchMeans, eraseMeans, plainMeans, callMeans, lineMeans}
 
 pub record Case : Type 0 where
   pub line : String
@@ -14,7 +15,7 @@ case line says = record { line = line; says = says }
 
 unfoldable pub cases : List Case
 cases =
-    case "op=format pages=2 slots=4" (Said.Format 2 4)
+    case "op=format pages=2 slots=4" (Said.Format (sizesOf 2 4 32))
     ∷ case "op=launch pages=0,1" (Said.Launch (0 ∷ 1 ∷ []))
     ∷ case "op=write page=0 slot=2 fill=3" (Said.Write 0 2 3)
     ∷ case "op=cut" Said.Cut
@@ -24,7 +25,16 @@ cases =
     ∷ case "op=list" Said.Listing
     ∷ case "op=withdraw page=12" (Said.Withdraw 12)
     ∷ case "op=erase slots=3,0,4294967295" (Said.Erase (3 ∷ 0 ∷ 4294967295 ∷ []))
-    ∷ case "op=format pages=002 slots=4" (Said.Format 2 4)
+    ∷ case "op=format pages=002 slots=4" (Said.Format (sizesOf 2 4 32))
+    ∷ case "op=format pages=2 slots=4 width=64" (Said.Format (sizesOf 2 4 64))
+    ∷ case "op=format pages=256 slots=512 width=64" (Said.Format (sizesOf 256 512 64))
+    ∷ case "op=format pages=256 slots=513 width=64" Said.Malformed
+    ∷ case "op=format pages=256 slots=513" (Said.Format (sizesOf 256 513 32))
+    ∷ case "op=format pages=2 slots=4 width=32" Said.Malformed
+    ∷ case "op=format pages=2 slots=4 width=640" Said.Malformed
+    ∷ case "op=format pages=2 slots=4 width=64 " Said.Malformed
+    ∷ case "op=format pages=2 slots=4  width=64" Said.Malformed
+    ∷ case "op=format pages=2 slots=4 width=" Said.Malformed
     ∷ case "op=format pages=2 slots=4 " Said.Malformed
     ∷ case "op=format pages=2  slots=4" Said.Malformed
     ∷ case "op=format pages=2 slots=4294967296" Said.Malformed
@@ -39,5 +49,5 @@ cases =
     ∷ []
 
 pub cases-hold : map (λ (c : Case). lineMeans 64 (bytes (c .line))) cases ≡ map (λ (c : Case). c .says) cases
-unfolding cases bytes behind maxNumber isDigit endNumber numberFrom number numberThen onNumber onText onNumbers atEnd listBehind listFrom numbers formatMeans fillMeans writeMeans withdrawMeans launchMeans eraseMeans plainMeans callMeans lineMeans
+unfolding cases bytes behind maxNumber isDigit endNumber numberFrom number numberThen onNumber onText onNumbers atEnd listBehind listFrom numbers sizesMeans formatMeans fillMeans writeMeans withdrawMeans launchMeans eraseMeans plainMeans callMeans lineMeans
 cases-hold = refl

@@ -5,13 +5,15 @@ use mathlib.Core.List.{List, [], _∷_}
 use mathlib.Core.Bool.{cond}
 use lib.Dec.{ltb, eqb}
 use lib.ListN.{length, take}
+use Rattle.sizes.specs.declared.Sizes.{Sizes}
+use Rattle.sizes.specs.Sizes.{sizesOf}
 use Rattle.text.specs.Scan.{bytes, behind, number, Scanned, scanned}
 use Rattle.line.specs.declared.Line.{Line}
 use Rattle.line.specs.declared.Line.the-variants as lines
 
 -- "one call a line": the call with its numbers, or none
 pub data Said : Type 0 where
-  Format : (pages slots : ℕ) → Said
+  Format : (sizes : Sizes) → Said
   Launch : (pages : List ℕ) → Said
   Write : (page slot fill : ℕ) → Said
   Withdraw : (page : ℕ) → Said
@@ -23,7 +25,7 @@ pub data Said : Type 0 where
 
 -- what the program's enum says, with the list that stands beside it
 unfoldable pub said : Line → List ℕ → Said
-said (lines.Format pages slots) list = Format pages slots
+said (lines.Format sizes) list = Format sizes
 said (lines.Launch count) list = Launch (take count list)
 said (lines.Write page slot fill) list = Write page slot fill
 said (lines.Withdraw page) list = Withdraw page
@@ -79,12 +81,20 @@ listed (suc n) list = some (take (suc n) list)
 
 -- "fields stand as shown, one space between": what each line says by what is behind its first field's name
 
+-- Behind the number of slots. Document 02: "The script's format line may end in width=64, then with at most 512 slots (more prints answer=line); without
+-- it the width is 32."
+unfoldable pub sizesMeans : (pages slots : ℕ) → List ℕ → Said
+sizesMeans pages slots s =
+    onText (behind (bytes " width=64") s)
+    (λ s. cond (ltb 512 slots) Malformed (atEnd s (Format (sizesOf pages slots 64))))
+    (atEnd s (Format (sizesOf pages slots 32)))
+
 -- "op=format pages=2 slots=4"
 unfoldable pub formatMeans : List ℕ → Said
 formatMeans s =
     onNumber (numberThen (bytes " slots=") (number s)) (λ pages s.
     onNumber (number s) (λ slots s.
-    atEnd s (Format pages slots)))
+    sizesMeans pages slots s))
 
 -- "fill at most 255"
 unfoldable pub fillMeans : (page slot : ℕ) → List ℕ → Said

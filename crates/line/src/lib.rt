@@ -4,13 +4,14 @@ ghost use mathlib.Core.List.{List};
 ghost use Prim.Native.Nat.{ℕ};
 ghost use lib.ListN.{length, drop};
 ghost use Rattle.text.specs.Scan.{number, numberAt};
-ghost use Rattle.line.specs.Line.{numberThen, said, listed, lineMeans, formatMeans, fillMeans, writeMeans, withdrawMeans, launchMeans, eraseMeans, plainMeans, atEnd, numbers};
+ghost use Rattle.line.specs.Line.{numberThen, said, listed, lineMeans, sizesMeans, formatMeans, fillMeans, writeMeans, withdrawMeans, launchMeans, eraseMeans, plainMeans, atEnd, numbers};
+use sizes::Sizes;
 use text::scan::Number;
 use text::scan::Place;
 
 // A line: a call with its numbers. A list of pages or slots stands beside it, in a lent slice; `count` says how many.
 pub enum Line {
-    Format { pages: u32, slots: u32 },
+    Format { sizes: Sizes },
     Launch { count: usize },
     Write { page: u32, slot: u32, fill: u8 },
     Withdraw { page: u32 },
@@ -68,6 +69,30 @@ fn number_then(line: &[u8], at: usize, name: &[u8]) -> Number
     Number::Is { value, end: next }
 }
 
+// What follows the number of slots. Document 02: "The script's format line may end in width=64, then with at most 512 slots (more prints answer=line);
+// without it the width is 32."
+fn sizes_at(line: &[u8], at: usize, pages: u32, slots: u32) -> Line
+    ensures { λ r. ⌜ ((l : List ℕ) → said r l ≡ sizesMeans pages slots (drop at (now (line .entry)))) ⌝ }
+{
+    let Place::At(end) = text::scan::after(line, at, b" width=64") else {
+        let sizes = Sizes {
+            pages,
+            slots,
+            width: 32,
+        };
+        return ended(line, at, Line::Format { sizes });
+    };
+    if slots > 512 {
+        return Line::Malformed;
+    }
+    let sizes = Sizes {
+        pages,
+        slots,
+        width: 64,
+    };
+    ended(line, end, Line::Format { sizes })
+}
+
 // "op=format pages=2 slots=4", from the first number on
 fn format_at(line: &[u8], at: usize) -> Line
     ensures { λ r. ⌜ ((l : List ℕ) → said r l ≡ formatMeans (drop at (now (line .entry)))) ⌝ }
@@ -82,7 +107,7 @@ fn format_at(line: &[u8], at: usize) -> Line
     else {
         return Line::Malformed;
     };
-    ended(line, last, Line::Format { pages, slots })
+    sizes_at(line, last, pages, slots)
 }
 
 // The fill at the end of a write line, with the numbers before it.

@@ -1,9 +1,10 @@
--- What the script line op=list prints of a volume of P pages and S slots of w bytes.
+-- What the script line op=list prints of a volume.
 use Prim.Native.Nat.{ℕ, zero, suc}
 use mathlib.Core.List.{List, _++_}
 use mathlib.Core.Bool.{Bool, cond}
 use lib.Dec.{eqb}
 use lib.ListN.{replicate}
+use Rattle.bounded.specs.Limits.{Widths}
 use Rattle.bounded.specs.Parts.{joinParts}
 use Rattle.outcome.specs.Outcome.{Outcome}
 use Rattle.sizes.specs.declared.Sizes.{Sizes}
@@ -18,13 +19,13 @@ use Rattle.rules.specs.Read.{readSlot, readOutcome}
 unfoldable pub answerText : ℕ → List ℕ
 answerText answer = bytes "answer=" ++ (decimal answer ++ bytes "\n")
 
--- Read of a page, into w bytes
-unfoldable pub pageRead : (w : ℕ) (sizes : Sizes) → Volume → ℕ → Outcome (List ℕ)
-pageRead w sizes v page = readOutcome w sizes v page (replicate w 0)
+-- Read of a page, into as many bytes as the width says
+unfoldable pub pageRead : Widths → Sizes → Volume → ℕ → Outcome (List ℕ)
+pageRead widths sizes v page = readOutcome widths sizes v page (replicate (sizes .width) 0)
 
 -- "drawn is what Count gives for its bytes"
-unfoldable pub drawnOf : (w : ℕ) (sizes : Sizes) → Volume → ℕ → ℕ
-drawnOf w sizes v page = countOutcome w (pageRead w sizes v page .left) .second
+unfoldable pub drawnOf : Widths → Sizes → Volume → ℕ → ℕ
+drawnOf widths sizes v page = countOutcome widths (pageRead widths sizes v page .left) .second
 
 -- a page is set or empty
 unfoldable pub stateText : Bool → List ℕ
@@ -40,10 +41,10 @@ fieldsText page version slot drawn set =
     stateText set)))))))
 
 -- the line of a page: its committed version; "slot is the one read"; "a stored silence is set, with drawn 0"
-unfoldable pub pageText : (w : ℕ) (sizes : Sizes) → Volume → ℕ → List ℕ
-pageText w sizes v page =
+unfoldable pub pageText : Widths → Sizes → Volume → ℕ → List ℕ
+pageText widths sizes v page =
     let s = stateAt (v .state) page in
-    fieldsText page (s .committed) (readSlot (sizes .slots) v page) (drawnOf w sizes v page) (isSet s)
+    fieldsText page (s .committed) (readSlot (sizes .slots) v page) (drawnOf widths sizes v page) (isSet s)
 
 -- "the first such number": of n answers the first that is not 0; 0 where all are
 unfoldable pub firstRefusal : ℕ → (ℕ → ℕ) → ℕ
@@ -51,12 +52,12 @@ firstRefusal zero answers = 0
 firstRefusal (suc n) answers = cond (eqb (firstRefusal n answers) 0) (answers n) (firstRefusal n answers)
 
 -- the answer of a list: 0, or "If a read is refused … the first such number"
-unfoldable pub listAnswer : (w : ℕ) (sizes : Sizes) → Volume → ℕ
-listAnswer w sizes v = firstRefusal (sizes .pages) (λ page. pageRead w sizes v page .answer)
+unfoldable pub listAnswer : Widths → Sizes → Volume → ℕ
+listAnswer widths sizes v = firstRefusal (sizes .pages) (λ page. pageRead widths sizes v page .answer)
 
 -- "list prints only one line, answer= and the first such number"; else a line for each page, and answer=0 "as its last line"
-unfoldable pub listText : (w : ℕ) (sizes : Sizes) → Volume → List ℕ
-listText w sizes v =
-    cond (eqb (listAnswer w sizes v) 0)
-    (joinParts (sizes .pages) (pageText w sizes v) ++ answerText 0)
-    (answerText (listAnswer w sizes v))
+unfoldable pub listText : Widths → Sizes → Volume → List ℕ
+listText widths sizes v =
+    cond (eqb (listAnswer widths sizes v) 0)
+    (joinParts (sizes .pages) (pageText widths sizes v) ++ answerText 0)
+    (answerText (listAnswer widths sizes v))

@@ -8,9 +8,10 @@ use mathlib.Core.Bool.{Bool, true, _&&_}
 use lib.Dec.{ltb, eqb}
 use lib.ListN.{length, replicate, length-replicate}
 use borrow.Author.Tests.{eq-eqb, ne-eqb, ltb-true}
+use Rattle.bounded.specs.Limits.{Widths}
 use Rattle.bounded.specs.Choice.{on-eq, on-lt, both, both-left, same-test}
 use Rattle.bounded.specs.Parts.{joinFrom, joinParts}
-use Rattle.bounded.specs.PartsLaws.{join-from-more}
+use Rattle.bounded.specs.PartsLaws.{part-inside, join-from-more}
 use Rattle.outcome.specs.Outcome.{Outcome}
 use Rattle.outcome.specs.OutcomeLaws.{held, settled-answer, settled-done}
 use Rattle.outcome.specs.Chain.{firstOf}
@@ -73,60 +74,61 @@ unfolding firstOf
 both-pass zero own e = (refl, e)
 both-pass (suc n) own e = absurd (omega arith)
 
-module _ (w : ℕ) (sizes : Sizes) (v : Volume) where
+module _ (widths : Widths) (sizes : Sizes) (v : Volume) where
   -- The answer of a page's read: the volume's, by conditions 1, 2 and 5, which all pages share; else the page's own.
-  page-chain : (page : ℕ) → pageRead w sizes v page .answer ≡ firstOf (judged (volumeFits w sizes v) (sizes .pages) (sizes .slots) (v .flash .words) (v .state)) (readOwn (sizes .pages) (sizes .slots) (v .flash .words) (v .state) page)
+  page-chain : (page : ℕ) → pageRead widths sizes v page .answer ≡ firstOf (judged (volumeFits widths sizes v) (sizes .pages) (sizes .slots) (v .flash .words) (v .state)) (readOwn (sizes .pages) (sizes .slots) (v .flash .words) (v .state) page)
   unfolding pageRead readOutcome
   page-chain page =
-      let out : List ℕ = replicate w 0 in
-      let whole : eqb (length out) w ≡ true = eq-eqb _ _ (length-replicate {A = ℕ} w 0) in
-      let e = same-test (volumeFits w sizes v && eqb (length out) w) (volumeFits w sizes v) (both-left (volumeFits w sizes v) (eqb (length out) w)) (λ h. both h whole) in
-      settled-answer (readAnswer w sizes v page out) 0 0 out (bytesAt w (v .flash .contents) (readSlot (sizes .slots) v page))
-      ∙ read-chain w sizes v page out
+      let out : List ℕ = replicate (sizes .width) 0 in
+      let whole : eqb (length out) (sizes .width) ≡ true = eq-eqb _ _ (length-replicate {A = ℕ} (sizes .width) 0) in
+      let e = same-test (volumeFits widths sizes v && eqb (length out) (sizes .width)) (volumeFits widths sizes v) (both-left (volumeFits widths sizes v) (eqb (length out) (sizes .width))) (λ h. both h whole) in
+      settled-answer (readAnswer widths sizes v page out) 0 0 out (bytesAt (sizes .width) (v .flash .contents) (readSlot (sizes .slots) v page))
+      ∙ read-chain widths sizes v page out
       ∙ ap (λ (b : Bool). firstOf (judged b (sizes .pages) (sizes .slots) (v .flash .words) (v .state)) (readOwn (sizes .pages) (sizes .slots) (v .flash .words) (v .state) page)) e
 
   pub page-answered :
-      (page first answer : ℕ) (fits : Bool) → fits ≡ volumeFits w sizes v → first ≡ judged fits (sizes .pages) (sizes .slots) (v .flash .words) (v .state)
-      → answer ≡ firstOf first (readOwn (sizes .pages) (sizes .slots) (v .flash .words) (v .state) page) → answer ≡ pageRead w sizes v page .answer
+      (page first answer : ℕ) (fits : Bool) → fits ≡ volumeFits widths sizes v → first ≡ judged fits (sizes .pages) (sizes .slots) (v .flash .words) (v .state)
+      → answer ≡ firstOf first (readOwn (sizes .pages) (sizes .slots) (v .flash .words) (v .state) page) → answer ≡ pageRead widths sizes v page .answer
   page-answered page first answer fits same said e = rw (page-chain page, ← same, ← said) e
 
-  -- Where the read of a page is accepted: the buffers have the table, the page's state and the slot, and the slot's bytes are what is read.
+  -- Where the read of a page is accepted: the buffers have the table, the page's state and the slot's bytes, and those are what is read.
   pub record Readable (page : ℕ) : Type 0 where
-    pub table-there : 5 * (sizes .slots) ≤ length (v .flash .words)
+    pub table-there : 5 * sizes .slots ≤ length (v .flash .words)
     pub state-there : 4 * page + 4 ≤ length (v .state)
-    pub contents-sized : length (v .flash .contents) ≡ w * (sizes .slots)
-    pub slot-there : readSlot (sizes .slots) v page < (sizes .slots)
-    pub drawn-there : countOutcome w (bytesAt w (v .flash .contents) (readSlot (sizes .slots) v page)) .second ≡ drawnOf w sizes v page
+    pub bytes-there : sizes .width * readSlot (sizes .slots) v page + sizes .width ≤ length (v .flash .contents)
+    pub drawn-there : countOutcome widths (bytesAt (sizes .width) (v .flash .contents) (readSlot (sizes .slots) v page)) .second ≡ drawnOf widths sizes v page
 
-  pub readable : (page : ℕ) → pageRead w sizes v page .answer ≡ 0 → Readable page
+  pub readable : (page : ℕ) → pageRead widths sizes v page .answer ≡ 0 → Readable page
   unfolding pageRead readOutcome readSlot readOwn hasVersion drawnOf
   readable page e =
-      let out : List ℕ = replicate w 0 in
-      let bytes : List ℕ = bytesAt w (v .flash .contents) (readSlot (sizes .slots) v page) in
+      let out : List ℕ = replicate (sizes .width) 0 in
+      let bytes : List ℕ = bytesAt (sizes .width) (v .flash .contents) (readSlot (sizes .slots) v page) in
       let passed = both-pass _ _ (sym (page-chain page) ∙ e) in
-      let f = fits-facts w sizes v (judged-passed (volumeFits w sizes v) (sizes .pages) (sizes .slots) (v .flash .words) (v .state) (passed .0) .fitting) in
+      let f = fits-facts widths sizes v (judged-passed (volumeFits widths sizes v) (sizes .pages) (sizes .slots) (v .flash .words) (v .state) (passed .0) .fitting) in
       let in-range = held (ltb page (sizes .pages)) _ _ (passed .1) in
       let found = held (ltb (readSlot (sizes .slots) v page) (sizes .slots)) _ _ (in-range .1) in
       let below = ltb-true page (sizes .pages) (in-range .0) in
-      let answer = readAnswer w sizes v page out in
+      let answer = readAnswer widths sizes v page out in
       let left = settled-done answer 0 0 out bytes (sym (settled-answer answer 0 0 out bytes) ∙ e) in
       record {
         table-there = let size = f .flash-sized .words-sized in omega arith;
         state-there = let size = f .state-sized in omega arith;
-        contents-sized = f .flash-sized .contents-sized;
-        slot-there = ltb-true (readSlot (sizes .slots) v page) (sizes .slots) (found .0);
-        drawn-there = sym (ap (λ (o : Outcome (List ℕ)). countOutcome w (o .left) .second) left);
+        bytes-there =
+            let size = f .flash-sized .contents-sized in
+            let inside = part-inside (sizes .width) (sizes .slots) (readSlot (sizes .slots) v page) (ltb-true (readSlot (sizes .slots) v page) (sizes .slots) (found .0)) in
+            omega arith;
+        drawn-there = sym (ap (λ (o : Outcome (List ℕ)). countOutcome widths (o .left) .second) left);
       }
 
   -- A refused list is its answer; an accepted one its pages and the answer 0.
-  module _ (answer : ℕ) (e : answer ≡ listAnswer w sizes v) (out : List ℕ) (at : ℕ) (text : List ℕ) where
-    pub list-refused : ¬ (answer ≡ 0) → text ≡ added out at (answerText answer) → text ≡ added out at (listText w sizes v)
+  module _ (answer : ℕ) (e : answer ≡ listAnswer widths sizes v) (out : List ℕ) (at : ℕ) (text : List ℕ) where
+    pub list-refused : ¬ (answer ≡ 0) → text ≡ added out at (answerText answer) → text ≡ added out at (listText widths sizes v)
     unfolding listText
     list-refused d q = rw (← e, ne-eqb answer 0 d) q
 
     pub list-accepted :
-        (out₁ : List ℕ) (at₁ : ℕ) → answer ≡ 0 → shown out₁ at₁ ≡ added out at (joinParts (sizes .pages) (pageText w sizes v)) → length out₁ ≡ length out
-        → text ≡ added out₁ at₁ (answerText 0) → text ≡ added out at (listText w sizes v)
+        (out₁ : List ℕ) (at₁ : ℕ) → answer ≡ 0 → shown out₁ at₁ ≡ added out at (joinParts (sizes .pages) (pageText widths sizes v)) → length out₁ ≡ length out
+        → text ≡ added out₁ at₁ (answerText 0) → text ≡ added out at (listText widths sizes v)
     unfolding listText
     list-accepted out₁ at₁ z h l q =
-        rw (← e, eq-eqb answer 0 z) (q ∙ added-next out out₁ at at₁ (joinParts (sizes .pages) (pageText w sizes v)) (answerText 0) h l)
+        rw (← e, eq-eqb answer 0 z) (q ∙ added-next out out₁ at at₁ (joinParts (sizes .pages) (pageText widths sizes v)) (answerText 0) h l)

@@ -2,7 +2,7 @@
 ghost use mathlib.Core.Path.{_≡_};
 ghost use Prim.Native.Nat.{_+_, _*_, _≤_, _<_};
 ghost use lib.ListN.{length};
-ghost use Rattle.bounded.specs.Limits.{width};
+ghost use Rattle.bounded.specs.Limits.{twoWidths};
 ghost use Rattle.bounded.specs.Parts.{joinParts};
 ghost use Rattle.outcome.specs.Chain.{firstOf};
 ghost use Rattle.text.specs.Print.{shown, added};
@@ -67,7 +67,7 @@ fn read_answer(first: u32, sizes: Sizes, words: &[u32], state: &[u32], page: u32
 
 // The answer of the first page whose read is refused; 0 where none is. The volume is judged once, for all pages.
 fn list_answer(sizes: Sizes, words: &[u32], contents: &[u8], state: &[u32]) -> u32
-    ensures { λ r. ⌜ r ≡ listAnswer width sizes (volume (now (words .entry)) (now (contents .entry)) (now (state .entry))) ⌝ }
+    ensures { λ r. ⌜ r ≡ listAnswer twoWidths sizes (volume (now (words .entry)) (now (contents .entry)) (now (state .entry))) ⌝ }
 {
     let fits = volume::volume_fits(sizes, words, contents, state);
     let first = volume::judged(fits, sizes, words, state);
@@ -83,13 +83,13 @@ fn list_answer(sizes: Sizes, words: &[u32], contents: &[u8], state: &[u32]) -> u
 }
 
 // "drawn is what Count gives for its bytes": those of a slot.
-fn drawn_in(contents: &[u8], slot: u32) -> u32
+fn drawn_in(width: u32, contents: &[u8], slot: u32) -> u32
     requires { ⌜ width * slot + width ≤ length (now contents) ⌝ }
-    ensures { λ r. ⌜ r ≡ countOutcome width (bytesAt width (now (contents .entry)) slot) .second ⌝ }
+    ensures { λ r. ⌜ r ≡ countOutcome twoWidths (bytesAt width (now (contents .entry)) slot) .second ⌝ }
 {
-    let mut bytes = [0u8; sizes::WIDTH];
-    record::flash::read_slot(contents, slot, &mut bytes);
-    let r = bits::count(&bytes);
+    let w = width as usize;
+    let b = w * (slot as usize);
+    let r = bits::count(&contents[b..b + w]);
     outcome::second_of(r)
 }
 
@@ -103,9 +103,9 @@ fn put_page(
     out: &mut [u8],
     at: usize,
 ) -> usize
-    requires { ⌜ pageRead width sizes (volume (now words) (now contents) (now state)) page .answer ≡ 0 ⌝ }
+    requires { ⌜ pageRead twoWidths sizes (volume (now words) (now contents) (now state)) page .answer ≡ 0 ⌝ }
     ensures { λ r. ⌜ shown (now (out .exit)) r
-        ≡ added (now (out .entry)) at (pageText width sizes (volume (now (words .entry)) (now (contents .entry)) (now (state .entry))) page) ⌝ }
+        ≡ added (now (out .entry)) at (pageText twoWidths sizes (volume (now (words .entry)) (now (contents .entry)) (now (state .entry))) page) ⌝ }
 {
     let s = state::page_at(state, page);
     let slot = reader::committed_slot(sizes.slots, words, state, page);
@@ -115,7 +115,7 @@ fn put_page(
         page,
         s.committed,
         slot,
-        drawn_in(contents, slot),
+        drawn_in(sizes.width, contents, slot),
         s.is_set(),
     )
 }
@@ -129,9 +129,9 @@ fn put_pages(
     out: &mut [u8],
     at: usize,
 ) -> usize
-    requires { ⌜ listAnswer width sizes (volume (now words) (now contents) (now state)) ≡ 0 ⌝ }
+    requires { ⌜ listAnswer twoWidths sizes (volume (now words) (now contents) (now state)) ≡ 0 ⌝ }
     ensures { λ r. ⌜ shown (now (out .exit)) r
-        ≡ added (now (out .entry)) at (joinParts (sizes .pages) (pageText width sizes (volume (now (words .entry)) (now (contents .entry)) (now (state .entry))))) ⌝ }
+        ≡ added (now (out .entry)) at (joinParts (sizes .pages) (pageText twoWidths sizes (volume (now (words .entry)) (now (contents .entry)) (now (state .entry))))) ⌝ }
 {
     let mut place = at;
     let mut page = 0;
@@ -152,7 +152,7 @@ pub fn list(
     at: usize,
 ) -> usize
     ensures { λ r. ⌜ shown (now (out .exit)) r
-        ≡ added (now (out .entry)) at (listText width sizes (volume (now (words .entry)) (now (contents .entry)) (now (state .entry)))) ⌝ }
+        ≡ added (now (out .entry)) at (listText twoWidths sizes (volume (now (words .entry)) (now (contents .entry)) (now (state .entry)))) ⌝ }
 {
     let answer = list_answer(sizes, words, contents, state);
     if answer != 0 {

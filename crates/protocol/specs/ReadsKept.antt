@@ -7,7 +7,7 @@ use mathlib.Core.Bool.{true}
 use lib.ListN.{length}
 use borrow.Author.Tests.{lt-ltb, eq-eqb, ltb-true}
 use Rattle.bounded.specs.Choice.{never}
-use Rattle.bounded.specs.Limits.{highestVersion}
+use Rattle.bounded.specs.Limits.{highestVersion, Widths}
 use Rattle.outcome.specs.OutcomeLaws.{settled-done}
 use Rattle.sizes.specs.declared.Sizes.{Sizes}
 use Rattle.record.specs.declared.Slot.{Slot}
@@ -60,8 +60,8 @@ slotsIn v = slotAt (v .flash .words)
 abbrev pub bytesOf : ℕ → Volume → ℕ → List ℕ
 bytesOf w v = bytesAt w (v .flash .contents)
 
-module _ (w : ℕ) (sizes : Sizes) (v : Volume) {comm : ℕ → ℕ} {kept : ℕ → List ℕ}
-    (core : Core (InSlots (sizes .slots) (slotsIn v) (bytesOf w v)) comm (sizes .pages) kept)
+module _ (sizes : Sizes) (v : Volume) {comm : ℕ → ℕ} {kept : ℕ → List ℕ}
+    (core : Core (InSlots (sizes .slots) (slotsIn v) (bytesOf (sizes .width) v)) comm (sizes .pages) kept)
     (filled : v .state ≡ stateWords (sizes .pages) (recovered (sizes .pages) (sizes .slots) (slotsIn v))) where
   open Core core using (shared)
   open SharedCore shared using (one-record, committed-kept)
@@ -77,7 +77,7 @@ module _ (w : ℕ) (sizes : Sizes) (v : Volume) {comm : ℕ → ℕ} {kept : ℕ
   committed-used : (p : ℕ) → p < (sizes .pages) → comm p ≤ usedOf (sizes .slots) (slotsIn v) p
   committed-used p h =
       let c = committed-kept p h in
-      let l = found-within-used (sizes .slots) (slotsIn v) (bytesOf w v) .version-used (c .0) (kept p) (c .1) in
+      let l = found-within-used (sizes .slots) (slotsIn v) (bytesOf (sizes .width) v) .version-used (c .0) (kept p) (c .1) in
       let e = ap (usedOf (sizes .slots) (slotsIn v)) (c .2 .0) in
       let q = c .2 .1 in
       omega arith
@@ -88,28 +88,28 @@ module _ (w : ℕ) (sizes : Sizes) (v : Volume) {comm : ℕ → ℕ} {kept : ℕ
       all-at-rest-sound (sizes .pages) (stateAt (v .state)) comm (usedOf (sizes .slots) (slotsIn v))
       (λ p h. (filled-page p h, committed-used p h, used-most (sizes .pages) (sizes .slots) (slotsIn v) p (table-sound core)))
 
-  module _ (page : ℕ) (out : List ℕ) (below : page < (sizes .pages)) (fits : volumeFits w sizes v ≡ true) (room : length out ≡ w) where
+  module _ (widths : Widths) (page : ℕ) (out : List ℕ) (below : page < (sizes .pages)) (fits : volumeFits widths sizes v ≡ true) (room : length out ≡ sizes .width) where
     there : hasVersion (sizes .slots) (slotsIn v) page (stateAt (v .state) page .committed) ≡ true
     there = rw (filled-committed page below) (committed-there core page below)
 
     -- Read answers 0,
-    pub read-accepts : readAnswer w sizes v page out ≡ 0
+    pub read-accepts : readAnswer widths sizes v page out ≡ 0
     unfolding readAnswer
-    read-accepts = rw (readAnswer, fits, eq-eqb (length out) w room, table-sound core, filled-sound, lt-ltb page (sizes .pages) below, there)
+    read-accepts = rw (readAnswer, fits, eq-eqb (length out) (sizes .width) room, table-sound core, filled-sound, lt-ltb page (sizes .pages) below, there)
 
     -- and the bytes of the slot it reads are the kept contents.
-    pub read-kept : bytesOf w v (readSlot (sizes .slots) v page) ≡ kept page
+    pub read-kept : bytesOf (sizes .width) v (readSlot (sizes .slots) v page) ≡ kept page
     unfolding readSlot hasVersion
     read-kept =
         let l = ltb-true (readSlot (sizes .slots) v page) (sizes .slots) there in
         let r = lowest-holds (slotsIn v) (sizes .slots) page (stateAt (v .state) page .committed) l in
         let c = committed-kept page below in
-        one-record (r .0) (c .0) (bytesOf w v (readSlot (sizes .slots) v page)) (kept page)
+        one-record (r .0) (c .0) (bytesOf (sizes .width) v (readSlot (sizes .slots) v page)) (kept page)
         (readSlot (sizes .slots) v page, l, r .1, refl) (c .1)
         (r .2 ∙ sym (c .2 .0)) (r .3 ∙ filled-committed page below ∙ sym (c .2 .1)) .1
 
-    pub read-outcome-kept : readOutcome w sizes v page out ≡ record { answer = 0; second = 0; left = kept page }
+    pub read-outcome-kept : readOutcome widths sizes v page out ≡ record { answer = 0; second = 0; left = kept page }
     unfolding readOutcome
     read-outcome-kept =
-        settled-done (readAnswer w sizes v page out) 0 0 out (bytesOf w v (readSlot (sizes .slots) v page)) read-accepts
+        settled-done (readAnswer widths sizes v page out) 0 0 out (bytesOf (sizes .width) v (readSlot (sizes .slots) v page)) read-accepts
         ∙ ap (λ (b : List ℕ). record { answer = 0; second = 0; left = b }) read-kept

@@ -5,10 +5,12 @@ use mathlib.Core.Path.{_≡_, refl}
 use mathlib.Core.List.{List}
 use mathlib.Core.Logic.{_⊎_, inl, inr}
 use mathlib.Core.Bool.{true, false}
+use Rattle.bounded.specs.Limits.{Widths}
 use Rattle.bounded.specs.Below.{allBelow, someBelow}
 use Rattle.bounded.specs.Choice.{on-test}
 use Rattle.bounded.specs.BelowLaws.{all-of, some-none}
-use Rattle.sizes.specs.Sizes.{sizesOf, sizesOk, wordsFit, stateFits}
+use Rattle.sizes.specs.declared.Sizes.{Sizes}
+use Rattle.sizes.specs.Sizes.{sizesOk, wordsFit, stateFits}
 use Rattle.record.specs.declared.Slot.{Slot}
 use Rattle.record.specs.declared.Slot.the-variants.{Blank, Holds}
 use Rattle.record.specs.Slot.{slotAt, slotSound}
@@ -82,13 +84,13 @@ module _ {P S : ℕ} {t : ℕ → Slot} {bytes : ℕ → List ℕ} {comm : ℕ �
 
 -- Recover answers 0.
 pub recover-accepts :
-    {P S : ℕ} (words state : List ℕ) {bytes : ℕ → List ℕ} {comm : ℕ → ℕ} {kept : ℕ → List ℕ}
-    → sizesOk (sizesOf P S) ≡ true
-    → wordsFit S words ≡ true
-    → stateFits P state ≡ true
-    → NoTwins S (slotAt words)
-    → Core (InSlots S (slotAt words) bytes) comm P kept
-    → recoverAnswer (sizesOf P S) words state ≡ 0
+    (widths : Widths) (sizes : Sizes) (words state : List ℕ) {bytes : ℕ → List ℕ} {comm : ℕ → ℕ} {kept : ℕ → List ℕ}
+    → sizesOk widths sizes ≡ true
+    → wordsFit (sizes .slots) words ≡ true
+    → stateFits (sizes .pages) state ≡ true
+    → NoTwins (sizes .slots) (slotAt words)
+    → Core (InSlots (sizes .slots) (slotAt words) bytes) comm (sizes .pages) kept
+    → recoverAnswer widths sizes words state ≡ 0
 unfolding recoverAnswer
-recover-accepts {P} {S} words state sizes fits room apart core =
-    rw (recoverAnswer, sizes, fits, room, table-sound core, no-clash S (slotAt words) apart, all-have-record core, none-astray core, all-have-committed core)
+recover-accepts widths sizes words state ok fits room apart core =
+    rw (recoverAnswer, ok, fits, room, table-sound core, no-clash (sizes .slots) (slotAt words) apart, all-have-record core, none-astray core, all-have-committed core)

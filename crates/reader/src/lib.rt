@@ -4,7 +4,7 @@
 ghost use mathlib.Core.Path.{_≡_};
 ghost use Prim.Native.Nat.{_+_, _*_, _≤_};
 ghost use lib.ListN.{length};
-ghost use Rattle.bounded.specs.Limits.{width};
+ghost use Rattle.bounded.specs.Limits.{twoWidths};
 ghost use Rattle.outcome.specs.Outcome.{returned};
 ghost use Rattle.sizes.specs.Sizes.{sizesOf};
 ghost use Rattle.record.specs.Slot.{slotAt};
@@ -41,15 +41,20 @@ fn copy_page(
     words: &[u32],
     pages: u32,
     slots: u32,
+    width: u32,
     contents: &[u8],
     state: &[u32],
     page: u32,
     out: &mut [u8],
 ) -> u64
     ensures { λ r. ⌜ returned r (now (out .exit))
-        ≡ readOutcome width (sizesOf pages slots) (volume (now (words .entry)) (now (contents .entry)) (now (state .entry))) page (now (out .entry)) ⌝ }
+        ≡ readOutcome twoWidths (sizesOf pages slots width) (volume (now (words .entry)) (now (contents .entry)) (now (state .entry))) page (now (out .entry)) ⌝ }
 {
-    let sizes = Sizes { pages, slots };
+    let sizes = Sizes {
+        pages,
+        slots,
+        width,
+    };
     let fits = volume::slice_fits(sizes, words, contents, state, out.len());
     let first = volume::judged(fits, sizes, words, state);
     if first != 0 {
@@ -66,25 +71,27 @@ fn copy_page(
     outcome::reply(0, 0)
 }
 
-// A page's committed contents, read into a slice of 32 bytes.
+// A page's committed contents, read into a slice as long as the width says.
 pub fn read_page<'a>(
     r: Reader<'a>,
     slots: u32,
+    width: u32,
     contents: &[u8],
     state: &[u32],
     page: u32,
     out: &mut [u8],
 ) -> u64
     ensures { λ n. ⌜ returned n (now (out .exit))
-        ≡ readOutcome width (sizesOf (r .entry .pages) slots) (volume (now (r .entry .words)) (now (contents .entry)) (now (state .entry))) page (now (out .entry)) ⌝ }
+        ≡ readOutcome twoWidths (sizesOf (r .entry .pages) slots width) (volume (now (r .entry .words)) (now (contents .entry)) (now (state .entry))) page (now (out .entry)) ⌝ }
 {
-    copy_page(r.words, r.pages, slots, contents, state, page, out)
+    copy_page(r.words, r.pages, slots, width, contents, state, page, out)
 }
 
 // Read: whoever calls this needs no reader.
 pub fn read(
     pages: u32,
     slots: u32,
+    width: u32,
     words: &[u32],
     contents: &[u8],
     state: &[u32],
@@ -92,7 +99,7 @@ pub fn read(
     out: &mut [u8],
 ) -> u64
     ensures { λ r. ⌜ returned r (now (out .exit))
-        ≡ readOutcome width (sizesOf pages slots) (volume (now (words .entry)) (now (contents .entry)) (now (state .entry))) page (now (out .entry)) ⌝ }
+        ≡ readOutcome twoWidths (sizesOf pages slots width) (volume (now (words .entry)) (now (contents .entry)) (now (state .entry))) page (now (out .entry)) ⌝ }
 {
-    read_page(new(words, pages), slots, contents, state, page, out)
+    read_page(new(words, pages), slots, width, contents, state, page, out)
 }

@@ -1,7 +1,7 @@
 // The flash: one step that alters it, and a slot's bytes read out. No other file takes a part of the flash to store in it.
 ghost use mathlib.Core.Path.{_≡_};
 ghost use Prim.Native.Nat.{_+_, _*_, _≤_};
-ghost use lib.ListN.{length};
+ghost use lib.ListN.{length, replicate};
 ghost use Rattle.bounded.specs.Parts.{putPart};
 ghost use Rattle.record.specs.Slot.{wordsOf, bytesAt};
 use super::Record;
@@ -31,7 +31,7 @@ fn copy_contents(to: &mut [u8], from: &[u8])
 }
 
 // One flash step: the slot's five words become the record's, and its bytes those given. It is the one function that stores to flash: a format calls it for
-// every slot, and after that a write calls it once and an erase once for each listed slot.
+// every slot, and after that a write calls it once and an erase once for each listed slot (format and erase by `fill_slot`).
 pub fn put_slot(words: &mut [u32], contents: &mut [u8], slot: u32, record: Record, bytes: &[u8])
     requires { ⌜ 5 * slot + 5 ≤ length (now words) ⌝ }
     requires { ⌜ length (now bytes) * slot + length (now bytes) ≤ length (now contents) ⌝ }
@@ -43,6 +43,25 @@ pub fn put_slot(words: &mut [u32], contents: &mut [u8], slot: u32, record: Recor
     let b = w * (slot as usize);
     store_record(&mut words[a..a + 5], record);
     copy_contents(&mut contents[b..b + w], bytes);
+}
+
+// One flash step that fills the slot's bytes, `width` of them, with one value.
+pub fn fill_slot(
+    width: u32,
+    words: &mut [u32],
+    contents: &mut [u8],
+    slot: u32,
+    record: Record,
+    fill: u8,
+)
+    requires { ⌜ 5 * slot + 5 ≤ length (now words) ⌝ }
+    requires { ⌜ width * slot + width ≤ length (now contents) ⌝ }
+    requires { ⌜ width ≤ 64 ⌝ }
+    ensures { λ _. ⌜ now (words .exit) ≡ putPart 5 slot (wordsOf «record») (now (words .entry)) ⌝ }
+    ensures { λ _. ⌜ now (contents .exit) ≡ putPart width slot (replicate width fill) (now (contents .entry)) ⌝ }
+{
+    let bytes = [fill; sizes::MAX_WIDTH];
+    put_slot(words, contents, slot, record, &bytes[0..width as usize]);
 }
 
 // A slot's bytes, copied out: bytes wk to wk+w-1, where w is the length of `out`.

@@ -7,6 +7,7 @@ use mathlib.Core.Bool.{true, false, not, _&&_, _||_}
 use lib.Dec.{ltb}
 use lib.ListN.{length, getD}
 use borrow.Author.Tests.{lt-ltb, le-ltb}
+use Rattle.bounded.specs.Limits.{Widths}
 use Rattle.bounded.specs.Below.{allBelow, someBelow}
 use Rattle.bounded.specs.Choice.{on-test, both-left, both-right}
 use Rattle.bounded.specs.BelowLaws.{all-cong}
@@ -118,9 +119,9 @@ pub answer-by-links : (P S : ℕ) (t : ℕ → Slot) → tableSound P S t ≡ tr
 unfolding tableAnswer
 answer-by-links P S t a b c = rw (a, b, c)
 
-pub answer-by-table : (sizes : Sizes) (words state : List ℕ) → (sizesOk sizes && (wordsFit (sizes .slots) words && stateFits (sizes .pages) state)) ≡ true → tableAnswer (sizes .pages) (sizes .slots) (slotAt words) ≡ recoverAnswer sizes words state
+pub answer-by-table : (widths : Widths) (sizes : Sizes) (words state : List ℕ) → (sizesOk widths sizes && (wordsFit (sizes .slots) words && stateFits (sizes .pages) state)) ≡ true → tableAnswer (sizes .pages) (sizes .slots) (slotAt words) ≡ recoverAnswer widths sizes words state
 unfolding linksAnswer tableAnswer recoverAnswer
-answer-by-table sizes words state e = rw e
+answer-by-table widths sizes words state e = rw e
 
 -- the sizes are right
 pub record RecoverFits (P S : ℕ) (words state : List ℕ) : Type 0 where
@@ -128,17 +129,17 @@ pub record RecoverFits (P S : ℕ) (words state : List ℕ) : Type 0 where
   pub pages-most : P ≤ 256
   pub state-sized : length state ≡ 4 * P
 
-pub recover-fits : (sizes : Sizes) (words state : List ℕ) → (sizesOk sizes && (wordsFit (sizes .slots) words && stateFits (sizes .pages) state)) ≡ true → RecoverFits (sizes .pages) (sizes .slots) words state
-recover-fits sizes words state e =
-    let f = both-right (sizesOk sizes) (wordsFit (sizes .slots) words && stateFits (sizes .pages) state) e in
-    let s = sizes-facts sizes (both-left (sizesOk sizes) (wordsFit (sizes .slots) words && stateFits (sizes .pages) state) e) in
+pub recover-fits : (widths : Widths) (sizes : Sizes) (words state : List ℕ) → (sizesOk widths sizes && (wordsFit (sizes .slots) words && stateFits (sizes .pages) state)) ≡ true → RecoverFits (sizes .pages) (sizes .slots) words state
+recover-fits widths sizes words state e =
+    let f = both-right (sizesOk widths sizes) (wordsFit (sizes .slots) words && stateFits (sizes .pages) state) e in
+    let s = sizes-facts widths sizes (both-left (sizesOk widths sizes) (wordsFit (sizes .slots) words && stateFits (sizes .pages) state) e) .0 in
     let w = words-fit-exactly (sizes .slots) words .0 (both-left (wordsFit (sizes .slots) words) (stateFits (sizes .pages) state) f) in
     record { slots-in = omega arith; pages-most = s .pages-most; state-sized = state-fits-exactly (sizes .pages) state .0 (both-right (wordsFit (sizes .slots) words) (stateFits (sizes .pages) state) f) }
 
 -- the sizes are wrong
-pub answer-by-sizes : (sizes : Sizes) (words state : List ℕ) → (sizesOk sizes && (wordsFit (sizes .slots) words && stateFits (sizes .pages) state)) ≡ false → 1 ≡ recoverAnswer sizes words state
+pub answer-by-sizes : (widths : Widths) (sizes : Sizes) (words state : List ℕ) → (sizesOk widths sizes && (wordsFit (sizes .slots) words && stateFits (sizes .pages) state)) ≡ false → 1 ≡ recoverAnswer widths sizes words state
 unfolding recoverAnswer
-answer-by-sizes sizes words state e = rw e
+answer-by-sizes widths sizes words state e = rw e
 
 -- an accepted table is sound
 pub accepted-sound : (P S : ℕ) (t : ℕ → Slot) → tableAnswer P S t ≡ 0 → tableSound P S t ≡ true

@@ -8,6 +8,7 @@ ghost use mathlib.Core.Path.{_≡_};
 ghost use Prim.Native.Nat.{_*_, _≤_};
 ghost use lib.Dec.{ltb};
 ghost use lib.ListN.{length, getD};
+ghost use Rattle.bounded.specs.Limits.{twoWidths};
 ghost use Rattle.bounded.specs.Below.{allBelow};
 ghost use Rattle.bounded.specs.Tabulate.{tabulate};
 ghost use Rattle.outcome.specs.Outcome.{returned};
@@ -54,7 +55,7 @@ fn table_answer(sizes: Sizes, words: &[u32], committed: &mut [u32; 256]) -> u32
 
 // "Recover: fills the sheet from the slot table; the old sheet may hold anything." Nothing is stored before every refusal is tried.
 pub fn recover(sizes: Sizes, words: &[u32], state: &mut [u32]) -> u64
-    ensures { λ r. ⌜ returned r (now (state .exit)) ≡ recoverOutcome sizes (now (words .entry)) (now (state .entry)) ⌝ }
+    ensures { λ r. ⌜ returned r (now (state .exit)) ≡ recoverOutcome twoWidths sizes (now (words .entry)) (now (state .entry)) ⌝ }
 {
     if !sizes::table_ok(sizes, words, state) {
         return outcome::reply(1, 0);

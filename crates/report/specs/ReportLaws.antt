@@ -8,6 +8,8 @@ use lib.ListN.{length}
 use types.Run.{OneOf, miss}
 use denote.Enum.Declared.{tagOf}
 use borrow.Author.Tests.{ne-eqb, eq-eqb}
+use Rattle.bounded.specs.Limits.{Widths}
+use Rattle.sizes.specs.declared.Sizes.{Sizes}
 use Rattle.text.specs.Scan.{bytes}
 use Rattle.text.specs.Print.{shown, added, decimal}
 use Rattle.text.specs.PrintLaws.{added-none}
@@ -23,10 +25,10 @@ use Rattle.report.specs.Report.{Standing, standing, Turn, printing, idle
 
 -- the run with its output up to `at`, and the same run ended
 abbrev pub printedTo : Run → ℕ → Run
-printedTo run at = record { pages = run .pages; slots = run .slots; at = at; held = run .held; over = run .over }
+printedTo run at = record { sizes = run .sizes; at = at; held = run .held; over = run .over }
 
 abbrev pub endedAt : Run → ℕ → Run
-endedAt run at = record { pages = run .pages; slots = run .slots; at = at; held = run .held; over = true }
+endedAt run at = record { sizes = run .sizes; at = at; held = run .held; over = true }
 
 -- a run that printed and is else as it was; and one that printed and ended
 pub printed : (run s : Run) (at : ℕ) (out text : List ℕ) → s ≡ printedTo run at → shown out at ≡ text → ((memory : Volume) → standing s memory ≡ standing run memory) × ((shown out (s .at) ≡ text) × (s .held ≡ run .held))
@@ -60,9 +62,9 @@ abbrev pub Said-text : (run s : Run) (out out₁ text : List ℕ) → Type 0
 Said-text run s out out₁ text = ((memory : Volume) → standing s memory ≡ standing run memory) × ((shown out₁ (s .at) ≡ added out (run .at) text) × (s .held ≡ run .held))
 
 -- A run that said the answer of a format and goes on with the sizes by it.
-abbrev pub Said-format : (run s : Run) (out out₁ : List ℕ) (P S answer : ℕ) → Type 0
-Said-format run s out out₁ P S answer =
-    ((memory : Volume) → standing s memory ≡ formatted (standing run memory) P S answer .leaves)
+abbrev pub Said-format : (run s : Run) (out out₁ : List ℕ) (sizes : Sizes) (answer : ℕ) → Type 0
+Said-format run s out out₁ sizes answer =
+    ((memory : Volume) → standing s memory ≡ formatted (standing run memory) sizes answer .leaves)
     × ((shown out₁ (s .at) ≡ added out (run .at) (answerText answer)) × (s .held ≡ run .held))
 
 module _ (run s : Run) (m : Volume) (out out₁ : List ℕ) where
@@ -71,39 +73,39 @@ module _ (run s : Run) (m : Volume) (out out₁ : List ℕ) where
   unfolding printing
   went-text text h = (h .0 m, h .1)
 
-  pub went-format : (P S answer : ℕ) → Said-format run s out out₁ P S answer → Went run s m out out₁ (formatted (standing run m) P S answer)
+  pub went-format : (sizes : Sizes) (answer : ℕ) → Said-format run s out out₁ sizes answer → Went run s m out out₁ (formatted (standing run m) sizes answer)
   unfolding formatted
-  went-format P S answer h = (h .0 m, h .1)
+  went-format sizes answer h = (h .0 m, h .1)
 
 -- A format's answer: refused, the sizes stay; accepted, they are its own.
-module _ (run s : Run) (out out₁ : List ℕ) (P S answer a : ℕ) (ea : a ≡ answer) (h : Said-text run s out out₁ (answerText answer)) where
-  pub format-refused : ¬ (a ≡ 0) → Said-format run s out out₁ P S answer
+module _ (run s : Run) (out out₁ : List ℕ) (sizes : Sizes) (answer a : ℕ) (ea : a ≡ answer) (h : Said-text run s out out₁ (answerText answer)) where
+  pub format-refused : ¬ (a ≡ 0) → Said-format run s out out₁ sizes answer
   unfolding formatted standing
   format-refused d =
       let q : eqb answer 0 ≡ false = ne-eqb _ _ (λ (z : answer ≡ 0). d (ea ∙ z)) in
       rw q h
 
-  pub format-accepted : (t : Run) → t ≡ record { pages = P; slots = S; at = s .at; held = s .held; over = s .over } → a ≡ 0 → Said-format run t out out₁ P S answer
+  pub format-accepted : (t : Run) → t ≡ record { sizes = sizes; at = s .at; held = s .held; over = s .over } → a ≡ 0 → Said-format run t out out₁ sizes answer
   unfolding formatted standing
   format-accepted t k z =
       let q : eqb answer 0 ≡ true = eq-eqb _ _ (sym ea ∙ z) in
-      rw (q, k) ((λ (memory : Volume). ap (λ (x : Standing). record { pages = P; slots = S; memory = memory; over = x .over }) (h .0 memory)), h .1)
+      rw (q, k) ((λ (memory : Volume). ap (λ (x : Standing). record { sizes = sizes; memory = memory; over = x .over }) (h .0 memory)), h .1)
 
 -- a line of which its answer alone is said
-only-answer : (w : ℕ) (s : Standing) (line : Line) (list : List ℕ) (answer second : ℕ) → OneOf (1 ∷ 3 ∷ 4 ∷ 5 ∷ 6 ∷ []) (tagOf the-type line) → told w s (said line list) answer second ≡ printing s (answerText answer)
+only-answer : (widths : Widths) (s : Standing) (line : Line) (list : List ℕ) (answer second : ℕ) → OneOf (1 ∷ 3 ∷ 4 ∷ 5 ∷ 6 ∷ []) (tagOf the-type line) → told widths s (said line list) answer second ≡ printing s (answerText answer)
 unfolding told said
-only-answer w s (lines.Format pages slots) list answer second k = absurd (miss (1 ∷ 3 ∷ 4 ∷ 5 ∷ 6 ∷ []) 0 tt k)
-only-answer w s (lines.Launch count) list answer second k = refl
-only-answer w s (lines.Write page slot fill) list answer second k = absurd (miss (1 ∷ 3 ∷ 4 ∷ 5 ∷ 6 ∷ []) 2 tt k)
-only-answer w s (lines.Withdraw page) list answer second k = refl
-only-answer w s (lines.Erase count) list answer second k = refl
-only-answer w s lines.Recover list answer second k = refl
-only-answer w s lines.Cut list answer second k = refl
-only-answer w s lines.List list answer second k = absurd (miss (1 ∷ 3 ∷ 4 ∷ 5 ∷ 6 ∷ []) 7 tt k)
-only-answer w s lines.Malformed list answer second k = absurd (miss (1 ∷ 3 ∷ 4 ∷ 5 ∷ 6 ∷ []) 8 tt k)
+only-answer widths s (lines.Format sizes) list answer second k = absurd (miss (1 ∷ 3 ∷ 4 ∷ 5 ∷ 6 ∷ []) 0 tt k)
+only-answer widths s (lines.Launch count) list answer second k = refl
+only-answer widths s (lines.Write page slot fill) list answer second k = absurd (miss (1 ∷ 3 ∷ 4 ∷ 5 ∷ 6 ∷ []) 2 tt k)
+only-answer widths s (lines.Withdraw page) list answer second k = refl
+only-answer widths s (lines.Erase count) list answer second k = refl
+only-answer widths s lines.Recover list answer second k = refl
+only-answer widths s lines.Cut list answer second k = refl
+only-answer widths s lines.List list answer second k = absurd (miss (1 ∷ 3 ∷ 4 ∷ 5 ∷ 6 ∷ []) 7 tt k)
+only-answer widths s lines.Malformed list answer second k = absurd (miss (1 ∷ 3 ∷ 4 ∷ 5 ∷ 6 ∷ []) 8 tt k)
 
 pub answer-told :
-    (w : ℕ) (run s : Run) (m : Volume) (out out₁ : List ℕ) (line : Line) (answer second : ℕ) → OneOf (1 ∷ 3 ∷ 4 ∷ 5 ∷ 6 ∷ []) (tagOf the-type line)
-    → Said-text run s out out₁ (answerText answer) → (list : List ℕ) → Went run s m out out₁ (told w (standing run m) (said line list) answer second)
+    (widths : Widths) (run s : Run) (m : Volume) (out out₁ : List ℕ) (line : Line) (answer second : ℕ) → OneOf (1 ∷ 3 ∷ 4 ∷ 5 ∷ 6 ∷ []) (tagOf the-type line)
+    → Said-text run s out out₁ (answerText answer) → (list : List ℕ) → Went run s m out out₁ (told widths (standing run m) (said line list) answer second)
 unfolding printing
-answer-told w run s m out out₁ line answer second k h list = rw (only-answer w (standing run m) line list answer second k) (h .0 m, h .1)
+answer-told widths run s m out out₁ line answer second k h list = rw (only-answer widths (standing run m) line list answer second k) (h .0 m, h .1)

@@ -3,8 +3,7 @@ ghost use Prim.Native.Nat.{ℕ, _^_, _/_, _%_};
 ghost use mathlib.Core.Path.{_≡_};
 ghost use mathlib.Core.List.{List};
 ghost use mathlib.Core.Bool.{true};
-ghost use Rattle.bounded.specs.Limits.{width};
-ghost use Rattle.sizes.specs.Sizes.{sizesOf};
+ghost use Rattle.bounded.specs.Limits.{twoWidths};
 ghost use Rattle.text.specs.Print.{shown, added};
 ghost use Rattle.line.specs.Line.{said};
 ghost use Rattle.rules.specs.Volume.{Volume, volume};
@@ -14,11 +13,10 @@ use line::Line;
 use sizes::Sizes;
 use text::print;
 
-// Where a run stands: the volume's sizes, both 0 before a format has answered 0; the place in the buffer for output; the bytes
+// Where a run stands: the volume's sizes, all 0 before a format has answered 0; the place in the buffer for output; the bytes
 // held of a line that has not ended; and whether the run has ended.
 pub struct Run {
-    pub pages: u32,
-    pub slots: u32,
+    pub sizes: Sizes,
     pub at: usize,
     pub held: usize,
     pub over: bool,
@@ -29,9 +27,13 @@ impl Run {
     pub fn start() -> Run
         ensures { λ r. ⌜ r ≡ startRun ⌝ }
     {
-        Run {
+        let sizes = Sizes {
             pages: 0,
             slots: 0,
+            width: 0,
+        };
+        Run {
+            sizes,
             at: 0,
             held: 0,
             over: false,
@@ -40,11 +42,11 @@ impl Run {
 
     // The run with its output up to `at`.
     pub fn printed(self, at: usize) -> Run
-        ensures { λ r. ⌜ r ≡ record { pages = self .pages; slots = self .slots; at = at; held = self .held; over = self .over } ⌝ }
+        ensures { λ r. ⌜ r ≡ record { sizes = self .sizes; at = at; held = self .held; over = self .over } ⌝ }
     {
+        let sizes = self.sizes;
         Run {
-            pages: self.pages,
-            slots: self.slots,
+            sizes,
             at,
             held: self.held,
             over: self.over,
@@ -53,11 +55,11 @@ impl Run {
 
     // The run ended, with its output up to `at`.
     pub fn ended(self, at: usize) -> Run
-        ensures { λ r. ⌜ r ≡ record { pages = self .pages; slots = self .slots; at = at; held = self .held; over = true } ⌝ }
+        ensures { λ r. ⌜ r ≡ record { sizes = self .sizes; at = at; held = self .held; over = true } ⌝ }
     {
+        let sizes = self.sizes;
         Run {
-            pages: self.pages,
-            slots: self.slots,
+            sizes,
             at,
             held: self.held,
             over: true,
@@ -66,11 +68,11 @@ impl Run {
 
     // The run with so many bytes of a line held.
     pub fn holding(self, held: usize) -> Run
-        ensures { λ r. ⌜ r ≡ record { pages = self .pages; slots = self .slots; at = self .at; held = held; over = self .over } ⌝ }
+        ensures { λ r. ⌜ r ≡ record { sizes = self .sizes; at = self .at; held = held; over = self .over } ⌝ }
     {
+        let sizes = self.sizes;
         Run {
-            pages: self.pages,
-            slots: self.slots,
+            sizes,
             at: self.at,
             held,
             over: self.over,
@@ -78,12 +80,11 @@ impl Run {
     }
 
     // The run on a volume of these sizes.
-    pub fn on(self, pages: u32, slots: u32) -> Run
-        ensures { λ r. ⌜ r ≡ record { pages = pages; slots = slots; at = self .at; held = self .held; over = self .over } ⌝ }
+    pub fn on(self, sizes: Sizes) -> Run
+        ensures { λ r. ⌜ r ≡ record { sizes = sizes; at = self .at; held = self .held; over = self .over } ⌝ }
     {
         Run {
-            pages,
-            slots,
+            sizes,
             at: self.at,
             held: self.held,
             over: self.over,
@@ -110,8 +111,8 @@ fn refuse(run: Run, out: &mut [u8]) -> Run
 }
 
 // A format's answer. "A refused later format leaves the volume as it was": the run goes on with the sizes of one that is accepted.
-fn say_format(run: Run, pages: u32, slots: u32, out: &mut [u8], r: u64) -> Run
-    ensures stands { λ s. ⌜ ((memory : Volume) → standing s memory ≡ formatted (standing run memory) pages slots (r % 2 ^ 32) .leaves) ⌝ }
+fn say_format(run: Run, sizes: Sizes, out: &mut [u8], r: u64) -> Run
+    ensures stands { λ s. ⌜ ((memory : Volume) → standing s memory ≡ formatted (standing run memory) sizes (r % 2 ^ 32) .leaves) ⌝ }
     ensures prints { λ s. ⌜ shown (now (out .exit)) (s .at) ≡ added (now (out .entry)) (run .at) (answerText (r % 2 ^ 32)) ⌝ }
     ensures holds { λ s. ⌜ s .held ≡ run .held ⌝ }
 {
@@ -119,7 +120,7 @@ fn say_format(run: Run, pages: u32, slots: u32, out: &mut [u8], r: u64) -> Run
     if outcome::answer_of(r) != 0 {
         return next;
     }
-    next.on(pages, slots)
+    next.on(sizes)
 }
 
 // A write's answer, "with its done after it".
@@ -137,14 +138,10 @@ fn say_done(run: Run, out: &mut [u8], r: u64) -> Run
 fn say_list(run: Run, words: &[u32], contents: &[u8], state: &[u32], out: &mut [u8]) -> Run
     ensures stands { λ s. ⌜ ((memory : Volume) → standing s memory ≡ standing run memory) ⌝ }
     ensures prints { λ s. ⌜ shown (now (out .exit)) (s .at) ≡ added (now (out .entry)) (run .at)
-        (listText width (sizesOf (run .pages) (run .slots)) (volume (now (words .entry)) (now (contents .entry)) (now (state .entry)))) ⌝ }
+        (listText twoWidths (run .sizes) (volume (now (words .entry)) (now (contents .entry)) (now (state .entry)))) ⌝ }
     ensures holds { λ s. ⌜ s .held ≡ run .held ⌝ }
 {
-    let sizes = Sizes {
-        pages: run.pages,
-        slots: run.slots,
-    };
-    run.printed(listing::list(sizes, words, contents, state, out, run.at))
+    run.printed(listing::list(run.sizes, words, contents, state, out, run.at))
 }
 
 // What is said of a line whose call left this volume and gave back `r`.
@@ -158,13 +155,13 @@ pub fn tell(
     r: u64,
 ) -> Run
     ensures stands { λ s. ⌜ ((list : List ℕ) → standing s (volume (now (words .entry)) (now (contents .entry)) (now (state .entry)))
-        ≡ told width (standing run (volume (now (words .entry)) (now (contents .entry)) (now (state .entry)))) (said line list) (r % 2 ^ 32) (r / 2 ^ 32) .leaves) ⌝ }
+        ≡ told twoWidths (standing run (volume (now (words .entry)) (now (contents .entry)) (now (state .entry)))) (said line list) (r % 2 ^ 32) (r / 2 ^ 32) .leaves) ⌝ }
     ensures prints { λ s. ⌜ ((list : List ℕ) → shown (now (out .exit)) (s .at) ≡ added (now (out .entry)) (run .at)
-        (told width (standing run (volume (now (words .entry)) (now (contents .entry)) (now (state .entry)))) (said line list) (r % 2 ^ 32) (r / 2 ^ 32) .prints)) ⌝ }
+        (told twoWidths (standing run (volume (now (words .entry)) (now (contents .entry)) (now (state .entry)))) (said line list) (r % 2 ^ 32) (r / 2 ^ 32) .prints)) ⌝ }
     ensures holds { λ s. ⌜ s .held ≡ run .held ⌝ }
 {
     match line {
-        Line::Format { pages, slots } => say_format(run, pages, slots, out, r),
+        Line::Format { sizes } => say_format(run, sizes, out, r),
         Line::Write {
             page: _,
             slot: _,

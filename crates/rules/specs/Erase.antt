@@ -2,6 +2,7 @@
 use Prim.Native.Nat.{ℕ}
 use mathlib.Core.List.{List, map}
 use mathlib.Core.Bool.{not}
+use Rattle.bounded.specs.Limits.{Widths}
 use Rattle.outcome.specs.Outcome.{_⇒_otherwise_, Outcome, settled}
 use Rattle.sizes.specs.declared.Sizes.{Sizes}
 use Rattle.sizes.specs.Sizes.{listOk}
@@ -12,9 +13,9 @@ use Rattle.table.specs.Table.{tableSound}
 use Rattle.rules.specs.Volume.{Volume, volumeFits}
 use Rattle.rules.specs.Permission.{mayEraseAll}
 
-unfoldable pub eraseAnswer : (w : ℕ) (sizes : Sizes) → Volume → (slots : List ℕ) → ℕ
-eraseAnswer w sizes v slots =
-    not (volumeFits w sizes v) ⇒ 1 otherwise
+unfoldable pub eraseAnswer : Widths → Sizes → Volume → (slots : List ℕ) → ℕ
+eraseAnswer widths sizes v slots =
+    not (volumeFits widths sizes v) ⇒ 1 otherwise
     not (tableSound (sizes .pages) (sizes .slots) (slotAt (v .flash .words))) ⇒ 2 otherwise
     not (stateSound (sizes .pages) (stateAt (v .state))) ⇒ 5 otherwise
     not (listOk (sizes .slots) slots) ⇒ 6 otherwise
@@ -26,5 +27,5 @@ unfoldable pub eraseSteps : List ℕ → List Step
 eraseSteps slots = map Step.Blank slots
 
 -- It alters the flash alone.
-unfoldable pub eraseOutcome : (w : ℕ) (sizes : Sizes) → Volume → (slots : List ℕ) → Outcome Flash
-eraseOutcome w sizes v slots = settled (eraseAnswer w sizes v slots) 0 0 (v .flash) (applyAll w (v .flash) (eraseSteps slots))
+unfoldable pub eraseOutcome : Widths → Sizes → Volume → (slots : List ℕ) → Outcome Flash
+eraseOutcome widths sizes v slots = settled (eraseAnswer widths sizes v slots) 0 0 (v .flash) (applyAll (sizes .width) (v .flash) (eraseSteps slots))

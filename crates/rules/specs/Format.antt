@@ -4,6 +4,7 @@ use mathlib.Core.List.{List}
 use mathlib.Core.Bool.{cond, not}
 use lib.Dec.{ltb}
 use lib.ListN.{replicate}
+use Rattle.bounded.specs.Limits.{Widths}
 use Rattle.bounded.specs.Parts.{joinParts}
 use Rattle.outcome.specs.Outcome.{_⇒_otherwise_, Outcome, settled}
 use Rattle.sizes.specs.declared.Sizes.{Sizes}
@@ -16,16 +17,16 @@ use Rattle.rules.specs.Volume.{Volume, volumeFits}
 unfoldable pub formattedWords : Sizes → List ℕ
 formattedWords sizes = joinParts (sizes .slots) (λ k. wordsOf (cond (ltb k (sizes .pages)) (formattedRecord k) blankRecord))
 
--- "… with 32 zero bytes; all other slots are … with bytes 255"
-unfoldable pub formattedContents : (w : ℕ) (sizes : Sizes) → List ℕ
-formattedContents w sizes = joinParts (sizes .slots) (λ k. replicate w (cond (ltb k (sizes .pages)) 0 255))
+-- "… with 32 zero bytes; all other slots are … with bytes 255", as many as the width says
+unfoldable pub formattedContents : Sizes → List ℕ
+formattedContents sizes = joinParts (sizes .slots) (λ k. replicate (sizes .width) (cond (ltb k (sizes .pages)) 0 255))
 
 -- "the sheet says 0, 0, not in flight, 0 for each page"
-unfoldable pub formatted : (w : ℕ) (sizes : Sizes) → Volume
-formatted w sizes = record { flash = record { words = formattedWords sizes; contents = formattedContents w sizes }; state = stateWords (sizes .pages) freshState }
+unfoldable pub formatted : Sizes → Volume
+formatted sizes = record { flash = record { words = formattedWords sizes; contents = formattedContents sizes }; state = stateWords (sizes .pages) freshState }
 
-unfoldable pub formatAnswer : (w : ℕ) (sizes : Sizes) → Volume → ℕ
-formatAnswer w sizes v = not (volumeFits w sizes v) ⇒ 1 otherwise 0
+unfoldable pub formatAnswer : Widths → Sizes → Volume → ℕ
+formatAnswer widths sizes v = not (volumeFits widths sizes v) ⇒ 1 otherwise 0
 
-unfoldable pub formatOutcome : (w : ℕ) (sizes : Sizes) → Volume → Outcome Volume
-formatOutcome w sizes v = settled (formatAnswer w sizes v) 0 0 v (formatted w sizes)
+unfoldable pub formatOutcome : Widths → Sizes → Volume → Outcome Volume
+formatOutcome widths sizes v = settled (formatAnswer widths sizes v) 0 0 v (formatted sizes)

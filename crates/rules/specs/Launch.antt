@@ -4,7 +4,7 @@ use mathlib.Core.List.{List}
 use mathlib.Core.Bool.{Bool, not, _&&_}
 use lib.Dec.{eqb}
 use lib.ListN.{length, getD}
-use Rattle.bounded.specs.Limits.{highestVersion}
+use Rattle.bounded.specs.Limits.{highestVersion, Widths}
 use Rattle.bounded.specs.Below.{someBelow}
 use Rattle.outcome.specs.Outcome.{_⇒_otherwise_, Outcome, settled}
 use Rattle.sizes.specs.declared.Sizes.{Sizes}
@@ -21,9 +21,9 @@ somePage pages st f = someBelow (length pages) (λ i. f (st (getD pages i 0)))
 unfoldable pub usedUp : PageState → Bool
 usedUp s = eqb (s .used) highestVersion
 
-unfoldable pub launchAnswer : (sizes : Sizes) (state pages : List ℕ) → ℕ
-launchAnswer sizes state pages =
-    not (sizesOk sizes && stateFits (sizes .pages) state) ⇒ 1 otherwise
+unfoldable pub launchAnswer : Widths → Sizes → (state pages : List ℕ) → ℕ
+launchAnswer widths sizes state pages =
+    not (sizesOk widths sizes && stateFits (sizes .pages) state) ⇒ 1 otherwise
     not (stateSound (sizes .pages) (stateAt state)) ⇒ 5 otherwise
     not (listOk (sizes .pages) pages) ⇒ 6 otherwise
     somePage pages (stateAt state) inFlight ⇒ 7 otherwise
@@ -31,5 +31,5 @@ launchAnswer sizes state pages =
     0
 
 -- "Flash is untouched." It alters the state alone.
-unfoldable pub launchOutcome : (sizes : Sizes) (state pages : List ℕ) → Outcome (List ℕ)
-launchOutcome sizes state pages = settled (launchAnswer sizes state pages) 0 0 state (stateWords (sizes .pages) (launched pages (stateAt state)))
+unfoldable pub launchOutcome : Widths → Sizes → (state pages : List ℕ) → Outcome (List ℕ)
+launchOutcome widths sizes state pages = settled (launchAnswer widths sizes state pages) 0 0 state (stateWords (sizes .pages) (launched pages (stateAt state)))

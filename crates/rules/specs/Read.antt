@@ -4,6 +4,7 @@ use mathlib.Core.List.{List}
 use mathlib.Core.Bool.{not, _&&_}
 use lib.Dec.{ltb, eqb}
 use lib.ListN.{length}
+use Rattle.bounded.specs.Limits.{Widths}
 use Rattle.outcome.specs.Outcome.{_⇒_otherwise_, Outcome, settled}
 use Rattle.sizes.specs.declared.Sizes.{Sizes}
 use Rattle.record.specs.Slot.{slotAt, bytesAt}
@@ -15,15 +16,15 @@ use Rattle.rules.specs.Volume.{Volume, volumeFits}
 unfoldable pub readSlot : ℕ → Volume → ℕ → ℕ
 readSlot S v page = lowestSlot S (slotAt (v .flash .words)) page (stateAt (v .state) page .committed)
 
-unfoldable pub readAnswer : (w : ℕ) (sizes : Sizes) → Volume → (page : ℕ) (out : List ℕ) → ℕ
-readAnswer w sizes v page out =
-    not (volumeFits w sizes v && eqb (length out) w) ⇒ 1 otherwise
+unfoldable pub readAnswer : Widths → Sizes → Volume → (page : ℕ) (out : List ℕ) → ℕ
+readAnswer widths sizes v page out =
+    not (volumeFits widths sizes v && eqb (length out) (sizes .width)) ⇒ 1 otherwise
     not (tableSound (sizes .pages) (sizes .slots) (slotAt (v .flash .words))) ⇒ 2 otherwise
     not (stateSound (sizes .pages) (stateAt (v .state))) ⇒ 5 otherwise
     not (ltb page (sizes .pages)) ⇒ 6 otherwise
     not (hasVersion (sizes .slots) (slotAt (v .flash .words)) page (stateAt (v .state) page .committed)) ⇒ 14 otherwise
     0
 
--- "copies to a lent 32-byte slice the bytes of" that slot; it alters nothing but `out`
-unfoldable pub readOutcome : (w : ℕ) (sizes : Sizes) → Volume → (page : ℕ) (out : List ℕ) → Outcome (List ℕ)
-readOutcome w sizes v page out = settled (readAnswer w sizes v page out) 0 0 out (bytesAt w (v .flash .contents) (readSlot (sizes .slots) v page))
+-- "copies to a lent 32-byte slice the bytes of" that slot, or to one as long as the width says; it alters nothing but `out`
+unfoldable pub readOutcome : Widths → Sizes → Volume → (page : ℕ) (out : List ℕ) → Outcome (List ℕ)
+readOutcome widths sizes v page out = settled (readAnswer widths sizes v page out) 0 0 out (bytesAt (sizes .width) (v .flash .contents) (readSlot (sizes .slots) v page))

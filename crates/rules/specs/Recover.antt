@@ -2,6 +2,7 @@
 use Prim.Native.Nat.{ℕ}
 use mathlib.Core.List.{List}
 use mathlib.Core.Bool.{not, _&&_, _||_}
+use Rattle.bounded.specs.Limits.{Widths}
 use Rattle.bounded.specs.Below.{allBelow, someBelow}
 use Rattle.outcome.specs.Outcome.{_⇒_otherwise_, Outcome, settled}
 use Rattle.sizes.specs.declared.Sizes.{Sizes}
@@ -43,9 +44,9 @@ unfolding atRest
 recovered P S t p = atRest (committedOf P S t p) (usedOf S t p)
 
 -- Recovery reads only the slot table: of the state it sees the length, and the old state "may hold anything".
-unfoldable pub recoverAnswer : (sizes : Sizes) (words state : List ℕ) → ℕ
-recoverAnswer sizes words state =
-    not (sizesOk sizes && (wordsFit (sizes .slots) words && stateFits (sizes .pages) state)) ⇒ 1 otherwise
+unfoldable pub recoverAnswer : Widths → Sizes → (words state : List ℕ) → ℕ
+recoverAnswer widths sizes words state =
+    not (sizesOk widths sizes && (wordsFit (sizes .slots) words && stateFits (sizes .pages) state)) ⇒ 1 otherwise
     not (tableSound (sizes .pages) (sizes .slots) (slotAt words)) ⇒ 2 otherwise
     (someClash (sizes .slots) (slotAt words) || not (allBelow (sizes .pages) (hasRecord (sizes .slots) (slotAt words)))) ⇒ 3 otherwise
     someBelow (sizes .pages) (λ p. isAstray (walkOf (sizes .pages) (sizes .slots) (slotAt words) p .end)) ⇒ 4 otherwise
@@ -53,5 +54,5 @@ recoverAnswer sizes words state =
     0
 
 -- "Recover: fills the sheet from the slot table". It alters the state alone.
-unfoldable pub recoverOutcome : (sizes : Sizes) (words state : List ℕ) → Outcome (List ℕ)
-recoverOutcome sizes words state = settled (recoverAnswer sizes words state) 0 0 state (stateWords (sizes .pages) (recovered (sizes .pages) (sizes .slots) (slotAt words)))
+unfoldable pub recoverOutcome : Widths → Sizes → (words state : List ℕ) → Outcome (List ℕ)
+recoverOutcome widths sizes words state = settled (recoverAnswer widths sizes words state) 0 0 state (stateWords (sizes .pages) (recovered (sizes .pages) (sizes .slots) (slotAt words)))

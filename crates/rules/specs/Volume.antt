@@ -2,6 +2,7 @@
 use Prim.Native.Nat.{ℕ}
 use mathlib.Core.List.{List}
 use mathlib.Core.Bool.{Bool, _&&_}
+use Rattle.bounded.specs.Limits.{Widths}
 use Rattle.sizes.specs.declared.Sizes.{Sizes}
 use Rattle.sizes.specs.Sizes.{sizesOk, wordsFit, contentsFit, stateFits}
 use Rattle.record.specs.Flash.{Flash}
@@ -15,6 +16,10 @@ pub record Volume : Type 0 where
 abbrev pub volume : (words contents state : List ℕ) → Volume
 volume words contents state = record { flash = record { words = words; contents = contents }; state = state }
 
--- P, S and the lengths of a volume's buffers are right
-unfoldable pub volumeFits : (w : ℕ) (sizes : Sizes) → Volume → Bool
-volumeFits w sizes v = sizesOk sizes && (wordsFit (sizes .slots) (v .flash .words) && (contentsFit w (sizes .slots) (v .flash .contents) && stateFits (sizes .pages) (v .state)))
+-- P, S, the width and the lengths of a volume's buffers are right
+unfoldable pub volumeFits : Widths → Sizes → Volume → Bool
+volumeFits widths sizes v =
+    sizesOk widths sizes
+    && (wordsFit (sizes .slots) (v .flash .words)
+    && (contentsFit (sizes .width) (sizes .slots) (v .flash .contents)
+    && stateFits (sizes .pages) (v .state)))

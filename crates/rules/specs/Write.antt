@@ -4,6 +4,7 @@ use mathlib.Core.List.{List}
 use mathlib.Core.Bool.{cond, not, _&&_}
 use lib.Dec.{ltb, eqb}
 use lib.ListN.{length}
+use Rattle.bounded.specs.Limits.{Widths}
 use Rattle.outcome.specs.Outcome.{_⇒_otherwise_, Outcome, settled}
 use Rattle.sizes.specs.declared.Sizes.{Sizes}
 use Rattle.record.specs.declared.Record.{Record}
@@ -20,9 +21,9 @@ unfoldable pub planOf : (ℕ → PageState) → ℕ → Record
 unfolding plannedRecord
 planOf st p = plannedRecord p (st p .used) (st p .committed) (st p .next) (st (st p .next) .used)
 
-unfoldable pub writeAnswer : (w : ℕ) (sizes : Sizes) → Volume → (page slot : ℕ) (bytes : List ℕ) → ℕ
-writeAnswer w sizes v page slot bytes =
-    not (volumeFits w sizes v && eqb (length bytes) w) ⇒ 1 otherwise
+unfoldable pub writeAnswer : Widths → Sizes → Volume → (page slot : ℕ) (bytes : List ℕ) → ℕ
+writeAnswer widths sizes v page slot bytes =
+    not (volumeFits widths sizes v && eqb (length bytes) (sizes .width)) ⇒ 1 otherwise
     not (tableSound (sizes .pages) (sizes .slots) (slotAt (v .flash .words))) ⇒ 2 otherwise
     not (stateSound (sizes .pages) (stateAt (v .state))) ⇒ 5 otherwise
     not (ltb page (sizes .pages) && ltb slot (sizes .slots)) ⇒ 6 otherwise
@@ -31,7 +32,7 @@ writeAnswer w sizes v page slot bytes =
     not (isBlank (slotAt (v .flash .words) slot)) ⇒ 11 otherwise
     0
 
--- "A write changes only the five words and 32 bytes of its slot in flash": one step.
+-- "A write changes only the five words and 32 bytes of its slot in flash", or as many bytes as the width says: one step.
 unfoldable pub writeStep : (ℕ → PageState) → (page slot : ℕ) (bytes : List ℕ) → Step
 writeStep st page slot bytes = Step.Store slot (planOf st page) bytes
 
@@ -39,14 +40,14 @@ writeStep st page slot bytes = Step.Store slot (planOf st page) bytes
 unfoldable pub writeDone : ℕ → (ℕ → PageState) → ℕ → ℕ
 writeDone P st page = cond (completes P st page) 1 0
 
-unfoldable pub writeChange : (w P : ℕ) → Volume → (page slot : ℕ) (bytes : List ℕ) → Volume
-writeChange w P v page slot bytes =
+unfoldable pub writeChange : Sizes → Volume → (page slot : ℕ) (bytes : List ℕ) → Volume
+writeChange sizes v page slot bytes =
     record {
-      flash = apply w (v .flash) (writeStep (stateAt (v .state)) page slot bytes);
-      state = stateWords P (afterWrite P (stateAt (v .state)) page);
+      flash = apply (sizes .width) (v .flash) (writeStep (stateAt (v .state)) page slot bytes);
+      state = stateWords (sizes .pages) (afterWrite (sizes .pages) (stateAt (v .state)) page);
     }
 
 -- Refused, "done … 0".
-unfoldable pub writeOutcome : (w : ℕ) (sizes : Sizes) → Volume → (page slot : ℕ) (bytes : List ℕ) → Outcome Volume
-writeOutcome w sizes v page slot bytes =
-    settled (writeAnswer w sizes v page slot bytes) 0 (writeDone (sizes .pages) (stateAt (v .state)) page) v (writeChange w (sizes .pages) v page slot bytes)
+unfoldable pub writeOutcome : Widths → Sizes → Volume → (page slot : ℕ) (bytes : List ℕ) → Outcome Volume
+writeOutcome widths sizes v page slot bytes =
+    settled (writeAnswer widths sizes v page slot bytes) 0 (writeDone (sizes .pages) (stateAt (v .state)) page) v (writeChange sizes v page slot bytes)

@@ -1,4 +1,4 @@
--- Document 01's cases, computed from the definitions.
+-- Document 01's cases and some of document 02's requests, computed from the definitions.
 pub mod Computing
 pub mod Bounds
 pub mod Launch
@@ -8,3 +8,4 @@ pub mod Found
 pub mod Suggest
 pub mod Recover
 pub mod Star
+pub mod Width

@@ -1,5 +1,6 @@
 pub mod Memory
 pub mod MemoryLaws
+pub mod Enough
 pub mod Script
 pub mod StepLaws
 pub mod Room

@@ -8,11 +8,11 @@ use lib.Dec.{ltb, eqb}
 use lib.ListN.{length, take, length-append, length-take}
 use lib.Seq.{take-all}
 use borrow.Author.Tests.{eq-eqb, ne-eqb}
+use Rattle.bounded.specs.Limits.{Widths}
 use Rattle.bounded.specs.Choice.{on-eq}
 use Rattle.bounded.specs.Parts.{joinFrom, joinParts}
 use Rattle.outcome.specs.Outcome.{Outcome}
 use Rattle.outcome.specs.OutcomeLaws.{held, settled-answer}
-use Rattle.sizes.specs.Sizes.{sizesOf}
 use Rattle.sizes.specs.declared.Sizes.{Sizes}
 use Rattle.text.specs.Scan.{bytes}
 use Rattle.text.specs.Print.{shown, added, decimalIn, decimal}
@@ -91,14 +91,14 @@ join-room most (suc n) i f h =
     let z : most * suc n ≡ most + most * n = omega arith in
     omega arith
 
-list-room : (w : ℕ) (sizes : Sizes) (v : Volume) → sizes .pages ≤ 256 → length (listText w sizes v) ≤ mostPrinted
+list-room : (widths : Widths) (sizes : Sizes) (v : Volume) → sizes .pages ≤ 256 → length (listText widths sizes v) ≤ mostPrinted
 unfolding listText joinParts pageText
-list-room w sizes v h =
-    let j = join-room 80 (sizes .pages) 0 (pageText w sizes v) (λ (k : ℕ). fields-room k _ _ _ _) in
+list-room widths sizes v h =
+    let j = join-room 80 (sizes .pages) 0 (pageText widths sizes v) (λ (k : ℕ). fields-room k _ _ _ _) in
     let a = answer-room 0 in
-    let r = answer-room (listAnswer w sizes v) in
-    let e = length-append (joinFrom (sizes .pages) 0 (pageText w sizes v)) (answerText 0) in
-    either-way (eqb (listAnswer w sizes v) 0) (λ (l : List ℕ). length l ≤ mostPrinted) (joinFrom (sizes .pages) 0 (pageText w sizes v) ++ answerText 0) (answerText (listAnswer w sizes v)) (omega arith) (omega arith)
+    let r = answer-room (listAnswer widths sizes v) in
+    let e = length-append (joinFrom (sizes .pages) 0 (pageText widths sizes v)) (answerText 0) in
+    either-way (eqb (listAnswer widths sizes v) 0) (λ (l : List ℕ). length l ≤ mostPrinted) (joinFrom (sizes .pages) 0 (pageText widths sizes v) ++ answerText 0) (answerText (listAnswer widths sizes v)) (omega arith) (omega arith)
 
 refused-room : (s : Standing) → length (refusedTurn s .prints) ≤ mostPrinted
 unfolding refusedTurn bytes
@@ -108,66 +108,66 @@ idle-room : (s : Standing) → length (idleTurn s .prints) ≤ mostPrinted
 unfolding idleTurn printing
 idle-room s = omega arith
 
-told-room : (w : ℕ) (s : Standing) (says : Said) (answer second : ℕ) → s .pages ≤ 256 → length (told w s says answer second .prints) ≤ mostPrinted
+told-room : (widths : Widths) (s : Standing) (says : Said) (answer second : ℕ) → s .sizes .pages ≤ 256 → length (told widths s says answer second .prints) ≤ mostPrinted
 unfolding told printing formatted
-told-room w s (Said.Format P S) answer second h = let k = answer-room answer in omega arith
-told-room w s (Said.Launch pages) answer second h = let k = answer-room answer in omega arith
-told-room w s (Said.Write page slot fill) answer second h = let k = done-room answer second in omega arith
-told-room w s (Said.Withdraw page) answer second h = let k = answer-room answer in omega arith
-told-room w s (Said.Erase slots) answer second h = let k = answer-room answer in omega arith
-told-room w s Said.Recover answer second h = let k = answer-room answer in omega arith
-told-room w s Said.Cut answer second h = let k = answer-room answer in omega arith
-told-room w s Said.Listing answer second h = list-room w (sizesOf (s .pages) (s .slots)) (s .memory) h
-told-room w s Said.Malformed answer second h = refused-room s
+told-room widths s (Said.Format z) answer second h = let k = answer-room answer in omega arith
+told-room widths s (Said.Launch pages) answer second h = let k = answer-room answer in omega arith
+told-room widths s (Said.Write page slot fill) answer second h = let k = done-room answer second in omega arith
+told-room widths s (Said.Withdraw page) answer second h = let k = answer-room answer in omega arith
+told-room widths s (Said.Erase slots) answer second h = let k = answer-room answer in omega arith
+told-room widths s Said.Recover answer second h = let k = answer-room answer in omega arith
+told-room widths s Said.Cut answer second h = let k = answer-room answer in omega arith
+told-room widths s Said.Listing answer second h = list-room widths (s .sizes) (s .memory) h
+told-room widths s Said.Malformed answer second h = refused-room s
 
-line-room : (w : ℕ) (s : Standing) (says : Said) → s .pages ≤ 256 → length (lineTurn w s says .prints) ≤ mostPrinted
+line-room : (widths : Widths) (s : Standing) (says : Said) → s .sizes .pages ≤ 256 → length (lineTurn widths s says .prints) ≤ mostPrinted
 unfolding lineTurn inFront volumeTurn withMemory
-line-room w s says h = told-room w _ says _ _ h
+line-room widths s says h = told-room widths _ says _ _ h
 
 -- A turn on a volume of at most 256 pages prints no more than that.
-pub turn-room : (w : ℕ) (s : Standing) (says : Said) → s .pages ≤ 256 → length (turn w s says .prints) ≤ mostPrinted
+pub turn-room : (widths : Widths) (s : Standing) (says : Said) → s .sizes .pages ≤ 256 → length (turn widths s says .prints) ≤ mostPrinted
 unfolding turn
-turn-room w s says h =
+turn-room widths s says h =
     let Q : Turn → Type 0 = λ t. length (t .prints) ≤ mostPrinted in
-    either-way (s .over) Q (idleTurn s) (cond (isEarly (s .pages) says) (refusedTurn s) (lineTurn w s says)) (idle-room s)
-    (either-way (isEarly (s .pages) says) Q (refusedTurn s) (lineTurn w s says) (refused-room s) (line-room w s says h))
+    either-way (s .over) Q (idleTurn s) (cond (isEarly (s .sizes .pages) says) (refusedTurn s) (lineTurn widths s says)) (idle-room s)
+    (either-way (isEarly (s .sizes .pages) says) Q (refusedTurn s) (lineTurn widths s says) (refused-room s) (line-room widths s says h))
 
 -- So nothing is left out where the buffer has so much room.
-pub all-shown : (w : ℕ) (s : Standing) (says : Said) (out : List ℕ) (at : ℕ) → s .pages ≤ 256 → at + mostPrinted ≤ length out → added out at (turn w s says .prints) ≡ shown out at ++ turn w s says .prints
+pub all-shown : (widths : Widths) (s : Standing) (says : Said) (out : List ℕ) (at : ℕ) → s .sizes .pages ≤ 256 → at + mostPrinted ≤ length out → added out at (turn widths s says .prints) ≡ shown out at ++ turn widths s says .prints
 unfolding added shown
-all-shown w s says out at h room =
-    let t = turn-room w s says h in
-    let e = length-append (take at out) (turn w s says .prints) in
+all-shown widths s says out at h room =
+    let t = turn-room widths s says h in
+    let e = length-append (take at out) (turn widths s says .prints) in
     let k = length-take at out in
-    take-all (length out) (take at out ++ turn w s says .prints) (omega arith)
+    take-all (length out) (take at out ++ turn widths s says .prints) (omega arith)
 
 -- A run never has a volume of more than 256 pages: only an accepted format gives it another.
-format-pages : (w : ℕ) (sizes : Sizes) (v : Volume) → formatOutcome w sizes v .answer ≡ 0 → sizes .pages ≤ 256
+format-pages : (widths : Widths) (sizes : Sizes) (v : Volume) → formatOutcome widths sizes v .answer ≡ 0 → sizes .pages ≤ 256
 unfolding formatOutcome formatAnswer
-format-pages w sizes v e =
-    let a = held (volumeFits w sizes v) _ _ (sym (settled-answer (formatAnswer w sizes v) 0 0 v (formattedVolume w sizes)) ∙ e) in
-    fits-facts w sizes v (a .0) .bounds .pages-most
+format-pages widths sizes v e =
+    let a = held (volumeFits widths sizes v) _ _ (sym (settled-answer (formatAnswer widths sizes v) 0 0 v (formattedVolume sizes)) ∙ e) in
+    fits-facts widths sizes v (a .0) .bounds .pages-most
 
-line-pages : (w : ℕ) (s : Standing) (says : Said) → s .pages ≤ 256 → lineTurn w s says .leaves .pages ≤ 256
+line-pages : (widths : Widths) (s : Standing) (says : Said) → s .sizes .pages ≤ 256 → lineTurn widths s says .leaves .sizes .pages ≤ 256
 unfolding lineTurn sizesFor onFormat inFront volumeTurn lineOutcome told printing formatted refusedTurn withMemory
-line-pages w s (Said.Format P S) h =
-    let v = inUse w (sizesOf P S) (s .memory) in
-    let o : Outcome Volume = formatOutcome w (sizesOf P S) v in
+line-pages widths s (Said.Format z) h =
+    let v = inUse z (s .memory) in
+    let o : Outcome Volume = formatOutcome widths z v in
     on-eq (o .answer) 0
-    (λ (e : o .answer ≡ 0). let q : eqb (o .answer) 0 ≡ true = eq-eqb _ _ e in rw q (format-pages w (sizesOf P S) v e))
+    (λ (e : o .answer ≡ 0). let q : eqb (o .answer) 0 ≡ true = eq-eqb _ _ e in rw q (format-pages widths z v e))
     (λ (d : ¬ (o .answer ≡ 0)). let q : eqb (o .answer) 0 ≡ false = ne-eqb _ _ d in rw q h)
-line-pages w s (Said.Launch pages) h = h
-line-pages w s (Said.Write page slot fill) h = h
-line-pages w s (Said.Withdraw page) h = h
-line-pages w s (Said.Erase slots) h = h
-line-pages w s Said.Recover h = h
-line-pages w s Said.Cut h = h
-line-pages w s Said.Listing h = h
-line-pages w s Said.Malformed h = h
+line-pages widths s (Said.Launch pages) h = h
+line-pages widths s (Said.Write page slot fill) h = h
+line-pages widths s (Said.Withdraw page) h = h
+line-pages widths s (Said.Erase slots) h = h
+line-pages widths s Said.Recover h = h
+line-pages widths s Said.Cut h = h
+line-pages widths s Said.Listing h = h
+line-pages widths s Said.Malformed h = h
 
-pub turn-pages : (w : ℕ) (s : Standing) (says : Said) → s .pages ≤ 256 → turn w s says .leaves .pages ≤ 256
+pub turn-pages : (widths : Widths) (s : Standing) (says : Said) → s .sizes .pages ≤ 256 → turn widths s says .leaves .sizes .pages ≤ 256
 unfolding turn idleTurn printing refusedTurn
-turn-pages w s says h =
-    let Q : Turn → Type 0 = λ t. t .leaves .pages ≤ 256 in
-    either-way (s .over) Q (idleTurn s) (cond (isEarly (s .pages) says) (refusedTurn s) (lineTurn w s says)) h
-    (either-way (isEarly (s .pages) says) Q (refusedTurn s) (lineTurn w s says) h (line-pages w s says h))
+turn-pages widths s says h =
+    let Q : Turn → Type 0 = λ t. t .leaves .sizes .pages ≤ 256 in
+    either-way (s .over) Q (idleTurn s) (cond (isEarly (s .sizes .pages) says) (refusedTurn s) (lineTurn widths s says)) h
+    (either-way (isEarly (s .sizes .pages) says) Q (refusedTurn s) (lineTurn widths s says) h (line-pages widths s says h))

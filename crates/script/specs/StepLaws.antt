@@ -10,9 +10,9 @@ use types.Run.{OneOf, miss}
 use denote.Enum.Declared.{tagOf}
 use borrow.Rule.Slice.PartMut.{putMid}
 use borrow.Author.Tests.{ne-eqb, eq-eqb}
+use Rattle.bounded.specs.Limits.{Widths}
 use Rattle.bounded.specs.Choice.{on-test}
 use Rattle.outcome.specs.Outcome.{returned}
-use Rattle.sizes.specs.Sizes.{sizesOf}
 use Rattle.sizes.specs.declared.Sizes.{Sizes}
 use Rattle.line.specs.declared.Line.{Line}
 use Rattle.line.specs.declared.Line.the-variants as lines
@@ -32,30 +32,30 @@ use Rattle.script.specs.Script.{volumeTurn, onFormat, sizesFor, inFront,
 module _ (run s : Run) (m : Volume) (out out₁ : List ℕ) where
   -- a line's call, and what is said of it
   pub went-volume :
-      (w : ℕ) (z : Sizes) (says : Said) (r : ℕ) (m₁ : Volume) → returned r m₁ ≡ lineOutcome w z m says
-      → Went run s m₁ out out₁ (told w (standing run m₁) says (r % 2 ^ 32) (r / 2 ^ 32)) → Went run s m₁ out out₁ (volumeTurn w z (standing run m) says)
+      (widths : Widths) (z : Sizes) (says : Said) (r : ℕ) (m₁ : Volume) → returned r m₁ ≡ lineOutcome widths z m says
+      → Went run s m₁ out out₁ (told widths (standing run m₁) says (r % 2 ^ 32) (r / 2 ^ 32)) → Went run s m₁ out out₁ (volumeTurn widths z (standing run m) says)
   unfolding volumeTurn withMemory standing
-  went-volume w z says r m₁ e h = rw (← e) h
+  went-volume widths z says r m₁ e h = rw (← e) h
 
   -- a turn on the volume in front of memory, lent and put back
   pub went-in-front :
-      (w : ℕ) (z : Sizes) (says : Said) (kw kb ks : ℕ) (words contents state : List ℕ)
-      → kw ≡ min (5 * z .slots) (length (m .flash .words)) → kb ≡ min (w * z .slots) (length (m .flash .contents)) → ks ≡ min (4 * z .pages) (length (m .state))
+      (widths : Widths) (z : Sizes) (says : Said) (kw kb ks : ℕ) (words contents state : List ℕ)
+      → kw ≡ min (5 * z .slots) (length (m .flash .words)) → kb ≡ min (z .width * z .slots) (length (m .flash .contents)) → ks ≡ min (4 * z .pages) (length (m .state))
       → Went run s (volume words contents state) out out₁
-      (volumeTurn w z (standing run (volume (take (kw - 0) (drop 0 (m .flash .words))) (take (kb - 0) (drop 0 (m .flash .contents))) (take (ks - 0) (drop 0 (m .state))))) says)
+      (volumeTurn widths z (standing run (volume (take (kw - 0) (drop 0 (m .flash .words))) (take (kb - 0) (drop 0 (m .flash .contents))) (take (ks - 0) (drop 0 (m .state))))) says)
       → Went run s (volume (putMid 0 (kw - 0) (m .flash .words) words) (putMid 0 (kb - 0) (m .flash .contents) contents) (putMid 0 (ks - 0) (m .state) state)) out out₁
-      (inFront w z (standing run m) says)
+      (inFront widths z (standing run m) says)
   unfolding inFront withMemory standing
-  went-in-front w z says kw kb ks words contents state ew eb es h =
-      let lent = volume-lent w z m kw kb ks ew eb es in
+  went-in-front widths z says kw kb ks words contents state ew eb es h =
+      let lent = volume-lent z m kw kb ks ew eb es in
       let g = rw lent at h in
-      rw (volume-put w z m kw kb ks ew eb es words contents state)
-      (ap (λ (x : Standing). withMemory x (volumeBack w z m (x .memory))) (g .0), g .1)
+      rw (volume-put z m kw kb ks ew eb es words contents state)
+      (ap (λ (x : Standing). withMemory x (volumeBack z m (x .memory))) (g .0), g .1)
 
 -- a line of another key than format's
-pub other-line : {A : Type 0} (line : Line) (list : List ℕ) (f : ℕ → ℕ → A) (other : A) → OneOf (1 ∷ 2 ∷ 3 ∷ 4 ∷ 5 ∷ 6 ∷ 7 ∷ 8 ∷ []) (tagOf the-type line) → onFormat (said line list) f other ≡ other
+pub other-line : {A : Type 0} (line : Line) (list : List ℕ) (f : Sizes → A) (other : A) → OneOf (1 ∷ 2 ∷ 3 ∷ 4 ∷ 5 ∷ 6 ∷ 7 ∷ 8 ∷ []) (tagOf the-type line) → onFormat (said line list) f other ≡ other
 unfolding onFormat said
-other-line (lines.Format pages slots) list f other k = absurd (miss (1 ∷ 2 ∷ 3 ∷ 4 ∷ 5 ∷ 6 ∷ 7 ∷ 8 ∷ []) 0 tt k)
+other-line (lines.Format sizes) list f other k = absurd (miss (1 ∷ 2 ∷ 3 ∷ 4 ∷ 5 ∷ 6 ∷ 7 ∷ 8 ∷ []) 0 tt k)
 other-line (lines.Launch count) list f other k = refl
 other-line (lines.Write page slot fill) list f other k = refl
 other-line (lines.Withdraw page) list f other k = refl
@@ -82,39 +82,38 @@ unfolding inTime isEarly
 too-early pages says h f = let q : eqb pages 0 ≡ true = eq-eqb pages 0 (omega arith) in rw (q, f)
 
 -- a line after the end, and any other
-module _ (w : ℕ) (s : Standing) (says : Said) where
-  over-turned : s .over ≡ true → turn w s says ≡ idleTurn s
+module _ (widths : Widths) (s : Standing) (says : Said) where
+  over-turned : s .over ≡ true → turn widths s says ≡ idleTurn s
   unfolding turn
   over-turned o = rw o
 
-  malformed-turned : lineTurn w s Said.Malformed ≡ refusedTurn s
+  malformed-turned : lineTurn widths s Said.Malformed ≡ refusedTurn s
   unfolding lineTurn inFront volumeTurn lineOutcome accepted told refusedTurn withMemory
-  malformed-turned = rw (volume-same w _ (s .memory))
+  malformed-turned = rw (volume-same _ (s .memory))
 
-  in-time-turned : lineTurn w s (inTime (s .pages) says) ≡ cond (isEarly (s .pages) says) (refusedTurn s) (lineTurn w s says)
+  in-time-turned : lineTurn widths s (inTime (s .sizes .pages) says) ≡ cond (isEarly (s .sizes .pages) says) (refusedTurn s) (lineTurn widths s says)
   unfolding inTime
-  in-time-turned = on-test (isEarly (s .pages) says) (λ e. rw e malformed-turned) (λ e. rw e)
+  in-time-turned = on-test (isEarly (s .sizes .pages) says) (λ e. rw e malformed-turned) (λ e. rw e)
 
-  line-turned : s .over ≡ false → lineTurn w s (inTime (s .pages) says) ≡ turn w s says
+  line-turned : s .over ≡ false → lineTurn widths s (inTime (s .sizes .pages) says) ≡ turn widths s says
   unfolding turn
-  line-turned o = in-time-turned ∙ sym (ap (λ (over : Bool). cond over (idleTurn s) (cond (isEarly (s .pages) says) (refusedTurn s) (lineTurn w s says))) o)
+  line-turned o = in-time-turned ∙ sym (ap (λ (over : Bool). cond over (idleTurn s) (cond (isEarly (s .sizes .pages) says) (refusedTurn s) (lineTurn widths s says))) o)
 
-module _ (w : ℕ) (run : Run) (m : Volume) (out : List ℕ) (says : Said) where
-  pub went-over : run .over ≡ true → Went run run m out out (turn w (standing run m) says)
+module _ (widths : Widths) (run : Run) (m : Volume) (out : List ℕ) (says : Said) where
+  pub went-over : run .over ≡ true → Went run run m out out (turn widths (standing run m) says)
   unfolding standing
-  went-over o = rw (over-turned w (standing run m) says o) (went-idle run m out)
+  went-over o = rw (over-turned widths (standing run m) says o) (went-idle run m out)
 
   pub went-line :
-      (s : Run) (m₁ : Volume) (out₁ : List ℕ) (z : Sizes) (timely : Said) → run .over ≡ false → timely ≡ inTime (run .pages) says → z ≡ sizesFor (standing run m) timely
-      → Went run s m₁ out out₁ (inFront w z (standing run m) timely) → Went run s m₁ out out₁ (turn w (standing run m) says)
+      (s : Run) (m₁ : Volume) (out₁ : List ℕ) (z : Sizes) (timely : Said) → run .over ≡ false → timely ≡ inTime (run .sizes .pages) says → z ≡ sizesFor (standing run m) timely
+      → Went run s m₁ out out₁ (inFront widths z (standing run m) timely) → Went run s m₁ out out₁ (turn widths (standing run m) says)
   unfolding standing lineTurn
-  went-line s m₁ out₁ z timely o et ez h = rw (← line-turned w (standing run m) says o, ← et, ← ez) h
+  went-line s m₁ out₁ z timely o et ez h = rw (← line-turned widths (standing run m) says o, ← et, ← ez) h
 
 -- "A refused later format leaves the volume as it was": everything is where it was.
-pub refused-format : (w : ℕ) (s : Standing) (P S : ℕ) → ¬ (formatAnswer w (sizesOf P S) (inUse w (sizesOf P S) (s .memory)) ≡ 0) → lineTurn w s (Said.Format P S) .leaves ≡ s
+pub refused-format : (widths : Widths) (s : Standing) (z : Sizes) → ¬ (formatAnswer widths z (inUse z (s .memory)) ≡ 0) → lineTurn widths s (Said.Format z) .leaves ≡ s
 unfolding lineTurn sizesFor onFormat inFront volumeTurn lineOutcome told formatted withMemory
-refused-format w s P S d =
-    let z : Sizes = sizesOf P S in
-    let e = volume-refused w (sizesOf P S) (inUse w z (s .memory)) d in
-    let q : eqb (formatAnswer w (sizesOf P S) (inUse w z (s .memory))) 0 ≡ false = ne-eqb _ _ d in
-    rw (e, q, volume-same w z (s .memory))
+refused-format widths s z d =
+    let e = volume-refused widths z (inUse z (s .memory)) d in
+    let q : eqb (formatAnswer widths z (inUse z (s .memory))) 0 ≡ false = ne-eqb _ _ d in
+    rw (e, q, volume-same z (s .memory))

@@ -2,7 +2,7 @@
 ghost use Prim.Native.Nat.{ℕ};
 ghost use mathlib.Core.Path.{_≡_};
 ghost use mathlib.Core.List.{List};
-ghost use Rattle.bounded.specs.Limits.{width};
+ghost use Rattle.bounded.specs.Limits.{twoWidths};
 ghost use Rattle.text.specs.Print.{shown, added};
 ghost use Rattle.line.specs.Line.{said};
 ghost use Rattle.rules.specs.Volume.{Volume, volume};
@@ -25,9 +25,9 @@ fn volume_step(
     out: &mut [u8],
 ) -> Run
     ensures stands { λ s. ⌜ standing s (volume (now (words .exit)) (now (contents .exit)) (now (state .exit)))
-        ≡ volumeTurn width sizes (standing run (volume (now (words .entry)) (now (contents .entry)) (now (state .entry)))) (said line (now (list .entry))) .leaves ⌝ }
+        ≡ volumeTurn twoWidths sizes (standing run (volume (now (words .entry)) (now (contents .entry)) (now (state .entry)))) (said line (now (list .entry))) .leaves ⌝ }
     ensures prints { λ s. ⌜ shown (now (out .exit)) (s .at) ≡ added (now (out .entry)) (run .at)
-        (volumeTurn width sizes (standing run (volume (now (words .entry)) (now (contents .entry)) (now (state .entry)))) (said line (now (list .entry))) .prints) ⌝ }
+        (volumeTurn twoWidths sizes (standing run (volume (now (words .entry)) (now (contents .entry)) (now (state .entry)))) (said line (now (list .entry))) .prints) ⌝ }
     ensures holds { λ s. ⌜ s .held ≡ run .held ⌝ }
 {
     let r = dispatch::call(sizes, line, list, words, contents, state);
@@ -42,7 +42,7 @@ fn in_time(pages: u32, line: Line) -> Line
         return line;
     }
     match line {
-        Line::Format { pages: _, slots: _ } => line,
+        Line::Format { sizes: _ } => line,
         _ => Line::Malformed,
     }
 }
@@ -52,11 +52,8 @@ fn sizes_for(run: Run, line: Line) -> Sizes
     ensures { λ r. ⌜ ((memory : Volume) (list : List ℕ) → r ≡ sizesFor (standing run memory) (said line list)) ⌝ }
 {
     match line {
-        Line::Format { pages, slots } => Sizes { pages, slots },
-        _ => Sizes {
-            pages: run.pages,
-            slots: run.slots,
-        },
+        Line::Format { sizes } => sizes,
+        _ => run.sizes,
     }
 }
 
@@ -72,18 +69,21 @@ pub fn step(
     out: &mut [u8],
 ) -> Run
     ensures stands { λ s. ⌜ standing s (volume (now (words .exit)) (now (contents .exit)) (now (state .exit)))
-        ≡ turn width (standing run (volume (now (words .entry)) (now (contents .entry)) (now (state .entry)))) (said line (now (list .entry))) .leaves ⌝ }
+        ≡ turn twoWidths (standing run (volume (now (words .entry)) (now (contents .entry)) (now (state .entry)))) (said line (now (list .entry))) .leaves ⌝ }
     ensures prints { λ s. ⌜ shown (now (out .exit)) (s .at) ≡ added (now (out .entry)) (run .at)
-        (turn width (standing run (volume (now (words .entry)) (now (contents .entry)) (now (state .entry)))) (said line (now (list .entry))) .prints) ⌝ }
+        (turn twoWidths (standing run (volume (now (words .entry)) (now (contents .entry)) (now (state .entry)))) (said line (now (list .entry))) .prints) ⌝ }
     ensures holds { λ s. ⌜ s .held ≡ run .held ⌝ }
 {
     if run.over {
         return run;
     }
-    let says = in_time(run.pages, line);
+    let says = in_time(run.sizes.pages, line);
     let sizes = sizes_for(run, says);
     let w = dispatch::least(5 * (sizes.slots as usize), words.len());
-    let b = dispatch::least(sizes::WIDTH * (sizes.slots as usize), contents.len());
+    let b = dispatch::least(
+        (sizes.width as usize) * (sizes.slots as usize),
+        contents.len(),
+    );
     let s = dispatch::least(4 * (sizes.pages as usize), state.len());
     volume_step(
         run,

@@ -38,6 +38,7 @@ fn run_all(run: Run, line: &mut [u8], words: &mut [u32], contents: &mut [u8], st
 fn main() {
     let mut line = [0u8; 513];
     let mut words = [0u32; 5120];
+    // 1,024 slots of 32 bytes, or 512 of 64: "width=64, then with at most 512 slots".
     let mut contents = [0u8; 32768];
     let mut state = [0u32; 1024];
     run_all(

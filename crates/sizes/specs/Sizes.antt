@@ -4,17 +4,22 @@ use mathlib.Core.List.{List}
 use mathlib.Core.Bool.{Bool, not, _&&_}
 use lib.Dec.{ltb, leb, eqb}
 use lib.ListN.{length, getD}
-use Rattle.bounded.specs.Limits.{maxPages, maxSlots}
+use Rattle.bounded.specs.Limits.{maxPages, maxSlots, Widths}
 use Rattle.bounded.specs.Below.{allBelow}
 use Rattle.sizes.specs.declared.Sizes.{Sizes}
 
--- the sizes of a volume of P pages and S slots
-abbrev pub sizesOf : (P S : ℕ) → Sizes
-sizesOf P S = record { pages = P; slots = S }
+-- the sizes of a volume of P pages and S slots, with w bytes of contents a slot
+abbrev pub sizesOf : (P S w : ℕ) → Sizes
+sizesOf P S w = record { pages = P; slots = S; width = w }
 
--- "P pages (pistons), 1 to 256 … S slots, P to 1,024"
-unfoldable pub sizesOk : (sizes : Sizes) → Bool
-sizesOk sizes = leb 1 (sizes .pages) && (leb (sizes .pages) maxPages && (leb (sizes .pages) (sizes .slots) && leb (sizes .slots) maxSlots))
+-- "P pages (pistons), 1 to 256 … S slots, P to 1,024"; and the width is one of those allowed
+unfoldable pub sizesOk : Widths → Sizes → Bool
+sizesOk widths sizes =
+    leb 1 (sizes .pages)
+    && (leb (sizes .pages) maxPages
+    && (leb (sizes .pages) (sizes .slots)
+    && (leb (sizes .slots) maxSlots
+    && widths (sizes .width))))
 
 -- "The slot table has 5×S unsigned 32-bit words"
 unfoldable pub wordsFit : ℕ → List ℕ → Bool

@@ -2,10 +2,11 @@
 ghost use mathlib.Core.Path.{_≡_};
 ghost use mathlib.Core.Bool.{_&&_};
 ghost use Prim.Native.Nat.{_≤_};
+ghost use Rattle.bounded.specs.Limits.{twoWidths};
 ghost use Rattle.sizes.specs.Sizes.{sizesOk, wordsFit, contentsFit, stateFits, listOk};
 
-// Bytes of contents a slot has: the `width` of the contracts.
-pub const WIDTH: usize = 32;
+// The largest width: the most bytes of contents that a slot has.
+pub const MAX_WIDTH: usize = 64;
 
 // "4,294,967,295": a word of a blank slot, not in flight, no slot.
 pub const NO_NUMBER: u32 = 4294967295;
@@ -13,16 +14,27 @@ pub const NO_NUMBER: u32 = 4294967295;
 // "at most 4,294,967,294"
 pub const HIGHEST_VERSION: u32 = 4294967294;
 
-// "P pages (pistons) …. S slots …"
+// "P pages (pistons) …. S slots …"; the width is the bytes of contents that a slot has.
 pub struct Sizes {
     pub pages: u32,
     pub slots: u32,
+    pub width: u32,
+}
+
+// "32 or 64 bytes per slot"
+pub fn width_ok(width: usize) -> bool
+    ensures { λ r. ⌜ r ≡ twoWidths width ⌝ }
+{
+    if width == 32 {
+        return true;
+    }
+    width == 64
 }
 
 impl Sizes {
-    // "P pages (pistons), 1 to 256 … S slots, P to 1,024"
+    // "P pages (pistons), 1 to 256 … S slots, P to 1,024"; the width 32 or 64
     pub fn are_ok(self) -> bool
-        ensures { λ r. ⌜ r ≡ sizesOk self ⌝ }
+        ensures { λ r. ⌜ r ≡ sizesOk twoWidths self ⌝ }
     {
         if self.pages < 1 {
             return false;
@@ -33,7 +45,10 @@ impl Sizes {
         if self.pages > self.slots {
             return false;
         }
-        self.slots <= 1024
+        if self.slots > 1024 {
+            return false;
+        }
+        width_ok(self.width as usize)
     }
 }
 
@@ -58,9 +73,9 @@ pub fn state_fits(pages: u32, state: &[u32]) -> bool
     state.len() == 4 * (pages as usize)
 }
 
-// P, S and the length of the state are right.
+// P, S, the width and the length of the state are right.
 pub fn state_ok(sizes: Sizes, state: &[u32]) -> bool
-    ensures { λ r. ⌜ r ≡ (sizesOk sizes && stateFits (sizes .pages) (now (state .entry))) ⌝ }
+    ensures { λ r. ⌜ r ≡ (sizesOk twoWidths sizes && stateFits (sizes .pages) (now (state .entry))) ⌝ }
 {
     if !sizes.are_ok() {
         return false;
@@ -68,9 +83,9 @@ pub fn state_ok(sizes: Sizes, state: &[u32]) -> bool
     state_fits(sizes.pages, state)
 }
 
-// P, S and the lengths of the words and the state are right.
+// P, S, the width and the lengths of the words and the state are right.
 pub fn table_ok(sizes: Sizes, words: &[u32], state: &[u32]) -> bool
-    ensures { λ r. ⌜ r ≡ (sizesOk sizes && (wordsFit (sizes .slots) (now (words .entry)) && stateFits (sizes .pages) (now (state .entry)))) ⌝ }
+    ensures { λ r. ⌜ r ≡ (sizesOk twoWidths sizes && (wordsFit (sizes .slots) (now (words .entry)) && stateFits (sizes .pages) (now (state .entry)))) ⌝ }
 {
     if !sizes.are_ok() {
         return false;

@@ -5,6 +5,7 @@ use mathlib.Core.Path.{_≡_}
 use mathlib.Core.List.{List}
 use mathlib.Core.Bool.{Bool, cond}
 use lib.ListN.{length}
+use Rattle.bounded.specs.Limits.{Widths}
 use Rattle.bounded.specs.Parts.{putPart}
 use Rattle.bounded.specs.PartsLaws.{part-inside}
 use Rattle.sizes.specs.declared.Sizes.{Sizes}
@@ -26,20 +27,20 @@ unfolding planOf
 plan-is st page s next e f = rw (f, e)
 
 -- the page can be written into the slot
-pub record Writes (w : ℕ) (sizes : Sizes) (v : Volume) (page slot : ℕ) (bytes : List ℕ) : Type 0 where
+pub record Writes (sizes : Sizes) (v : Volume) (page slot : ℕ) (bytes : List ℕ) : Type 0 where
   pub all-pages : pagesIn (v .state) ≡ (sizes .pages)
   pub walkable : Walkable (pagesIn (v .state)) (v .state) page
-  pub bytes-sized : length bytes ≡ w
+  pub bytes-sized : length bytes ≡ sizes .width
   pub words-in : 5 * slot + 5 ≤ length (v .flash .words)
   pub contents-in : length bytes * slot + length bytes ≤ length (v .flash .contents)
 
-module _ (w : ℕ) (sizes : Sizes) (v : Volume) (page slot : ℕ) (bytes : List ℕ) where
-  pub write-accepted : writeAnswer w sizes v page slot bytes ≡ 0 → Writes w sizes v page slot bytes
+module _ (widths : Widths) (sizes : Sizes) (v : Volume) (page slot : ℕ) (bytes : List ℕ) where
+  pub write-accepted : writeAnswer widths sizes v page slot bytes ≡ 0 → Writes sizes v page slot bytes
   write-accepted z =
-      let t = write-tests w sizes v page slot bytes z in
+      let t = write-tests widths sizes v page slot bytes z in
       let words-sized = t .fits .flash-sized .words-sized in
       let contents-sized = t .fits .flash-sized .contents-sized in
-      let inside = part-inside w (sizes .slots) slot (t .slot-below) in
+      let inside = part-inside (sizes .width) (sizes .slots) slot (t .slot-below) in
       record {
         all-pages = pages-in (sizes .pages) (v .state) (t .fits .state-sized);
         walkable = walkable-in (sizes .pages) (v .state) page (record { fits = t .fits .state-sized; sound = t .sound; below = t .page-below; flies = t .flying });
@@ -48,9 +49,9 @@ module _ (w : ℕ) (sizes : Sizes) (v : Volume) (page slot : ℕ) (bytes : List 
         contents-in = rw (t .whole) (omega arith);
       }
 
-  module _ (z : writeAnswer w sizes v page slot bytes ≡ 0) where
+  module _ (z : writeAnswer widths sizes v page slot bytes ≡ 0) where
     -- the planned record and the bytes in the slot, and the page written
-    pub write-leaves : {words contents state : List ℕ} (r : Record) → r ≡ planOf (stateAt (v .state)) page → words ≡ putPart 5 slot (wordsOf r) (v .flash .words) → contents ≡ putPart (length bytes) slot bytes (v .flash .contents) → state ≡ stateWords (pagesIn (v .state)) (afterWrite (pagesIn (v .state)) (stateAt (v .state)) page) → volume words contents state ≡ writeChange w (sizes .pages) v page slot bytes
+    pub write-leaves : {words contents state : List ℕ} (r : Record) → r ≡ planOf (stateAt (v .state)) page → words ≡ putPart 5 slot (wordsOf r) (v .flash .words) → contents ≡ putPart (length bytes) slot bytes (v .flash .contents) → state ≡ stateWords (pagesIn (v .state)) (afterWrite (pagesIn (v .state)) (stateAt (v .state)) page) → volume words contents state ≡ writeChange sizes v page slot bytes
     unfolding writeChange writeStep apply putSlot
     write-leaves r q a b c = let f = write-accepted z in rw (a, b, c, q, f .bytes-sized, f .all-pages)
 

@@ -1,6 +1,6 @@
 // Writing the records of a transaction ("ring"). The definitions are in crate rules.
 ghost use mathlib.Core.Path.{_≡_};
-ghost use Rattle.bounded.specs.Limits.{width};
+ghost use Rattle.bounded.specs.Limits.{twoWidths};
 ghost use Rattle.outcome.specs.Outcome.{returned};
 ghost use Rattle.state.specs.State.{stateAt};
 ghost use Rattle.state.specs.Walk.{pagesIn, Walkable};
@@ -54,7 +54,7 @@ fn write_answer(
     slot: u32,
     bytes: &[u8],
 ) -> u32
-    ensures { λ r. ⌜ r ≡ writeAnswer width sizes (volume (now (words .entry)) (now (contents .entry)) (now (state .entry))) page slot (now (bytes .entry)) ⌝ }
+    ensures { λ r. ⌜ r ≡ writeAnswer twoWidths sizes (volume (now (words .entry)) (now (contents .entry)) (now (state .entry))) page slot (now (bytes .entry)) ⌝ }
 {
     let fits = volume::slice_fits(sizes, words, contents, state, bytes.len());
     let first = volume::judged(fits, sizes, words, state);
@@ -86,7 +86,7 @@ pub fn write(
     bytes: &[u8],
 ) -> u64
     ensures { λ r. ⌜ returned r (volume (now (words .exit)) (now (contents .exit)) (now (state .exit)))
-        ≡ writeOutcome width sizes (volume (now (words .entry)) (now (contents .entry)) (now (state .entry))) page slot (now (bytes .entry)) ⌝ }
+        ≡ writeOutcome twoWidths sizes (volume (now (words .entry)) (now (contents .entry)) (now (state .entry))) page slot (now (bytes .entry)) ⌝ }
 {
     let answer = write_answer(sizes, words, contents, state, page, slot, bytes);
     if answer != 0 {

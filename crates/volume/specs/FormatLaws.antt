@@ -19,7 +19,7 @@ use Rattle.rules.specs.Format.{formattedWords, formattedContents}
 unfoldable pub freshWords : (P k : ℕ) → List ℕ
 freshWords P k = wordsOf (cond (ltb k P) (formattedRecord k) blankRecord)
 
--- "… with 32 zero bytes; all other slots are … with bytes 255": the bytes of slot k
+-- "… with 32 zero bytes; all other slots are … with bytes 255": the bytes of slot k, for w of them
 unfoldable pub freshBytes : (w P k : ℕ) → List ℕ
 freshBytes w P k = replicate w (cond (ltb k P) 0 255)
 
@@ -55,9 +55,9 @@ pub words-formatted : (sizes : Sizes) (words : List ℕ) → length words ≡ 5 
 unfolding formattedWords freshWords
 words-formatted sizes words e = filled-all 5 (freshWords (sizes .pages)) words (sizes .slots) e (length-freshWords (sizes .pages))
 
-pub contents-formatted : (w : ℕ) (sizes : Sizes) (contents : List ℕ) → length contents ≡ w * (sizes .slots) → filled w (freshBytes w (sizes .pages)) (sizes .slots) contents ≡ formattedContents w sizes
+pub contents-formatted : (sizes : Sizes) (contents : List ℕ) → length contents ≡ sizes .width * sizes .slots → filled (sizes .width) (freshBytes (sizes .width) (sizes .pages)) (sizes .slots) contents ≡ formattedContents sizes
 unfolding formattedContents freshBytes
-contents-formatted w sizes contents e = filled-all w (freshBytes w (sizes .pages)) contents (sizes .slots) e (λ k. length-freshBytes (sizes .pages) k w)
+contents-formatted sizes contents e = filled-all (sizes .width) (freshBytes (sizes .width) (sizes .pages)) contents (sizes .slots) e (λ k. length-freshBytes (sizes .pages) k (sizes .width))
 
 -- all pages of a state written, each as st says
 pub state-filled : (P : ℕ) (st : ℕ → PageState) (state : List ℕ) → length state ≡ 4 * P → filled 4 (λ p. pageWords (st p)) P state ≡ stateWords P st

@@ -4,21 +4,22 @@ ghost use mathlib.Core.Bool.{true, _&&_};
 ghost use Prim.Native.Nat.{_+_, _*_, _≤_};
 ghost use lib.Dec.{eqb};
 ghost use lib.ListN.{length};
-ghost use Rattle.bounded.specs.Limits.{width};
+ghost use Rattle.bounded.specs.Limits.{twoWidths};
 ghost use Rattle.bounded.specs.Parts.{putPart};
 ghost use Rattle.outcome.specs.Outcome.{returned};
-ghost use Rattle.sizes.specs.Sizes.{sizesOf};
 ghost use Rattle.state.specs.State.{stateWords};
 ghost use Rattle.state.specs.Change.{freshState};
 ghost use Rattle.rules.specs.Volume.{volume, volumeFits};
 ghost use Rattle.rules.specs.Format.{formattedWords, formattedContents, formatOutcome};
 ghost use Rattle.rules.specs.laws.Chains.{judged, Spans};
 ghost use Rattle.volume.specs.FormatLaws.{freshWords, freshBytes};
+use record::Record;
+use record::flash;
 use sizes::Sizes;
 
-// P, S and the lengths of a volume's buffers are right.
+// P, S, the width and the lengths of a volume's buffers are right.
 pub fn volume_fits(sizes: Sizes, words: &[u32], contents: &[u8], state: &[u32]) -> bool
-    ensures { λ r. ⌜ r ≡ volumeFits width sizes (volume (now (words .entry)) (now (contents .entry)) (now (state .entry))) ⌝ }
+    ensures { λ r. ⌜ r ≡ volumeFits twoWidths sizes (volume (now (words .entry)) (now (contents .entry)) (now (state .entry))) ⌝ }
 {
     if !sizes.are_ok() {
         return false;
@@ -26,7 +27,7 @@ pub fn volume_fits(sizes: Sizes, words: &[u32], contents: &[u8], state: &[u32]) 
     if !sizes::words_fit(sizes.slots, words) {
         return false;
     }
-    if !sizes::contents_fit(sizes::WIDTH as u32, sizes.slots, contents) {
+    if !sizes::contents_fit(sizes.width, sizes.slots, contents) {
         return false;
     }
     sizes::state_fits(sizes.pages, state)
@@ -40,12 +41,12 @@ pub fn slice_fits(
     state: &[u32],
     length: usize,
 ) -> bool
-    ensures { λ r. ⌜ r ≡ (volumeFits width sizes (volume (now (words .entry)) (now (contents .entry)) (now (state .entry))) && eqb length width) ⌝ }
+    ensures { λ r. ⌜ r ≡ (volumeFits twoWidths sizes (volume (now (words .entry)) (now (contents .entry)) (now (state .entry))) && eqb length (sizes .width)) ⌝ }
 {
     if !volume_fits(sizes, words, contents, state) {
         return false;
     }
-    length == sizes::WIDTH
+    length == sizes.width as usize
 }
 
 // Conditions 1, 2 and 5, which the calls on a whole volume share: the lengths, as `fits` says, then every slot, then the state; 0 where none holds.
@@ -66,37 +67,32 @@ pub fn judged(fits: bool, sizes: Sizes, words: &[u32], state: &[u32]) -> u32
 }
 
 // One slot as format leaves it: a page's record with zero bytes, or blank with bytes 255.
-fn format_slot(pages: u32, words: &mut [u32], contents: &mut [u8], slot: u32)
+fn format_slot(sizes: Sizes, words: &mut [u32], contents: &mut [u8], slot: u32)
     requires { ⌜ 5 * slot + 5 ≤ length (now words) ⌝ }
-    requires { ⌜ width * slot + width ≤ length (now contents) ⌝ }
-    ensures { λ _. ⌜ now (words .exit) ≡ putPart 5 slot (freshWords pages slot) (now (words .entry)) ⌝ }
-    ensures { λ _. ⌜ now (contents .exit) ≡ putPart width slot (freshBytes width pages slot) (now (contents .entry)) ⌝ }
+    requires { ⌜ sizes .width * slot + sizes .width ≤ length (now contents) ⌝ }
+    requires { ⌜ sizes .width ≤ 64 ⌝ }
+    ensures { λ _. ⌜ now (words .exit) ≡ putPart 5 slot (freshWords (sizes .pages) slot) (now (words .entry)) ⌝ }
+    ensures { λ _. ⌜ now (contents .exit) ≡ putPart (sizes .width) slot (freshBytes (sizes .width) (sizes .pages) slot) (now (contents .entry)) ⌝ }
 {
-    if slot < pages {
-        let zeros = [0u8; sizes::WIDTH];
-        record::flash::put_slot(
-            words,
-            contents,
-            slot,
-            record::Record::formatted(slot),
-            &zeros,
-        );
+    if slot < sizes.pages {
+        let record = Record::formatted(slot);
+        flash::fill_slot(sizes.width, words, contents, slot, record, 0);
         return;
     }
-    let ones = [255u8; sizes::WIDTH];
-    record::flash::put_slot(words, contents, slot, record::Record::BLANK, &ones);
+    flash::fill_slot(sizes.width, words, contents, slot, Record::BLANK, 255);
 }
 
 // Every slot as format leaves it.
-fn format_flash(pages: u32, slots: u32, words: &mut [u32], contents: &mut [u8])
-    requires { ⌜ length (now words) ≡ 5 * slots ⌝ }
-    requires { ⌜ length (now contents) ≡ width * slots ⌝ }
-    ensures { λ _. ⌜ now (words .exit) ≡ formattedWords (sizesOf pages slots) ⌝ }
-    ensures { λ _. ⌜ now (contents .exit) ≡ formattedContents width (sizesOf pages slots) ⌝ }
+fn format_flash(sizes: Sizes, words: &mut [u32], contents: &mut [u8])
+    requires { ⌜ length (now words) ≡ 5 * sizes .slots ⌝ }
+    requires { ⌜ length (now contents) ≡ sizes .width * sizes .slots ⌝ }
+    requires { ⌜ sizes .width ≤ 64 ⌝ }
+    ensures { λ _. ⌜ now (words .exit) ≡ formattedWords sizes ⌝ }
+    ensures { λ _. ⌜ now (contents .exit) ≡ formattedContents sizes ⌝ }
 {
     let mut k = 0;
-    while k < slots {
-        format_slot(pages, words, contents, k);
+    while k < sizes.slots {
+        format_slot(sizes, words, contents, k);
         k += 1;
     }
 }
@@ -116,12 +112,12 @@ fn format_state(pages: u32, state: &mut [u32])
 // Format: the flash and the state of an empty volume, whatever the buffers held.
 pub fn format(sizes: Sizes, words: &mut [u32], contents: &mut [u8], state: &mut [u32]) -> u64
     ensures { λ r. ⌜ returned r (volume (now (words .exit)) (now (contents .exit)) (now (state .exit)))
-        ≡ formatOutcome width sizes (volume (now (words .entry)) (now (contents .entry)) (now (state .entry))) ⌝ }
+        ≡ formatOutcome twoWidths sizes (volume (now (words .entry)) (now (contents .entry)) (now (state .entry))) ⌝ }
 {
     if !volume_fits(sizes, words, contents, state) {
         return outcome::reply(1, 0);
     }
-    format_flash(sizes.pages, sizes.slots, words, contents);
+    format_flash(sizes, words, contents);
     format_state(sizes.pages, state);
     outcome::reply(0, 0)
 }

@@ -7,6 +7,7 @@ use mathlib.Core.Bool.{Bool, true, false, cond}
 use lib.Dec.{eqb}
 use lib.ListN.{length}
 use borrow.Author.Tests.{eqb-true}
+use Rattle.bounded.specs.Limits.{Widths}
 use Rattle.bounded.specs.Choice.{on-eq, never, both-left, both-right}
 use Rattle.outcome.specs.Outcome.{Outcome}
 use Rattle.sizes.specs.declared.Sizes.{Sizes}
@@ -38,32 +39,32 @@ unfolding learns
 learns-refused m call zero n = absurd (n refl)
 learns-refused m call (suc a) n = refl
 
-module _ (w : ℕ) (sizes : Sizes) where
+module _ (widths : Widths) (sizes : Sizes) where
   -- ---- a call that returns, the state known
 
-  call-known : (v : Volume) (m : Model) (call : Call) → Known w sizes v m → Known w sizes (perform w sizes v call .left) (learns m (Told.Answered call (perform w sizes v call .answer)))
+  call-known : (v : Volume) (m : Model) (call : Call) → Known widths sizes v m → Known widths sizes (perform widths sizes v call .left) (learns m (Told.Answered call (perform widths sizes v call .answer)))
   call-known v m call k =
-      on-eq (answer-is w sizes v call) 0
-      (λ e. subst (λ (x : Model). Known w sizes (perform w sizes v call .left) x) (sym (learns-accepted m call (perform w sizes v call .answer) (performs w sizes v call ∙ e))) (accepted w sizes v m k call e))
-      (λ n. subst (λ (x : Model). Known w sizes (perform w sizes v call .left) x) (sym (learns-refused m call (perform w sizes v call .answer) (λ e. n (sym (performs w sizes v call) ∙ e))))
-      (subst (λ (x : Volume). Known w sizes x m) (sym (refused-leaves w sizes v call n)) k))
+      on-eq (answer-is widths sizes v call) 0
+      (λ e. subst (λ (x : Model). Known widths sizes (perform widths sizes v call .left) x) (sym (learns-accepted m call (perform widths sizes v call .answer) (performs widths sizes v call ∙ e))) (accepted widths sizes v m k call e))
+      (λ n. subst (λ (x : Model). Known widths sizes (perform widths sizes v call .left) x) (sym (learns-refused m call (perform widths sizes v call .answer) (λ e. n (sym (performs widths sizes v call) ∙ e))))
+      (subst (λ (x : Volume). Known widths sizes x m) (sym (refused-leaves widths sizes v call n)) k))
 
   -- ---- one event
 
   -- after a crash with a state of 4×P words
-  crashed-holds : (f : Flash) (state : List ℕ) (m : Model) → SizesFacts (sizes .pages) (sizes .slots) → length state ≡ 4 * (sizes .pages) → Crashed w sizes f m → Holding w sizes (record { volume = record { flash = f; state = state }; lost = true }) m
-  crashed-holds f state m sizes long c = unknown refl (record { bounds = sizes; flash-sized = c .sized; state-sized = long }) (c .lost)
+  crashed-holds : (f : Flash) (state : List ℕ) (m : Model) → SizesFacts (sizes .pages) (sizes .slots) → widths (sizes .width) ≡ true → length state ≡ 4 * (sizes .pages) → Crashed sizes f m → Holding widths sizes (record { volume = record { flash = f; state = state }; lost = true }) m
+  crashed-holds f state m bounds allowed long c = unknown refl (record { bounds = bounds; allowed = allowed; flash-sized = c .sized; state-sized = long }) (c .lost)
 
   -- where the state is lost, recover answers 0 and the state is known again
-  recover-finds : (v : Volume) (m : Model) → Fits w sizes v → Lost w sizes (v .flash) m → Known w sizes (perform w sizes v Call.Recover .left) (closeAll m) × (perform w sizes v Call.Recover .answer ≡ 0)
+  recover-finds : (v : Volume) (m : Model) → Fits widths sizes v → Lost sizes (v .flash) m → Known widths sizes (perform widths sizes v Call.Recover .left) (closeAll m) × (perform widths sizes v Call.Recover .answer ≡ 0)
   unfolding perform withState
   recover-finds v m fits l =
-      let e = accepts w sizes (v .flash) (fits .bounds) (fits .flash-sized) (l .no-twins) (l .core) (v .state) (fits .state-sized) in
-      let o = recover-fills sizes (v .flash .words) (v .state) e in (
-        subst (λ (o : Outcome (List ℕ)). Known w sizes (record { flash = v .flash; state = o .left }) (closeAll m)) (sym o)
+      let e = accepts widths sizes (v .flash) (fits .bounds) (fits .allowed) (fits .flash-sized) (l .no-twins) (l .core) (v .state) (fits .state-sized) in
+      let o = recover-fills widths sizes (v .flash .words) (v .state) e in (
+        subst (λ (o : Outcome (List ℕ)). Known widths sizes (record { flash = v .flash; state = o .left }) (closeAll m)) (sym o)
             (record {
-              fits = found-fits w sizes (v .flash) (fits .bounds) (fits .flash-sized) (l .no-twins) (l .core) (v .state) (fits .state-sized);
-              live = found-again w sizes (v .flash) (fits .bounds) (fits .flash-sized) (l .no-twins) (l .core) (v .state) (fits .state-sized) m refl;
+              fits = found-fits widths sizes (v .flash) (fits .bounds) (fits .allowed) (fits .flash-sized) (l .no-twins) (l .core) (v .state) (fits .state-sized);
+              live = found-again widths sizes (v .flash) (fits .bounds) (fits .allowed) (fits .flash-sized) (l .no-twins) (l .core) (v .state) (fits .state-sized) m refl;
             }),
         ap (λ (o : Outcome (List ℕ)). o .answer) o,
       )
@@ -71,10 +72,10 @@ module _ (w : ℕ) (sizes : Sizes) where
   -- the only call that comes then
   lost-returns :
       (v : Volume) (m : Model) (call : Call)
-      → Fits w sizes v
-      → Lost w sizes (v .flash) m
+      → Fits widths sizes v
+      → Lost sizes (v .flash) m
       → isRecover call ≡ true
-      → Holding w sizes (record { volume = perform w sizes v call .left; lost = stillLost true call (perform w sizes v call .answer) }) (learns m (Told.Answered call (perform w sizes v call .answer)))
+      → Holding widths sizes (record { volume = perform widths sizes v call .left; lost = stillLost true call (perform widths sizes v call .answer) }) (learns m (Told.Answered call (perform widths sizes v call .answer)))
   unfolding isRecover stillLost accept
   lost-returns v m (Call.Launch pages) fits l e = absurd (never refl (sym e))
   lost-returns v m (Call.Write page slot bytes) fits l e = absurd (never refl (sym e))
@@ -82,47 +83,47 @@ module _ (w : ℕ) (sizes : Sizes) where
   lost-returns v m (Call.Erase slots) fits l e = absurd (never refl (sym e))
   lost-returns v m Call.Recover fits l e =
       let k = recover-finds v m fits l in
-      subst (λ (x : Model). Holding w sizes (record { volume = perform w sizes v Call.Recover .left; lost = stillLost true Call.Recover (perform w sizes v Call.Recover .answer) }) x)
-      (sym (learns-accepted m Call.Recover (perform w sizes v Call.Recover .answer) (k .1)))
+      subst (λ (x : Model). Holding widths sizes (record { volume = perform widths sizes v Call.Recover .left; lost = stillLost true Call.Recover (perform widths sizes v Call.Recover .answer) }) x)
+      (sym (learns-accepted m Call.Recover (perform widths sizes v Call.Recover .answer) (k .1)))
       (known (rw (k .1)) (k .0 .fits) (k .0 .live))
 
   lost-crashes :
       (v : Volume) (m : Model) (call : Call) (stage : ℕ) (done : ℕ → Bool)
-      → Sized w (sizes .slots) (v .flash)
-      → Lost w sizes (v .flash) m
+      → Sized (sizes .width) (sizes .slots) (v .flash)
+      → Lost sizes (v .flash) m
       → isRecover call ≡ true
-      → Crashed w sizes (crashFlash w sizes v call stage done) (learns m (toldOfCrash call (perform w sizes v call .answer) stage done))
+      → Crashed sizes (crashFlash widths sizes v call stage done) (learns m (toldOfCrash call (perform widths sizes v call .answer) stage done))
   unfolding isRecover learns toldOfCrash plannedStages
   lost-crashes v m (Call.Launch pages) stage done size l e = absurd (never refl (sym e))
   lost-crashes v m (Call.Write page slot bytes) stage done size l e = absurd (never refl (sym e))
   lost-crashes v m (Call.Withdraw page) stage done size l e = absurd (never refl (sym e))
   lost-crashes v m (Call.Erase slots) stage done size l e = absurd (never refl (sym e))
   lost-crashes v m Call.Recover stage done size l e =
-      subst (λ (x : Flash). Crashed w sizes x (closeAll m)) (sym (no-stages w sizes v Call.Recover stage done refl)) (crash-lost w sizes (v .flash) m (record { sized = size; lost = l }))
+      subst (λ (x : Flash). Crashed sizes x (closeAll m)) (sym (no-stages widths sizes v Call.Recover stage done refl)) (crash-lost sizes (v .flash) m (record { sized = size; lost = l }))
 
   -- a call that comes while the state is lost is a recover
   lost-recover : (lost : Bool) (call : Call) → lost ≡ true → cond lost (isRecover call) true ≡ true → isRecover call ≡ true
   lost-recover true call e k = k
   lost-recover false call e k = absurd (never e refl)
 
-  pub event-keeps : (x : World) (m : Model) (e : Event) → Holding w sizes x m → keepsTo (sizes .pages) x e ≡ true → Holding w sizes (happens w sizes x e) (learns m (told w sizes x e))
+  pub event-keeps : (x : World) (m : Model) (e : Event) → Holding widths sizes x m → keepsTo (sizes .pages) x e ≡ true → Holding widths sizes (happens widths sizes x e) (learns m (told widths sizes x e))
   unfolding happens told stillLost keepsTo learns
   event-keeps x m (Event.Returns call) (known found fits live) keeps =
       let k = call-known (x .volume) m call (record { fits = fits; live = live }) in
       known (rw found) (k .fits) (k .live)
   event-keeps x m (Event.Returns call) (unknown lost fits l) keeps =
-      subst (λ (b : Bool). Holding w sizes (record { volume = perform w sizes (x .volume) call .left; lost = stillLost b call (perform w sizes (x .volume) call .answer) }) (learns m (Told.Answered call (perform w sizes (x .volume) call .answer)))) (sym lost)
+      subst (λ (b : Bool). Holding widths sizes (record { volume = perform widths sizes (x .volume) call .left; lost = stillLost b call (perform widths sizes (x .volume) call .answer) }) (learns m (Told.Answered call (perform widths sizes (x .volume) call .answer)))) (sym lost)
       (lost-returns (x .volume) m call fits l (lost-recover (x .lost) call lost keeps))
   event-keeps x m (Event.CrashIn call stage done state) (known found fits live) keeps =
-      crashed-holds (crashFlash w sizes (x .volume) call stage done) state (learns m (toldOfCrash call (perform w sizes (x .volume) call .answer) stage done)) (fits .bounds)
+      crashed-holds (crashFlash widths sizes (x .volume) call stage done) state (learns m (toldOfCrash call (perform widths sizes (x .volume) call .answer) stage done)) (fits .bounds) (fits .allowed)
       (eqb-true (length state) (4 * (sizes .pages)) (both-right (cond (x .lost) (isRecover call) true) (eqb (length state) (4 * (sizes .pages))) keeps))
-      (crash-in w sizes (x .volume) m call stage done (record { fits = fits; live = live }))
+      (crash-in widths sizes (x .volume) m call stage done (record { fits = fits; live = live }))
   event-keeps x m (Event.CrashIn call stage done state) (unknown lost fits l) keeps =
-      crashed-holds (crashFlash w sizes (x .volume) call stage done) state (learns m (toldOfCrash call (perform w sizes (x .volume) call .answer) stage done)) (fits .bounds)
+      crashed-holds (crashFlash widths sizes (x .volume) call stage done) state (learns m (toldOfCrash call (perform widths sizes (x .volume) call .answer) stage done)) (fits .bounds) (fits .allowed)
       (eqb-true (length state) (4 * (sizes .pages)) (both-right (cond (x .lost) (isRecover call) true) (eqb (length state) (4 * (sizes .pages))) keeps))
       (lost-crashes (x .volume) m call stage done (fits .flash-sized) l
       (lost-recover (x .lost) call lost (both-left (cond (x .lost) (isRecover call) true) (eqb (length state) (4 * (sizes .pages))) keeps)))
   event-keeps x m (Event.Crash state) (known found fits live) keeps =
-      crashed-holds (x .volume .flash) state (closeAll m) (fits .bounds) (eqb-true (length state) (4 * (sizes .pages)) keeps) (crash-known w sizes (x .volume) m (record { fits = fits; live = live }))
+      crashed-holds (x .volume .flash) state (closeAll m) (fits .bounds) (fits .allowed) (eqb-true (length state) (4 * (sizes .pages)) keeps) (crash-known widths sizes (x .volume) m (record { fits = fits; live = live }))
   event-keeps x m (Event.Crash state) (unknown lost fits l) keeps =
-      crashed-holds (x .volume .flash) state (closeAll m) (fits .bounds) (eqb-true (length state) (4 * (sizes .pages)) keeps) (crash-lost w sizes (x .volume .flash) m (record { sized = fits .flash-sized; lost = l }))
+      crashed-holds (x .volume .flash) state (closeAll m) (fits .bounds) (fits .allowed) (eqb-true (length state) (4 * (sizes .pages)) keeps) (crash-lost sizes (x .volume .flash) m (record { sized = fits .flash-sized; lost = l }))

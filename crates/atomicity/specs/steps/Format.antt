@@ -4,10 +4,11 @@ use native.Mathlib.Omega.{arith}
 use mathlib.Core.Path.{_≡_, refl, sym, ap, _∙_}
 use mathlib.Core.List.{List, []}
 use mathlib.Core.Logic.{inr}
-use mathlib.Core.Bool.{Bool, false, cond}
+use mathlib.Core.Bool.{Bool, true, false, cond}
 use lib.Dec.{ltb}
 use lib.ListN.{replicate, length-replicate}
 use borrow.Author.Tests.{lt-ltb, le-ltb}
+use Rattle.bounded.specs.Limits.{Widths}
 use Rattle.bounded.specs.Choice.{on-lt, never}
 use Rattle.bounded.specs.PartsLaws.{part-joinParts, length-joinParts}
 use Rattle.sizes.specs.declared.Sizes.{Sizes}
@@ -33,12 +34,12 @@ use Rattle.atomicity.specs.rings.Close.{no-rings-match}
 use Rattle.atomicity.specs.steps.Invariant.{Held, Live}
 use Rattle.atomicity.specs.steps.StateWords.{live-words}
 
-module _ (w : ℕ) (sizes : Sizes) (bounds : SizesFacts (sizes .pages) (sizes .slots)) where
+module _ (sizes : Sizes) (bounds : SizesFacts (sizes .pages) (sizes .slots)) where
   abbrev words : List ℕ
   words = formattedWords sizes
 
   abbrev contents : List ℕ
-  contents = formattedContents w sizes
+  contents = formattedContents sizes
 
   -- what slot k is given
   recordFor : ℕ → Record
@@ -56,11 +57,11 @@ module _ (w : ℕ) (sizes : Sizes) (bounds : SizesFacts (sizes .pages) (sizes .s
   unfolding recordFor
   slot-beyond k h l = slot-is k h ∙ rw (le-ltb k (sizes .pages) l) slot-of-blank
 
-  bytes-of-page : (k : ℕ) → k < (sizes .slots) → k < (sizes .pages) → bytesAt w contents k ≡ replicate w 0
+  bytes-of-page : (k : ℕ) → k < (sizes .slots) → k < (sizes .pages) → bytesAt (sizes .width) contents k ≡ replicate (sizes .width) 0
   unfolding bytesAt formattedContents
   bytes-of-page k h l =
-      part-joinParts w (sizes .slots) k (λ k. replicate w (cond (ltb k (sizes .pages)) 0 255)) (λ j. length-replicate w (cond (ltb j (sizes .pages)) 0 255)) h
-      ∙ ap (λ (b : Bool). replicate w (cond b 0 255)) (lt-ltb k (sizes .pages) l)
+      part-joinParts (sizes .width) (sizes .slots) k (λ k. replicate (sizes .width) (cond (ltb k (sizes .pages)) 0 255)) (λ j. length-replicate (sizes .width) (cond (ltb j (sizes .pages)) 0 255)) h
+      ∙ ap (λ (b : Bool). replicate (sizes .width) (cond b 0 255)) (lt-ltb k (sizes .pages) l)
 
   -- a record stands in the slot of its page, and is the formatted one
   record Given (k : ℕ) (r : Record) : Type 0 where
@@ -79,20 +80,20 @@ module _ (w : ℕ) (sizes : Sizes) (bounds : SizesFacts (sizes .pages) (sizes .s
       let e = g .is in
       (ap (λ (x : Record). x .p) e, ap (λ (x : Record). x .v) e, ap (λ (x : Record). x .c) e, ap (λ (x : Record). x .np) e, ap (λ (x : Record). x .nv) e)
 
-  formatted-sized : Sized w (sizes .slots) (formatted w sizes .flash)
+  formatted-sized : Sized (sizes .width) (sizes .slots) (formatted sizes .flash)
   unfolding formatted formattedWords formattedContents
   formatted-sized =
       record {
         words-sized = length-joinParts 5 (sizes .slots) (λ k. wordsOf (cond (ltb k (sizes .pages)) (formattedRecord k) blankRecord)) (λ j. words-length (cond (ltb j (sizes .pages)) (formattedRecord j) blankRecord));
-        contents-sized = length-joinParts w (sizes .slots) (λ k. replicate w (cond (ltb k (sizes .pages)) 0 255)) (λ j. length-replicate w (cond (ltb j (sizes .pages)) 0 255));
+        contents-sized = length-joinParts (sizes .width) (sizes .slots) (λ k. replicate (sizes .width) (cond (ltb k (sizes .pages)) 0 255)) (λ j. length-replicate (sizes .width) (cond (ltb j (sizes .pages)) 0 255));
       }
 
-  pub formatted-fits : Fits w sizes (formatted w sizes)
+  pub formatted-fits : (widths : Widths) → widths (sizes .width) ≡ true → Fits widths sizes (formatted sizes)
   unfolding formatted
-  formatted-fits = record { bounds = bounds; flash-sized = formatted-sized; state-sized = length-stateWords (sizes .pages) freshState }
+  formatted-fits widths allowed = record { bounds = bounds; allowed = allowed; flash-sized = formatted-sized; state-sized = length-stateWords (sizes .pages) freshState }
 
   -- every record's version and link version is 0
-  versions : (r : Record) (b : List ℕ) → Held w (sizes .slots) (record { words = words; contents = contents }) r b → (r .p < (sizes .pages)) × (r .v ≡ 0) × (r .c ≡ 0) × (r .np ≡ r .p) × (r .nv ≡ 0)
+  versions : (r : Record) (b : List ℕ) → Held (sizes .width) (sizes .slots) (record { words = words; contents = contents }) r b → (r .p < (sizes .pages)) × (r .v ≡ 0) × (r .c ≡ 0) × (r .np ≡ r .p) × (r .nv ≡ 0)
   versions r b h =
       let g = given (h .0) r (h .1) (h .2) in
       let i = page-is (h .0) r g in
@@ -131,7 +132,7 @@ module _ (w : ℕ) (sizes : Sizes) (bounds : SizesFacts (sizes .pages) (sizes .s
   start-apart =
       λ j k a b lj lk ea eb p v. let i = page-is j a (given j a lj ea) .0 in let u = page-is k b (given k b lk eb) .0 in omega arith
 
-  start-core : Core (Held w (sizes .slots) flash) (commOf freshState) (sizes .pages) (freshModel w .kept)
+  start-core : Core (Held (sizes .width) (sizes .slots) flash) (commOf freshState) (sizes .pages) (freshModel (sizes .width) .kept)
   unfolding freshModel recordSound formattedRecord
   start-core =
       record {
@@ -149,7 +150,7 @@ module _ (w : ℕ) (sizes : Sizes) (bounds : SizesFacts (sizes .pages) (sizes .s
               let g = given (h .0) r (h .1) (h .2) in
               let u = given (i .0) s (i .1) (i .2) in
               let k : h .0 ≡ i .0 = sym (page-is (h .0) r g .0) ∙ p ∙ page-is (i .0) s u .0 in
-              (g .is ∙ ap formattedRecord k ∙ sym (u .is), sym (h .3) ∙ ap (bytesAt w contents) k ∙ i .3);
+              (g .is ∙ ap formattedRecord k ∙ sym (u .is), sym (h .3) ∙ ap (bytesAt (sizes .width) contents) k ∙ i .3);
           committed-kept = λ p l. let s = bounds .slots-least in
               (formattedRecord p, (p, omega arith, slot-of-page p (omega arith) l, bytes-of-page p (omega arith) l), (refl, sym (fresh-versions p .0)));
           committed-link = λ r b h e. let v = versions r b h .4 in omega arith;
@@ -163,7 +164,7 @@ module _ (w : ℕ) (sizes : Sizes) (bounds : SizesFacts (sizes .pages) (sizes .s
         };
       }
 
-  start-live : SharedLive recordView (sizes .pages) (Held w (sizes .slots) flash) freshState (IsEntered [])
+  start-live : SharedLive recordView (sizes .pages) (Held (sizes .width) (sizes .slots) flash) freshState (IsEntered [])
   start-live =
       record {
         within-used = record {
@@ -175,7 +176,7 @@ module _ (w : ℕ) (sizes : Sizes) (bounds : SizesFacts (sizes .pages) (sizes .s
         link-planned = λ p h y. absurd (never y (fresh-rests p));
       }
 
-  start : Live w sizes flash freshState (freshModel w)
+  start : Live sizes flash freshState (freshModel (sizes .width))
   unfolding freshModel
   start =
       record {
@@ -187,6 +188,6 @@ module _ (w : ℕ) (sizes : Sizes) (bounds : SizesFacts (sizes .pages) (sizes .s
       }
 
   -- the volume that an accepted format leaves
-  pub formatted-live : Live w sizes (formatted w sizes .flash) (stateAt (formatted w sizes .state)) (freshModel w)
+  pub formatted-live : Live sizes (formatted sizes .flash) (stateAt (formatted sizes .state)) (freshModel (sizes .width))
   unfolding formatted
-  formatted-live = live-words w sizes flash freshState (freshModel w) start
+  formatted-live = live-words sizes flash freshState (freshModel (sizes .width)) start

@@ -3,6 +3,7 @@ use Prim.Native.Nat.{ℕ}
 use mathlib.Core.Path.{_≡_}
 use mathlib.Core.List.{List, []}
 use mathlib.Core.Bool.{true, false}
+use Rattle.bounded.specs.Limits.{Widths}
 use Rattle.sizes.specs.declared.Sizes.{Sizes}
 use Rattle.record.specs.declared.Record.{Record}
 use Rattle.record.specs.Slot.{slotAt, bytesAt}
@@ -23,28 +24,29 @@ use Rattle.atomicity.specs.rings.Match.{IsEntered, RingsMatch}
 abbrev pub Held : (w S : ℕ) → Flash → Record → List ℕ → Type 0
 Held w S f = InSlots S (slotAt (f .words)) (bytesAt w (f .contents))
 
-module _ (w : ℕ) (sizes : Sizes) where
+module _ (sizes : Sizes) where
   -- The state st is known: it is sound, its committed versions are those of the records, and its flights are the model's open rings.
   pub record Live (f : Flash) (st : ℕ → PageState) (m : Model) : Type 0 where
     pub sound : StateFacts (sizes .pages) st
     pub no-twins : NoTwins (sizes .slots) (slotAt (f .words))
-    pub core : Core (Held w (sizes .slots) f) (commOf st) (sizes .pages) (m .kept)
-    pub live : SharedLive recordView (sizes .pages) (Held w (sizes .slots) f) st (IsEntered (m .rings))
+    pub core : Core (Held (sizes .width) (sizes .slots) f) (commOf st) (sizes .pages) (m .kept)
+    pub live : SharedLive recordView (sizes .pages) (Held (sizes .width) (sizes .slots) f) st (IsEntered (m .rings))
     pub rings : RingsMatch (sizes .pages) st (m .rings)
 
   -- The state is lost: some committed versions are those of the records, and the model has no open ring.
   pub record Lost (f : Flash) (m : Model) : Type 0 where
     pub comm : ℕ → ℕ
     pub no-twins : NoTwins (sizes .slots) (slotAt (f .words))
-    pub core : Core (Held w (sizes .slots) f) comm (sizes .pages) (m .kept)
+    pub core : Core (Held (sizes .width) (sizes .slots) f) comm (sizes .pages) (m .kept)
     pub closed : m .rings ≡ []
 
+module _ (widths : Widths) (sizes : Sizes) where
   -- the invariant of a volume whose state is known
   pub record Known (v : Volume) (m : Model) : Type 0 where
-    pub fits : Fits w sizes v
-    pub live : Live (v .flash) (stateAt (v .state)) m
+    pub fits : Fits widths sizes v
+    pub live : Live sizes (v .flash) (stateAt (v .state)) m
 
   -- the invariant of a run
   pub data Holding (x : World) (m : Model) : Type 0 where
-    known : x .lost ≡ false → Fits w sizes (x .volume) → Live (x .volume .flash) (stateAt (x .volume .state)) m → Holding x m
-    unknown : x .lost ≡ true → Fits w sizes (x .volume) → Lost (x .volume .flash) m → Holding x m
+    known : x .lost ≡ false → Fits widths sizes (x .volume) → Live sizes (x .volume .flash) (stateAt (x .volume .state)) m → Holding x m
+    unknown : x .lost ≡ true → Fits widths sizes (x .volume) → Lost sizes (x .volume .flash) m → Holding x m

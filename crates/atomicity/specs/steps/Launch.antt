@@ -68,7 +68,7 @@ listed-launchable P st pages sound ok rest left = record {
 
 -- ---- the step
 
-module _ (w : ℕ) (sizes : Sizes) (fits : (sizes .pages) ≤ noNumber) (f : Flash) (st : ℕ → PageState) (m : Model) (l : Live w sizes f st m)
+module _ (sizes : Sizes) (fits : (sizes .pages) ≤ noNumber) (f : Flash) (st : ℕ → PageState) (m : Model) (l : Live sizes f st m)
     (pages : List ℕ) (some : 1 ≤ length pages) (ok : Launchable (sizes .pages) st pages) where
   -- a listed page's state is the launched one
   listed-is : (p i : ℕ) → i < length pages → getD pages i 0 ≡ p → launched pages st p ≡ launchedPage (st p) (following pages i)
@@ -104,7 +104,7 @@ module _ (w : ℕ) (sizes : Sizes) (fits : (sizes .pages) ≤ noNumber) (f : Fla
             }));
       }
 
-  pub launched-live : Live w sizes f (launched pages st) (accept m (Call.Launch pages))
+  pub launched-live : Live sizes f (launched pages st) (accept m (Call.Launch pages))
   unfolding accept
   launched-live =
       record {

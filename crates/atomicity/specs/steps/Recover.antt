@@ -3,8 +3,9 @@ use Prim.Native.Nat.{ℕ, _*_, _<_}
 use native.Mathlib.Omega.{arith}
 use mathlib.Core.Path.{_≡_, refl, sym, ap, subst}
 use mathlib.Core.List.{List, []}
-use mathlib.Core.Bool.{false}
+use mathlib.Core.Bool.{true, false}
 use lib.ListN.{length}
+use Rattle.bounded.specs.Limits.{Widths}
 use Rattle.bounded.specs.Choice.{never}
 use Rattle.outcome.specs.Outcome.{Outcome}
 use Rattle.sizes.specs.declared.Sizes.{Sizes}
@@ -34,56 +35,56 @@ use Rattle.atomicity.specs.rings.Match.{IsEntered}
 use Rattle.atomicity.specs.rings.Close.{no-rings-match}
 use Rattle.atomicity.specs.steps.Invariant.{Held, Live}
 
-module _ (w : ℕ) (sizes : Sizes) (f : Flash) (bounds : SizesFacts (sizes .pages) (sizes .slots)) (size : Sized w (sizes .slots) f) (apart : NoTwins (sizes .slots) (slotAt (f .words)))
-    {comm : ℕ → ℕ} {kept : ℕ → List ℕ} (core : Core (Held w (sizes .slots) f) comm (sizes .pages) kept) (state : List ℕ) (long : length state ≡ 4 * (sizes .pages)) where
+module _ (widths : Widths) (sizes : Sizes) (f : Flash) (bounds : SizesFacts (sizes .pages) (sizes .slots)) (allowed : widths (sizes .width) ≡ true) (size : Sized (sizes .width) (sizes .slots) f) (apart : NoTwins (sizes .slots) (slotAt (f .words)))
+    {comm : ℕ → ℕ} {kept : ℕ → List ℕ} (core : Core (Held (sizes .width) (sizes .slots) f) comm (sizes .pages) kept) (state : List ℕ) (long : length state ≡ 4 * (sizes .pages)) where
   -- recover answers 0
-  pub accepts : recoverAnswer sizes (f .words) state ≡ 0
+  pub accepts : recoverAnswer widths sizes (f .words) state ≡ 0
   accepts =
-      recover-accepts (f .words) state (sizes-test sizes bounds) (words-fit-exactly (sizes .slots) (f .words) .1 (size .words-sized)) (state-fits-exactly (sizes .pages) state .1 long) apart core
+      recover-accepts widths sizes (f .words) state (sizes-test widths sizes bounds allowed) (words-fit-exactly (sizes .slots) (f .words) .1 (size .words-sized)) (state-fits-exactly (sizes .pages) state .1 long) apart core
 
   abbrev filled : List ℕ
   filled = stateWords (sizes .pages) (recovered (sizes .pages) (sizes .slots) (slotAt (f .words)))
 
-  fills : recoverOutcome sizes (f .words) state ≡ record { answer = 0; second = 0; left = filled }
-  fills = recover-fills sizes (f .words) state accepts
+  fills : recoverOutcome widths sizes (f .words) state ≡ record { answer = 0; second = 0; left = filled }
+  fills = recover-fills widths sizes (f .words) state accepts
 
   -- the volume with the state so filled
   abbrev found : Volume
   found = record { flash = f; state = filled }
 
-  pub found-fits : Fits w sizes found
-  found-fits = record { bounds = bounds; flash-sized = size; state-sized = length-stateWords (sizes .pages) (recovered (sizes .pages) (sizes .slots) (slotAt (f .words))) }
+  pub found-fits : Fits widths sizes found
+  found-fits = record { bounds = bounds; allowed = allowed; flash-sized = size; state-sized = length-stateWords (sizes .pages) (recovered (sizes .pages) (sizes .slots) (slotAt (f .words))) }
 
   -- what promise 3 concludes
-  pub recovers : Recovers w sizes f kept state
+  pub recovers : Recovers widths sizes f kept state
   recovers =
       record {
         recover-answers = ap (λ (o : Outcome (List ℕ)). o .answer) fills;
         reads-kept = λ page out below room.
-            subst (λ (o : Outcome (List ℕ)). readOutcome w sizes (record { flash = f; state = o .left }) page out ≡ record { answer = 0; second = 0; left = kept page }) (sym fills)
-            (read-outcome-kept w sizes found core refl page out below (fits-test w sizes found found-fits) room);
+            subst (λ (o : Outcome (List ℕ)). readOutcome widths sizes (record { flash = f; state = o .left }) page out ≡ record { answer = 0; second = 0; left = kept page }) (sym fills)
+            (read-outcome-kept sizes found core refl widths page out below (fits-test widths sizes found found-fits) room);
       }
 
   -- the committed versions found are those of the core
   found-comm : (p : ℕ) → p < (sizes .pages) → comm p ≡ stateAt filled p .committed
   unfolding atRest
-  found-comm p h = sym (ap (λ (s : PageState). s .committed) (filled-page w sizes found core refl p h))
+  found-comm p h = sym (ap (λ (s : PageState). s .committed) (filled-page sizes found core refl p h))
 
   found-used : (p : ℕ) → p < (sizes .pages) → stateAt filled p .used ≡ usedOf (sizes .slots) (slotAt (f .words)) p
   unfolding atRest
-  found-used p h = ap (λ (s : PageState). s .used) (filled-page w sizes found core refl p h)
+  found-used p h = ap (λ (s : PageState). s .used) (filled-page sizes found core refl p h)
 
   -- no page is in flight
   at-rest : (p : ℕ) → p < (sizes .pages) → inFlight (stateAt filled p) ≡ false
   unfolding atRest inFlight
-  at-rest p h = ap inFlight (filled-page w sizes found core refl p h)
+  at-rest p h = ap inFlight (filled-page sizes found core refl p h)
 
-  found-core : Core (Held w (sizes .slots) f) (commOf (stateAt filled)) (sizes .pages) kept
+  found-core : Core (Held (sizes .width) (sizes .slots) f) (commOf (stateAt filled)) (sizes .pages) kept
   found-core = core-same (record { forth = λ r b h. h; back = λ r b h. h; same-comm = found-comm; same-kept = λ p h. refl }) core
 
-  found-live : (Entered : ℕ → List ℕ → Type 0) → SharedLive recordView (sizes .pages) (Held w (sizes .slots) f) (stateAt filled) Entered
+  found-live : (Entered : ℕ → List ℕ → Type 0) → SharedLive recordView (sizes .pages) (Held (sizes .width) (sizes .slots) f) (stateAt filled) Entered
   found-live Entered =
-      let u = found-within-used (sizes .slots) (slotAt (f .words)) (bytesAt w (f .contents)) in
+      let u = found-within-used (sizes .slots) (slotAt (f .words)) (bytesAt (sizes .width) (f .contents)) in
       record {
         within-used = record {
           version-used = λ r b h. let l = u .version-used r b h in
@@ -97,13 +98,13 @@ module _ (w : ℕ) (sizes : Sizes) (f : Flash) (bounds : SizesFacts (sizes .page
       }
 
   -- the state is known again, with no open ring
-  pub found-again : (m : Model) → m .kept ≡ kept → Live w sizes f (stateAt filled) (closeAll m)
+  pub found-again : (m : Model) → m .kept ≡ kept → Live sizes f (stateAt filled) (closeAll m)
   unfolding closeAll
   found-again m e =
       record {
-        sound = state-sound-facts (sizes .pages) (stateAt filled) (filled-sound w sizes found core refl);
+        sound = state-sound-facts (sizes .pages) (stateAt filled) (filled-sound sizes found core refl);
         no-twins = apart;
-        core = subst (λ (k : ℕ → List ℕ). Core (Held w (sizes .slots) f) (commOf (stateAt filled)) (sizes .pages) k) (sym e) found-core;
+        core = subst (λ (k : ℕ → List ℕ). Core (Held (sizes .width) (sizes .slots) f) (commOf (stateAt filled)) (sizes .pages) k) (sym e) found-core;
         live = found-live (IsEntered []);
         rings = no-rings-match (sizes .pages) (stateAt filled) at-rest;
       }

@@ -6,6 +6,7 @@ use mathlib.Core.List.{List, [], _∷_, _++_, append-nil}
 use mathlib.Core.Bool.{Bool, true, false, _&&_}
 use lib.Dec.{eqb}
 use borrow.Author.Tests.{eq-eqb, ne-eqb, lt-ltb, le-ltb}
+use Rattle.bounded.specs.Limits.{Widths}
 use Rattle.bounded.specs.Choice.{either-left}
 use Rattle.outcome.specs.Outcome.{Outcome}
 use Rattle.outcome.specs.OutcomeLaws.{settled-answer}
@@ -25,40 +26,40 @@ use Rattle.atomicity.specs.Companions.{doneIn}
 
 -- ---- a call in a run
 
-module _ (w : ℕ) (sizes : Sizes) (v : Volume) where
+module _ (widths : Widths) (sizes : Sizes) (v : Volume) where
   -- a call's answer in a run is the call's own
   unfoldable pub answer-is : (call : Call) → ℕ
-  answer-is (Call.Launch pages) = launchAnswer sizes (v .state) pages
-  answer-is (Call.Write page slot bytes) = writeAnswer w sizes v page slot bytes
-  answer-is (Call.Withdraw page) = withdrawAnswer sizes (v .state) page
-  answer-is (Call.Erase slots) = eraseAnswer w sizes v slots
-  answer-is Call.Recover = recoverAnswer sizes (v .flash .words) (v .state)
+  answer-is (Call.Launch pages) = launchAnswer widths sizes (v .state) pages
+  answer-is (Call.Write page slot bytes) = writeAnswer widths sizes v page slot bytes
+  answer-is (Call.Withdraw page) = withdrawAnswer widths sizes (v .state) page
+  answer-is (Call.Erase slots) = eraseAnswer widths sizes v slots
+  answer-is Call.Recover = recoverAnswer widths sizes (v .flash .words) (v .state)
 
-  pub performs : (call : Call) → perform w sizes v call .answer ≡ answer-is call
+  pub performs : (call : Call) → perform widths sizes v call .answer ≡ answer-is call
   unfolding perform withState withFlash answer-is launchOutcome writeOutcome withdrawOutcome eraseOutcome recoverOutcome
-  performs (Call.Launch pages) = settled-answer (launchAnswer sizes (v .state) pages) _ _ _ _
-  performs (Call.Write page slot bytes) = settled-answer (writeAnswer w sizes v page slot bytes) _ _ _ _
-  performs (Call.Withdraw page) = settled-answer (withdrawAnswer sizes (v .state) page) _ _ _ _
-  performs (Call.Erase slots) = settled-answer (eraseAnswer w sizes v slots) _ _ _ _
-  performs Call.Recover = settled-answer (recoverAnswer sizes (v .flash .words) (v .state)) _ _ _ _
+  performs (Call.Launch pages) = settled-answer (launchAnswer widths sizes (v .state) pages) _ _ _ _
+  performs (Call.Write page slot bytes) = settled-answer (writeAnswer widths sizes v page slot bytes) _ _ _ _
+  performs (Call.Withdraw page) = settled-answer (withdrawAnswer widths sizes (v .state) page) _ _ _ _
+  performs (Call.Erase slots) = settled-answer (eraseAnswer widths sizes v slots) _ _ _ _
+  performs Call.Recover = settled-answer (recoverAnswer widths sizes (v .flash .words) (v .state)) _ _ _ _
 
   -- a refused call leaves the volume as it was
-  pub refused-leaves : (call : Call) → ¬ (answer-is call ≡ 0) → perform w sizes v call .left ≡ v
+  pub refused-leaves : (call : Call) → ¬ (answer-is call ≡ 0) → perform widths sizes v call .left ≡ v
   unfolding perform withState withFlash answer-is
-  refused-leaves (Call.Launch pages) n = ap (λ (o : Outcome (List ℕ)). record { flash = v .flash; state = o .left }) (launch-refused sizes (v .state) pages n)
-  refused-leaves (Call.Write page slot bytes) n = ap (λ (o : Outcome Volume). o .left) (write-refused w sizes v page slot bytes n)
-  refused-leaves (Call.Withdraw page) n = ap (λ (o : Outcome (List ℕ)). record { flash = v .flash; state = o .left }) (withdraw-refused sizes (v .state) page n)
-  refused-leaves (Call.Erase slots) n = ap (λ (o : Outcome Flash). record { flash = o .left; state = v .state }) (erase-refused w sizes v slots n)
-  refused-leaves Call.Recover n = ap (λ (o : Outcome (List ℕ)). record { flash = v .flash; state = o .left }) (recover-refused sizes (v .flash .words) (v .state) n)
+  refused-leaves (Call.Launch pages) n = ap (λ (o : Outcome (List ℕ)). record { flash = v .flash; state = o .left }) (launch-refused widths sizes (v .state) pages n)
+  refused-leaves (Call.Write page slot bytes) n = ap (λ (o : Outcome Volume). o .left) (write-refused widths sizes v page slot bytes n)
+  refused-leaves (Call.Withdraw page) n = ap (λ (o : Outcome (List ℕ)). record { flash = v .flash; state = o .left }) (withdraw-refused widths sizes (v .state) page n)
+  refused-leaves (Call.Erase slots) n = ap (λ (o : Outcome Flash). record { flash = o .left; state = v .state }) (erase-refused widths sizes v slots n)
+  refused-leaves Call.Recover n = ap (λ (o : Outcome (List ℕ)). record { flash = v .flash; state = o .left }) (recover-refused widths sizes (v .flash .words) (v .state) n)
 
   -- it has no stages, and an accepted one those planned
-  pub refused-stages : (call : Call) → ¬ (answer-is call ≡ 0) → flashStages w sizes v call ≡ []
+  pub refused-stages : (call : Call) → ¬ (answer-is call ≡ 0) → flashStages widths sizes v call ≡ []
   unfolding flashStages
-  refused-stages call n = rw (ne-eqb (perform w sizes v call .answer) 0 (λ e. n (sym (performs call) ∙ e)))
+  refused-stages call n = rw (ne-eqb (perform widths sizes v call .answer) 0 (λ e. n (sym (performs call) ∙ e)))
 
-  pub accepted-stages : (call : Call) → answer-is call ≡ 0 → flashStages w sizes v call ≡ plannedStages v call
+  pub accepted-stages : (call : Call) → answer-is call ≡ 0 → flashStages widths sizes v call ≡ plannedStages v call
   unfolding flashStages
-  accepted-stages call e = rw (eq-eqb (perform w sizes v call .answer) 0 (performs call ∙ e))
+  accepted-stages call e = rw (eq-eqb (perform widths sizes v call .answer) 0 (performs call ∙ e))
 
 -- ---- steps done
 

@@ -31,8 +31,8 @@ module _ (sizes : Sizes) (st st′ : ℕ → PageState) (same : (p : ℕ) → p 
             });
       }
 
-  live-below : (w : ℕ) (f : Flash) (m : Model) → Live w sizes f st m → Live w sizes f st′ m
-  live-below w f m l =
+  live-below : (f : Flash) (m : Model) → Live sizes f st m → Live sizes f st′ m
+  live-below f m l =
       record {
         sound = facts-cong (sizes .pages) st st′ (λ p h. sym (same p h)) (l .sound);
         no-twins = l .no-twins;
@@ -42,5 +42,5 @@ module _ (sizes : Sizes) (st st′ : ℕ → PageState) (same : (p : ℕ) → p 
       }
 
 -- the state that the words of st say
-pub live-words : (w : ℕ) (sizes : Sizes) (f : Flash) (st : ℕ → PageState) (m : Model) → Live w sizes f st m → Live w sizes f (stateAt (stateWords (sizes .pages) st)) m
-live-words w sizes f st m l = live-below sizes st (stateAt (stateWords (sizes .pages) st)) (λ p h. stateAt-words (sizes .pages) st p h) w f m l
+pub live-words : (sizes : Sizes) (f : Flash) (st : ℕ → PageState) (m : Model) → Live sizes f st m → Live sizes f (stateAt (stateWords (sizes .pages) st)) m
+live-words sizes f st m l = live-below sizes st (stateAt (stateWords (sizes .pages) st)) (λ p h. stateAt-words (sizes .pages) st p h) f m l

@@ -21,7 +21,7 @@ use Rattle.atomicity.specs.rings.Match.{IsEntered}
 use Rattle.atomicity.specs.rings.Close.{close-entered, withdraw-match}
 use Rattle.atomicity.specs.steps.Invariant.{Live}
 
-module _ (w : ℕ) (sizes : Sizes) (f : Flash) (st : ℕ → PageState) (m : Model) (l : Live w sizes f st m) (page : ℕ) (y : Flies (sizes .pages) st page) where
+module _ (sizes : Sizes) (f : Flash) (st : ℕ → PageState) (m : Model) (l : Live sizes f st m) (page : ℕ) (y : Flies (sizes .pages) st page) where
   on-it : (q : ℕ) → onCycle (sizes .pages) st page q ≡ true → withdrawn (sizes .pages) st page q ≡ withdrawnPage (st q)
   unfolding withdrawn
   on-it q e = rw e
@@ -59,7 +59,7 @@ module _ (w : ℕ) (sizes : Sizes) (f : Flash) (st : ℕ → PageState) (m : Mod
             });
       }
 
-  pub withdrawn-live : Live w sizes f (withdrawn (sizes .pages) st page) (accept m (Call.Withdraw page))
+  pub withdrawn-live : Live sizes f (withdrawn (sizes .pages) st page) (accept m (Call.Withdraw page))
   unfolding accept
   withdrawn-live =
       record {

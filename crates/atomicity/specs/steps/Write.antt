@@ -33,40 +33,40 @@ use Rattle.atomicity.specs.rings.Write.{write-open-kept, write-open-matc
 use Rattle.atomicity.specs.steps.Invariant.{Held, Live}
 use Rattle.atomicity.specs.steps.Storing.{store-adds, store-apart}
 
-module _ (w : ℕ) (sizes : Sizes) (f : Flash) (size : Sized w (sizes .slots) f) (st : ℕ → PageState) (m : Model) (l : Live w sizes f st m)
+module _ (sizes : Sizes) (f : Flash) (size : Sized (sizes .width) (sizes .slots) f) (st : ℕ → PageState) (m : Model) (l : Live sizes f st m)
     (page slot : ℕ) (bytes : List ℕ) (y : Flies (sizes .pages) st page) (unwritten : isWritten (st page) ≡ false)
-    (inside : slot < (sizes .slots)) (whole : length bytes ≡ w) (free : slotAt (f .words) slot ≡ Blank) where
+    (inside : slot < (sizes .slots)) (whole : length bytes ≡ sizes .width) (free : slotAt (f .words) slot ≡ Blank) where
   -- the planned record is the one that the step stores
   plan-is : planOf st page ≡ plan recordView st page
   unfolding planOf
   plan-is = refl
 
   abbrev after : Flash
-  after = apply w f (Step.Store slot (plan recordView st page) bytes)
+  after = apply (sizes .width) f (Step.Store slot (plan recordView st page) bytes)
 
   version : plan recordView st page .v ≤ highestVersion
   version = sound-facts (sizes .pages) (plan recordView st page) (planned-sound (sizes .pages) st (l .sound) page y) .v-most
 
-  writes : Writes recordView (sizes .pages) (Held w (sizes .slots) f) (Held w (sizes .slots) after) st page bytes
+  writes : Writes recordView (sizes .pages) (Held (sizes .width) (sizes .slots) f) (Held (sizes .width) (sizes .slots) after) st page bytes
   writes =
       record {
         state = l .sound;
         flies = y;
         unwritten = unwritten;
         plan-sound = planned-sound (sizes .pages) st (l .sound) page y;
-        adds = store-adds w (sizes .slots) f size slot inside (plan recordView st page) bytes whole version free;
+        adds = store-adds (sizes .width) (sizes .slots) f size slot inside (plan recordView st page) bytes whole version free;
       }
 
   after-apart : NoTwins (sizes .slots) (slotAt (after .words))
   unfolding plannedRecord
   after-apart =
-      store-apart w (sizes .slots) f size slot inside (plan recordView st page) bytes whole version free (l .no-twins)
+      store-apart (sizes .width) (sizes .slots) f size slot inside (plan recordView st page) bytes whole version free (l .no-twins)
       (λ x b h p v. not-there recordView writes (l .core .shared) (l .live) x b h p v)
 
   abbrev model : Model
   model = enter page bytes (m .kept) (m .rings)
 
-  open-live : completes (sizes .pages) st page ≡ false → Live w sizes after (afterWrite (sizes .pages) st page) model
+  open-live : completes (sizes .pages) st page ≡ false → Live sizes after (afterWrite (sizes .pages) st page) model
   open-live e =
       let same : (q : ℕ) → q < (sizes .pages) → afterWrite (sizes .pages) st page q ≡ marked st page q = λ q h. after-write-not (sizes .pages) st (l .sound) page y e q in
       let marks = marks-of (sizes .pages) st (l .sound) page y same (write-open-entered (sizes .pages) st (m .rings) (l .sound) (l .rings) page y bytes (m .kept) e) in
@@ -83,7 +83,7 @@ module _ (w : ℕ) (sizes : Sizes) (f : Flash) (size : Sized w (sizes .slots) f)
         rings = write-open-match (sizes .pages) st (m .rings) (l .sound) (l .rings) page y bytes (m .kept) e;
       }
 
-  done-live : completes (sizes .pages) st page ≡ true → Live w sizes after (afterWrite (sizes .pages) st page) model
+  done-live : completes (sizes .pages) st page ≡ true → Live sizes after (afterWrite (sizes .pages) st page) model
   done-live e =
       let same : (q : ℕ) → q < (sizes .pages) → afterWrite (sizes .pages) st page q ≡ completed (sizes .pages) st page q = λ q h. after-write-done (sizes .pages) st (l .sound) page y e q in
       let r = l .rings in
@@ -100,8 +100,8 @@ module _ (w : ℕ) (sizes : Sizes) (f : Flash) (size : Sized w (sizes .slots) f)
         rings = write-done-match (sizes .pages) st (m .rings) (l .sound) r page y bytes (m .kept) e;
       }
 
-  pub written-live : Live w sizes (apply w f (writeStep st page slot bytes)) (afterWrite (sizes .pages) st page) model
+  pub written-live : Live sizes (apply (sizes .width) f (writeStep st page slot bytes)) (afterWrite (sizes .pages) st page) model
   unfolding writeStep
   written-live =
-      subst (λ (r : Record). Live w sizes (apply w f (Step.Store slot r bytes)) (afterWrite (sizes .pages) st page) model) (sym plan-is)
+      subst (λ (r : Record). Live sizes (apply (sizes .width) f (Step.Store slot r bytes)) (afterWrite (sizes .pages) st page) model) (sym plan-is)
       (on-test (completes (sizes .pages) st page) done-live open-live)

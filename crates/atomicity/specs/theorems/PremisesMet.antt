@@ -5,6 +5,7 @@ use mathlib.Core.List.{List, [], _∷_, _++_, map}
 use mathlib.Core.Bool.{Bool, true, false, cond}
 use lib.ListN.{length}
 use borrow.Author.Tests.{eq-eqb}
+use Rattle.bounded.specs.Limits.{Widths}
 use Rattle.bounded.specs.Choice.{both, both-left, both-right, not-yes}
 use Rattle.outcome.specs.OutcomeLaws.{settled-answer}
 use Rattle.sizes.specs.declared.Sizes.{Sizes}
@@ -17,7 +18,7 @@ use Rattle.atomicity.specs.Promise.{Premises}
 use Rattle.atomicity.specs.Companions.{MayFollow, StateKnown, PremisesMet}
 use Rattle.atomicity.specs.theorems.Promise.{own-state}
 
-module _ (w : ℕ) (sizes : Sizes) where
+module _ (widths : Widths) (sizes : Sizes) where
   -- ---- event by event
 
   call-kept : (lost : Bool) (c : Call) → lost ≡ false → cond lost (isRecover c) true ≡ true
@@ -28,61 +29,61 @@ module _ (w : ℕ) (sizes : Sizes) where
   recover-kept true = refl
   recover-kept false = refl
 
-  still-known : (x : World) (c : Call) → x .lost ≡ false → happens w sizes x (Event.Returns c) .lost ≡ false
+  still-known : (x : World) (c : Call) → x .lost ≡ false → happens widths sizes x (Event.Returns c) .lost ≡ false
   unfolding happens stillLost
   still-known x c e = rw e
 
   -- calls alone never lose the state, so a list of them keeps to the premises
-  calls-keep : (x : World) (list : List Call) → x .lost ≡ false → keepsPremises w sizes x (map Event.Returns list) ≡ true
+  calls-keep : (x : World) (list : List Call) → x .lost ≡ false → keepsPremises widths sizes x (map Event.Returns list) ≡ true
   unfolding keepsPremises keepsTo
   calls-keep x [] e = refl
-  calls-keep x (c ∷ list) e = both (call-kept (x .lost) c e) (calls-keep (happens w sizes x (Event.Returns c)) list (still-known x c e))
+  calls-keep x (c ∷ list) e = both (call-kept (x .lost) c e) (calls-keep (happens widths sizes x (Event.Returns c)) list (still-known x c e))
 
   -- an event behind a list that keeps to them
-  keeps-more : (x : World) (l : List Event) (e : Event) → keepsPremises w sizes x l ≡ true → keepsTo (sizes .pages) (after w sizes x l) e ≡ true → keepsPremises w sizes x (l ++ e ∷ []) ≡ true
+  keeps-more : (x : World) (l : List Event) (e : Event) → keepsPremises widths sizes x l ≡ true → keepsTo (sizes .pages) (after widths sizes x l) e ≡ true → keepsPremises widths sizes x (l ++ e ∷ []) ≡ true
   unfolding keepsPremises after
   keeps-more x [] e h k = both k refl
   keeps-more x (f ∷ l) e h k =
-      both (both-left (keepsTo (sizes .pages) x f) (keepsPremises w sizes (happens w sizes x f) l) h)
-      (keeps-more (happens w sizes x f) l e (both-right (keepsTo (sizes .pages) x f) (keepsPremises w sizes (happens w sizes x f) l) h) k)
+      both (both-left (keepsTo (sizes .pages) x f) (keepsPremises widths sizes (happens widths sizes x f) l) h)
+      (keeps-more (happens widths sizes x f) l e (both-right (keepsTo (sizes .pages) x f) (keepsPremises widths sizes (happens widths sizes x f) l) h) k)
 
-  after-more : (x : World) (l : List Event) (e : Event) → after w sizes x (l ++ e ∷ []) ≡ happens w sizes (after w sizes x l) e
+  after-more : (x : World) (l : List Event) (e : Event) → after widths sizes x (l ++ e ∷ []) ≡ happens widths sizes (after widths sizes x l) e
   unfolding after
   after-more x [] e = refl
-  after-more x (f ∷ l) e = after-more (happens w sizes x f) l e
+  after-more x (f ∷ l) e = after-more (happens widths sizes x f) l e
 
   module _ (v : Volume) where
-    follows : (events : List Event) (e : Event) → Premises w sizes v events → keepsTo (sizes .pages) (after w sizes (started w sizes v) events) e ≡ true → MayFollow w sizes v events e
-    follows events e p k = record { formatted = p .formatted; keeps = keeps-more (started w sizes v) events e (p .keeps) k }
+    follows : (events : List Event) (e : Event) → Premises widths sizes v events → keepsTo (sizes .pages) (after widths sizes (started widths sizes v) events) e ≡ true → MayFollow widths sizes v events e
+    follows events e p k = record { formatted = p .formatted; keeps = keeps-more (started widths sizes v) events e (p .keeps) k }
 
     -- a volume whose P, S and lengths are right formats
-    formats : Fits w sizes v → formatOutcome w sizes v .answer ≡ 0
+    formats : Fits widths sizes v → formatOutcome widths sizes v .answer ≡ 0
     unfolding formatOutcome formatAnswer
-    formats f = settled-answer (formatAnswer w sizes v) 0 0 v (formatted w sizes) ∙ rw (not-yes (fits-test w sizes v f))
+    formats f = settled-answer (formatAnswer widths sizes v) 0 0 v (formatted sizes) ∙ rw (not-yes (fits-test widths sizes v f))
 
   known-again : (lost : Bool) (answer : ℕ) → answer ≡ 0 → stillLost lost Call.Recover answer ≡ false
   unfolding stillLost isRecover
   known-again true answer e = rw e
   known-again false answer e = refl
 
-  finds : (v : Volume) (events : List Event) → Premises w sizes v events → StateKnown w sizes v (events ++ Event.Returns Call.Recover ∷ [])
+  finds : (v : Volume) (events : List Event) → Premises widths sizes v events → StateKnown widths sizes v (events ++ Event.Returns Call.Recover ∷ [])
   unfolding happens perform withState
   finds v events p =
-      rw (after-more (started w sizes v) events (Event.Returns Call.Recover))
-      (known-again (after w sizes (started w sizes v) events .lost) _ (own-state w sizes v events p .recover-answers))
+      rw (after-more (started widths sizes v) events (Event.Returns Call.Recover))
+      (known-again (after widths sizes (started widths sizes v) events .lost) _ (own-state widths sizes v events p .recover-answers))
 
 pub premises-met : PremisesMet
 unfolding keepsTo keepsPremises started
 premises-met =
     record {
-      at-first = λ w sizes v f. record { formatted = formats w sizes v f; keeps = refl };
-      calls = λ w sizes v f list. record { formatted = formats w sizes v f; keeps = calls-keep w sizes (started w sizes v) list refl };
-      crash = λ w sizes v events p state e. follows w sizes v events (Event.Crash state) p (eq-eqb (length state) (4 * (sizes .pages)) e);
-      recover = λ w sizes v events p. follows w sizes v events (Event.Returns Call.Recover) p (recover-kept w sizes (after w sizes (started w sizes v) events .lost));
-      crashed-recover = λ w sizes v events p stage done state e. follows w sizes v events (Event.CrashIn Call.Recover stage done state) p
-          (both (recover-kept w sizes (after w sizes (started w sizes v) events .lost)) (eq-eqb (length state) (4 * (sizes .pages)) e));
-      call = λ w sizes v events p k c. follows w sizes v events (Event.Returns c) p (call-kept w sizes (after w sizes (started w sizes v) events .lost) c k);
-      crashed-call = λ w sizes v events p k c stage done state e. follows w sizes v events (Event.CrashIn c stage done state) p
-          (both (call-kept w sizes (after w sizes (started w sizes v) events .lost) c k) (eq-eqb (length state) (4 * (sizes .pages)) e));
-      recover-finds = λ w sizes v events p. finds w sizes v events p;
+      at-first = λ widths sizes v f. record { formatted = formats widths sizes v f; keeps = refl };
+      calls = λ widths sizes v f list. record { formatted = formats widths sizes v f; keeps = calls-keep widths sizes (started widths sizes v) list refl };
+      crash = λ widths sizes v events p state e. follows widths sizes v events (Event.Crash state) p (eq-eqb (length state) (4 * (sizes .pages)) e);
+      recover = λ widths sizes v events p. follows widths sizes v events (Event.Returns Call.Recover) p (recover-kept widths sizes (after widths sizes (started widths sizes v) events .lost));
+      crashed-recover = λ widths sizes v events p stage done state e. follows widths sizes v events (Event.CrashIn Call.Recover stage done state) p
+          (both (recover-kept widths sizes (after widths sizes (started widths sizes v) events .lost)) (eq-eqb (length state) (4 * (sizes .pages)) e));
+      call = λ widths sizes v events p k c. follows widths sizes v events (Event.Returns c) p (call-kept widths sizes (after widths sizes (started widths sizes v) events .lost) c k);
+      crashed-call = λ widths sizes v events p k c stage done state e. follows widths sizes v events (Event.CrashIn c stage done state) p
+          (both (call-kept widths sizes (after widths sizes (started widths sizes v) events .lost) c k) (eq-eqb (length state) (4 * (sizes .pages)) e));
+      recover-finds = λ widths sizes v events p. finds widths sizes v events p;
     }

@@ -5,6 +5,7 @@ use mathlib.Core.List.{List, [], _∷_}
 use mathlib.Core.Bool.{true, false, not}
 use lib.ListN.{length}
 use borrow.Author.Tests.{not-false}
+use Rattle.bounded.specs.Limits.{Widths}
 use Rattle.bounded.specs.Choice.{both-left, both-right}
 use Rattle.outcome.specs.Outcome.{Outcome}
 use Rattle.outcome.specs.OutcomeLaws.{passed, settled-answer}
@@ -21,46 +22,46 @@ use Rattle.atomicity.specs.steps.Format.{formatted-fits, formatted-live}
 use Rattle.atomicity.specs.steps.Recover.{recovers}
 use Rattle.atomicity.specs.steps.Event.{event-keeps}
 
-module _ (w : ℕ) (sizes : Sizes) where
+module _ (widths : Widths) (sizes : Sizes) where
   -- every list of events keeps the invariant
-  list-keeps : (x : World) (m : Model) (events : List Event) → Holding w sizes x m → keepsPremises w sizes x events ≡ true → Holding w sizes (after w sizes x events) (modelAfter w sizes x m events)
+  list-keeps : (x : World) (m : Model) (events : List Event) → Holding widths sizes x m → keepsPremises widths sizes x events ≡ true → Holding widths sizes (after widths sizes x events) (modelAfter widths sizes x m events)
   unfolding after modelAfter keepsPremises
   list-keeps x m [] h k = h
   list-keeps x m (e ∷ events) h k =
-      list-keeps (happens w sizes x e) (learns m (told w sizes x e)) events
-      (event-keeps w sizes x m e h (both-left (keepsTo (sizes .pages) x e) (keepsPremises w sizes (happens w sizes x e) events) k))
-      (both-right (keepsTo (sizes .pages) x e) (keepsPremises w sizes (happens w sizes x e) events) k)
+      list-keeps (happens widths sizes x e) (learns m (told widths sizes x e)) events
+      (event-keeps widths sizes x m e h (both-left (keepsTo (sizes .pages) x e) (keepsPremises widths sizes (happens widths sizes x e) events) k))
+      (both-right (keepsTo (sizes .pages) x e) (keepsPremises widths sizes (happens widths sizes x e) events) k)
 
   -- under the invariant promise 3's conclusion holds
-  holding-recovers : (x : World) (m : Model) → Holding w sizes x m → (state : List ℕ) → length state ≡ 4 * (sizes .pages) → Recovers w sizes (x .volume .flash) (m .kept) state
-  holding-recovers x m (known found fits live) state long = recovers w sizes (x .volume .flash) (fits .bounds) (fits .flash-sized) (live .no-twins) (live .core) state long
-  holding-recovers x m (unknown lost fits l) state long = recovers w sizes (x .volume .flash) (fits .bounds) (fits .flash-sized) (l .no-twins) (l .core) state long
+  holding-recovers : (x : World) (m : Model) → Holding widths sizes x m → (state : List ℕ) → length state ≡ 4 * (sizes .pages) → Recovers widths sizes (x .volume .flash) (m .kept) state
+  holding-recovers x m (known found fits live) state long = recovers widths sizes (x .volume .flash) (fits .bounds) (fits .allowed) (fits .flash-sized) (live .no-twins) (live .core) state long
+  holding-recovers x m (unknown lost fits l) state long = recovers widths sizes (x .volume .flash) (fits .bounds) (fits .allowed) (fits .flash-sized) (l .no-twins) (l .core) state long
 
   -- the start
-  starts : (v : Volume) → formatOutcome w sizes v .answer ≡ 0 → Holding w sizes (started w sizes v) (freshModel w)
+  starts : (v : Volume) → formatOutcome widths sizes v .answer ≡ 0 → Holding widths sizes (started widths sizes v) (freshModel (sizes .width))
   unfolding started formatAnswer formatOutcome
   starts v e =
-      let a : formatAnswer w sizes v ≡ 0 = sym (settled-answer (formatAnswer w sizes v) 0 0 v (formatted w sizes)) ∙ e in
-      let bounds = fits-facts w sizes v (not-false (volumeFits w sizes v) (passed (not (volumeFits w sizes v)) _ _ a .0)) .bounds in
-      subst (λ (o : Outcome Volume). Holding w sizes (record { volume = o .left; lost = false }) (freshModel w)) (sym (format-done w sizes v a))
-      (known refl (formatted-fits w sizes bounds) (formatted-live w sizes bounds))
+      let a : formatAnswer widths sizes v ≡ 0 = sym (settled-answer (formatAnswer widths sizes v) 0 0 v (formatted sizes)) ∙ e in
+      let fits = fits-facts widths sizes v (not-false (volumeFits widths sizes v) (passed (not (volumeFits widths sizes v)) _ _ a .0)) in
+      subst (λ (o : Outcome Volume). Holding widths sizes (record { volume = o .left; lost = false }) (freshModel (sizes .width))) (sym (format-done widths sizes v a))
+      (known refl (formatted-fits sizes (fits .bounds) widths (fits .allowed)) (formatted-live sizes (fits .bounds)))
 
 -- The invariant holds after every list of events under the premises.
-pub reached : (w : ℕ) (sizes : Sizes) (v : Volume) (events : List Event) → Premises w sizes v events → Holding w sizes (after w sizes (started w sizes v) events) (modelAfter w sizes (started w sizes v) (freshModel w) events)
-reached w sizes v events p = list-keeps w sizes (started w sizes v) (freshModel w) events (starts w sizes v (p .formatted)) (p .keeps)
+pub reached : (widths : Widths) (sizes : Sizes) (v : Volume) (events : List Event) → Premises widths sizes v events → Holding widths sizes (after widths sizes (started widths sizes v) events) (modelAfter widths sizes (started widths sizes v) (freshModel (sizes .width)) events)
+reached widths sizes v events p = list-keeps widths sizes (started widths sizes v) (freshModel (sizes .width)) events (starts widths sizes v (p .formatted)) (p .keeps)
 
 -- the state has its 4×P words after every list
-holding-sized : (w : ℕ) (sizes : Sizes) (x : World) (m : Model) → Holding w sizes x m → length (x .volume .state) ≡ 4 * (sizes .pages)
-holding-sized w sizes x m (known found fits live) = fits .state-sized
-holding-sized w sizes x m (unknown lost fits l) = fits .state-sized
+holding-sized : (widths : Widths) (sizes : Sizes) (x : World) (m : Model) → Holding widths sizes x m → length (x .volume .state) ≡ 4 * (sizes .pages)
+holding-sized widths sizes x m (known found fits live) = fits .state-sized
+holding-sized widths sizes x m (unknown lost fits l) = fits .state-sized
 
 -- Promise 3, whole.
 pub promise-3 : Promise3
-promise-3 w sizes v events p state long =
-    holding-recovers w sizes (after w sizes (started w sizes v) events) (modelAfter w sizes (started w sizes v) (freshModel w) events) (reached w sizes v events p) state long
+promise-3 widths sizes v events p state long =
+    holding-recovers widths sizes (after widths sizes (started widths sizes v) events) (modelAfter widths sizes (started widths sizes v) (freshModel (sizes .width)) events) (reached widths sizes v events p) state long
 
 -- … and on the volume's own state.
 pub own-state : OwnState
-own-state w sizes v events p =
-    promise-3 w sizes v events p (after w sizes (started w sizes v) events .volume .state)
-    (holding-sized w sizes (after w sizes (started w sizes v) events) (modelAfter w sizes (started w sizes v) (freshModel w) events) (reached w sizes v events p))
+own-state widths sizes v events p =
+    promise-3 widths sizes v events p (after widths sizes (started widths sizes v) events .volume .state)
+    (holding-sized widths sizes (after widths sizes (started widths sizes v) events) (modelAfter widths sizes (started widths sizes v) (freshModel (sizes .width)) events) (reached widths sizes v events p))

@@ -5,6 +5,7 @@ use mathlib.Core.Path.{_≡_, refl, sym, ap, _∙_}
 use mathlib.Core.List.{List, [], _∷_, _++_, append-nil, flatten}
 use mathlib.Core.Bool.{Bool, true}
 use lib.ListN.{length}
+use Rattle.bounded.specs.Limits.{Widths}
 use Rattle.bounded.specs.Choice.{on-eq, on-lt, never}
 use Rattle.outcome.specs.Outcome.{Outcome}
 use Rattle.sizes.specs.declared.Sizes.{Sizes}
@@ -18,23 +19,23 @@ use Rattle.atomicity.specs.Run.{cutShort, wasDone}
 use Rattle.atomicity.specs.Companions.{StagesInOrder}
 use Rattle.atomicity.specs.steps.Stages.{answer-is, refused-leaves, refused-stages, accepted-stages, done-before, done-behind, cut-exactly}
 
-module _ (w : ℕ) (sizes : Sizes) (v : Volume) where
+module _ (widths : Widths) (sizes : Sizes) (v : Volume) where
   -- the flash that an accepted call leaves
-  planned-left : (call : Call) → answer-is w sizes v call ≡ 0 → perform w sizes v call .left .flash ≡ applyAll w (v .flash) (flatten (plannedStages v call))
+  planned-left : (call : Call) → answer-is widths sizes v call ≡ 0 → perform widths sizes v call .left .flash ≡ applyAll (sizes .width) (v .flash) (flatten (plannedStages v call))
   unfolding perform withState withFlash answer-is plannedStages flatten applyAll writeChange
   planned-left (Call.Launch pages) e = refl
-  planned-left (Call.Write page slot bytes) e = ap (λ (o : Outcome Volume). o .left .flash) (write-done w sizes v page slot bytes e)
+  planned-left (Call.Write page slot bytes) e = ap (λ (o : Outcome Volume). o .left .flash) (write-done widths sizes v page slot bytes e)
   planned-left (Call.Withdraw page) e = refl
-  planned-left (Call.Erase slots) e = ap (λ (o : Outcome Flash). o .left) (erase-done w sizes v slots e) ∙ ap (applyAll w (v .flash)) (sym (append-nil (eraseSteps slots)))
+  planned-left (Call.Erase slots) e = ap (λ (o : Outcome Flash). o .left) (erase-done widths sizes v slots e) ∙ ap (applyAll (sizes .width) (v .flash)) (sym (append-nil (eraseSteps slots)))
   planned-left Call.Recover e = refl
 
   -- what any call leaves
-  pub performs-stages : (call : Call) → perform w sizes v call .left .flash ≡ applyAll w (v .flash) (flatten (flashStages w sizes v call))
+  pub performs-stages : (call : Call) → perform widths sizes v call .left .flash ≡ applyAll (sizes .width) (v .flash) (flatten (flashStages widths sizes v call))
   unfolding flatten applyAll
   performs-stages call =
-      on-eq (answer-is w sizes v call) 0
-      (λ e. planned-left call e ∙ ap (λ (l : List (List Step)). applyAll w (v .flash) (flatten l)) (sym (accepted-stages w sizes v call e)))
-      (λ n. ap (λ (x : Volume). x .flash) (refused-leaves w sizes v call n) ∙ ap (λ (l : List (List Step)). applyAll w (v .flash) (flatten l)) (sym (refused-stages w sizes v call n)))
+      on-eq (answer-is widths sizes v call) 0
+      (λ e. planned-left call e ∙ ap (λ (l : List (List Step)). applyAll (sizes .width) (v .flash) (flatten l)) (sym (accepted-stages widths sizes v call e)))
+      (λ n. ap (λ (x : Volume). x .flash) (refused-leaves widths sizes v call n) ∙ ap (λ (l : List (List Step)). applyAll (sizes .width) (v .flash) (flatten l)) (sym (refused-stages widths sizes v call n)))
 
 cut-in-order : (stage : ℕ) (done : ℕ → Bool) (k i j n : ℕ) → wasDone stage done k i ≡ true → j < k → wasDone stage done j n ≡ true
 cut-in-order stage done k i j n e h =

@@ -5,6 +5,7 @@ use mathlib.Core.Path.{_≡_, refl, subst}
 use mathlib.Core.Bool.{Bool, true, false, cond}
 use lib.Dec.{eqb}
 use borrow.Author.Tests.{eqb-true}
+use Rattle.bounded.specs.Limits.{Widths}
 use Rattle.bounded.specs.Choice.{never}
 use Rattle.bounded.specs.BelowLaws.{max-bound}
 use Rattle.sizes.specs.declared.Sizes.{Sizes}
@@ -25,9 +26,9 @@ use Rattle.atomicity.specs.Companions.{Agrees, StatesAgree}
 use Rattle.atomicity.specs.steps.Invariant.{Live, Holding, known, unknown}
 use Rattle.atomicity.specs.theorems.Promise.{reached}
 
-live-agrees : (w : ℕ) (sizes : Sizes) (v : Volume) (m : Model) → Live w sizes (v .flash) (stateAt (v .state)) m → Agrees (sizes .pages) (sizes .slots) v
+live-agrees : (widths : Widths) (sizes : Sizes) (v : Volume) (m : Model) → Live sizes (v .flash) (stateAt (v .state)) m → Agrees (sizes .pages) (sizes .slots) v
 unfolding usedOf mentioned planOf
-live-agrees w sizes v m l =
+live-agrees widths sizes v m l =
     record {
       same-committed = λ p h. committed-found (l .core) p h;
       used-covers = λ p h. max-bound (λ k. mentioned p (slotAt (v .flash .words) k)) (sizes .slots) (stateAt (v .state) p .used) (λ k i. at p k i (slotAt (v .flash .words) k) refl);
@@ -58,11 +59,11 @@ live-agrees w sizes v m l =
     at p k i Blank e = omega arith
     at p k i (Holds r) e =
         let u = l .live .within-used in
-        covered p r (u .version-used r (bytesAt w (v .flash .contents) k) (k, i, e, refl)) (u .link-used r (bytesAt w (v .flash .contents) k) (k, i, e, refl))
+        covered p r (u .version-used r (bytesAt (sizes .width) (v .flash .contents) k) (k, i, e, refl)) (u .link-used r (bytesAt (sizes .width) (v .flash .contents) k) (k, i, e, refl))
 
 pub state-agrees : StatesAgree
-state-agrees w sizes v events p found = by (reached w sizes v events p)
+state-agrees widths sizes v events p found = by (reached widths sizes v events p)
   where
-    by : Holding w sizes (after w sizes (started w sizes v) events) (modelAfter w sizes (started w sizes v) (freshModel w) events) → Agrees (sizes .pages) (sizes .slots) (after w sizes (started w sizes v) events .volume)
-    by (known f fits live) = live-agrees w sizes (after w sizes (started w sizes v) events .volume) (modelAfter w sizes (started w sizes v) (freshModel w) events) live
+    by : Holding widths sizes (after widths sizes (started widths sizes v) events) (modelAfter widths sizes (started widths sizes v) (freshModel (sizes .width)) events) → Agrees (sizes .pages) (sizes .slots) (after widths sizes (started widths sizes v) events .volume)
+    by (known f fits live) = live-agrees widths sizes (after widths sizes (started widths sizes v) events .volume) (modelAfter widths sizes (started widths sizes v) (freshModel (sizes .width)) events) live
     by (unknown lost fits l) = absurd (never lost found)

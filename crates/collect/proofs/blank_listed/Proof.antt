@@ -4,24 +4,23 @@ use native.Mathlib.Omega.{arith}
 use borrow.Author.Needs.{needs}
 use mathlib.Core.Path.{_≡_, refl, ap, _∙_}
 use lib.ListN.{length, getD}
-use Rattle.bounded.specs.Limits.{width}
 use Rattle.record.specs.Flash.{Flash, Step, apply, flash}
 use Rattle.collect.specs.EraseLaws.{blanked, blanked-none, blanked-more, blanked-all}
 use Rattle.collect.proofs.blank_listed.Statement.{statement}
 use Rattle.collect.proofs.blank_listed.Tie as tie
 
 abbrev Inv-loop : tie.InvT-loop
-Inv-loop words₀ contents₀ list done₀ words contents done =
+Inv-loop width words₀ contents₀ list done₀ words contents done =
     (done ≤ length list)
     × (flash words contents ≡ blanked width (flash words₀ contents₀) list done)
     × (length words ≡ length words₀)
     × (length contents ≡ length contents₀)
 
 abbrev μ-loop : tie.MeasureT-loop
-μ-loop words₀ contents₀ list done₀ words contents done = length list - done
+μ-loop width words₀ contents₀ list done₀ words contents done = length list - done
 
 loop-holds : tie.Need-loop-holds Inv-loop μ-loop
-loop-holds c = (omega arith, blanked-none width _ _, refl, refl)
+loop-holds c = (omega arith, blanked-none (c .before .before .before .args .width) _ _, refl, refl)
 
 mul-blank-slot : tie.Need-mul-blank-slot Inv-loop μ-loop
 mul-blank-slot c = search needs
@@ -34,9 +33,9 @@ blank-slot-requires c κs =
     let p = c .before .before .before .before .before .before .before .before .pre in
     let l = c .before .before .before .before .loop in
     let h = c .before .before .before .loop-test .taken in
-    let a = p .words-in (l .done) h in
-    let b = p .contents-in (l .done) h in
-    (omega arith, omega arith)
+    let a = p .0 .words-in (l .done) h in
+    let b = p .0 .contents-in (l .done) h in
+    (omega arith, (omega arith, p .1))
 
 add-done : tie.Need-add-done Inv-loop μ-loop
 add-done c = omega arith
@@ -51,10 +50,10 @@ loop-again c =
     let a = c .before .before .before .before .before .before .before .before .before .before .before .before .before .args in (
       omega arith,
       s .ensures
-          ∙ ap (λ (f : Flash). apply width f (Step.Blank (getD (a .list .now) (l .done) 0))) (l .inv .1)
-          ∙ blanked-more width (flash (a .words .now) (a .contents .now)) (a .list .now) (l .done) (c .before .before .before .before .before .before .before .before .loop-test .taken),
-      s .kept .0 ∙ l .inv .2,
-      s .kept .1 .0 ∙ l .inv .3,
+          ∙ ap (λ (f : Flash). apply (a .width) f (Step.Blank (getD (a .list .now) (l .done) 0))) (l .inv .1)
+          ∙ blanked-more (a .width) (flash (a .words .now) (a .contents .now)) (a .list .now) (l .done) (c .before .before .before .before .before .before .before .before .loop-test .taken),
+      s .kept .1 .0 ∙ l .inv .2,
+      s .kept .1 .1 .0 ∙ l .inv .3,
     )
 
 same-length : tie.Need-same-length Inv-loop μ-loop
@@ -69,8 +68,8 @@ returns c =
     let a = c .before .before .before .before .before .args in
     let e : l .done ≡ length (a .list .now) = omega arith in
     l .inv .1
-    ∙ ap (blanked width (flash (a .words .now) (a .contents .now)) (a .list .now)) e
-    ∙ blanked-all width (flash (a .words .now) (a .contents .now)) (a .list .now)
+    ∙ ap (blanked (a .width) (flash (a .words .now) (a .contents .now)) (a .list .now)) e
+    ∙ blanked-all (a .width) (flash (a .words .now) (a .contents .now)) (a .list .now)
 
 pub blank-listed-spec : {M : Type 1} → statement M
 blank-listed-spec =

@@ -1,4 +1,4 @@
--- The words and the bytes that `put_slot` leaves are those of the step.
+-- The words and the bytes that `fill_slot` leaves are those of the step.
 use mathlib.Core.Path.{ap₂}
 use Rattle.record.specs.Slot.{blankRecord}
 use Rattle.record.specs.Flash.{putSlot, apply, flash}
@@ -6,11 +6,8 @@ use borrow.Author.Needs.{needs}
 use Rattle.collect.proofs.blank_slot.Statement.{statement}
 use Rattle.collect.proofs.blank_slot.Tie as tie
 
-slice-aggregate-put-slot : tie.Need-slice-aggregate-put-slot
-slice-aggregate-put-slot c = search needs
-
-put-slot-requires : tie.Need-put-slot-requires
-put-slot-requires c κs = search needs
+fill-slot-requires : tie.Need-fill-slot-requires
+fill-slot-requires c κs = search needs
 
 same-length : tie.Need-same-length
 same-length c = search needs
@@ -20,9 +17,9 @@ same-length-2 c = search needs
 
 returns : tie.Need-returns
 unfolding apply putSlot blankRecord
-returns c = let s = c .before .before .before .before .put-slot in ap₂ flash (s .ensures .0) (s .ensures .1)
+returns c = let s = c .before .before .before .before .fill-slot in ap₂ flash (s .ensures .0) (s .ensures .1)
 
 pub blank-slot-spec : {M : Type 1} → statement M
 blank-slot-spec =
     tie.close
-    (tie.spec slice-aggregate-put-slot put-slot-requires same-length same-length-2 returns)
+    (tie.spec fill-slot-requires same-length same-length-2 returns)

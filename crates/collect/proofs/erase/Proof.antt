@@ -3,7 +3,9 @@ use borrow.Author.Needs.{needs}
 use mathlib.Core.Path.{refl, sym, ap, _∙_}
 use Rattle.outcome.specs.Outcome.{returned}
 use Rattle.outcome.specs.Reply.{reply-refused, reply-done}
+use Rattle.sizes.specs.SizesLaws.{width-most}
 use Rattle.rules.specs.Erase.{eraseOutcome}
+use Rattle.rules.specs.laws.Accepted.{erase-tests}
 use Rattle.collect.specs.EraseLaws.{accepted-listed}
 use Rattle.collect.proofs.erase.Statement.{statement}
 use Rattle.collect.proofs.erase.Tie as tie
@@ -26,16 +28,18 @@ returns c =
     reply-refused (c .reply .result) (c .before .before .erase-answer .result) 0 0 _ _ (c .reply .ensures) (c .before .before .erase-answer .ensures) (c .before .if1 .taken)
 
 blank-listed-requires : tie.Need-blank-listed-requires
-blank-listed-requires c κs = accepted-listed _ _ _ _ (sym (c .before .before .before .erase-answer .ensures) ∙ c .before .before .if1 .left)
+blank-listed-requires c κs =
+    let e = sym (c .before .before .before .erase-answer .ensures) ∙ c .before .before .if1 .left in
+    (accepted-listed _ _ _ _ e, width-most _ (erase-tests _ _ _ _ e .fits .allowed))
 
 reply-requires-2 : tie.Need-reply-requires-2
 reply-requires-2 c κs = search needs
 
 same-length-3 : tie.Need-same-length-3
-same-length-3 c = c .before .before .before .before .before .blank-listed .kept .0
+same-length-3 c = c .before .before .before .before .before .blank-listed .kept .1 .0
 
 same-length-4 : tie.Need-same-length-4
-same-length-4 c = c .before .before .before .before .before .blank-listed .kept .1 .0
+same-length-4 c = c .before .before .before .before .before .blank-listed .kept .1 .1 .0
 
 returns-2 : tie.Need-returns-2
 unfolding eraseOutcome

@@ -37,11 +37,8 @@ launch-requires c κs = search needs
 enum-known-line-2 : tie.Need-enum-known-line-2
 enum-known-line-2 c = search needs
 
-slice-aggregate-write : tie.Need-slice-aggregate-write
-slice-aggregate-write c = search needs
-
-write-requires : tie.Need-write-requires
-write-requires c κs = search needs
+write-filled-requires : tie.Need-write-filled-requires
+write-filled-requires c κs = search needs
 
 enum-known-line-3 : tie.Need-enum-known-line-3
 enum-known-line-3 c = search needs
@@ -121,7 +118,7 @@ same-length-7 c = search needs
 returns-3 : tie.Need-returns-3
 unfolding said lineOutcome perform
 returns-3 c =
-    rw (c .before .before .before .before .before .before .before .before .before .before .before .before .line2 .given .1) (c .before .before .before .before .before .before .write .ensures)
+    rw (c .before .before .before .before .before .before .before .before .before .before .before .line2 .given .1) (c .before .before .before .before .before .before .write-filled .ensures)
 
 same-length-8 : tie.Need-same-length-8
 same-length-8 c = search needs
@@ -190,8 +187,7 @@ call-spec =
     part-launch-end
     launch-requires
     enum-known-line-2
-    slice-aggregate-write
-    write-requires
+    write-filled-requires
     enum-known-line-3
     withdraw-requires
     enum-known-line-4

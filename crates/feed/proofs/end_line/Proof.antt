@@ -1,7 +1,7 @@
 use Prim.Native.Nat.{ℕ}
 use lib.ListN.{length-replicate}
 use borrow.Author.Needs.{needs}
-use Rattle.bounded.specs.Limits.{width}
+use Rattle.bounded.specs.Limits.{twoWidths}
 use Rattle.rules.specs.Volume.{volume}
 use Rattle.feed.specs.FeedLaws.{held-carried}
 use Rattle.feed.proofs.end_line.Statement.{statement}
@@ -49,7 +49,7 @@ same-length-4 c = search needs
 returns : tie.Need-returns
 returns c =
     let a = c .before .before .before .before .before .before .before .before .before .before .before .before .before .before .before .before .before .before .before .before .before .before .before .before .before .args in
-    held-carried width (a .run) _ (volume (a .words .now) (a .contents .now) (a .state .now)) _ (a .out .now) _ (a .buffer .now) _ _ _ _ (c .before .before .before .before .before .before .before .before .before .before .before .before .before .before .holding .ensures) (c .before .before .before .before .before .before .before .before .before .before .before .before .before .before .before .before .before .before .before .least .ensures) (c .before .before .before .before .before .before .before .before .before .before .before .before .before .before .before .before .line-of .ensures) (length-replicate {A = ℕ} 64 0) (c .before .before .before .before .before .before .before .before .step .ensures)
+    held-carried twoWidths (a .run) _ (volume (a .words .now) (a .contents .now) (a .state .now)) _ (a .out .now) _ (a .buffer .now) _ _ _ _ (c .before .before .before .before .before .before .before .before .before .before .before .before .before .before .holding .ensures) (c .before .before .before .before .before .before .before .before .before .before .before .before .before .before .before .before .before .before .before .least .ensures) (c .before .before .before .before .before .before .before .before .before .before .before .before .before .before .before .before .line-of .ensures) (length-replicate {A = ℕ} 64 0) (c .before .before .before .before .before .before .before .before .step .ensures)
 
 pub end-line-spec : {M : Type 1} → statement M
 end-line-spec =

@@ -1,6 +1,6 @@
 use mathlib.Core.Path.{refl}
 use borrow.Author.Needs.{needs}
-use Rattle.bounded.specs.Limits.{width}
+use Rattle.bounded.specs.Limits.{twoWidths}
 use Rattle.rules.specs.Volume.{volume}
 use Rattle.report.specs.ReportLaws.{went-idle}
 use Rattle.feed.specs.FeedLaws.{took-over, took-byte, took-line-end}
@@ -11,7 +11,7 @@ returns : tie.Need-returns
 returns c =
     let a = c .before .before .before .before .before .before .args in
     let m = volume (a .words .now) (a .contents .now) (a .state .now) in
-    took-over width (a .run) _ m _ (a .out .now) _ (a .buffer .now) _ (a .byte) (c .if1 .taken) refl (went-idle (a .run) m (a .out .now))
+    took-over twoWidths (a .run) _ m _ (a .out .now) _ (a .buffer .now) _ (a .byte) (c .if1 .taken) refl (went-idle (a .run) m (a .out .now))
 
 put-requires : tie.Need-put-requires
 put-requires c κs = search needs
@@ -25,7 +25,7 @@ same-length c = search needs
 returns-2 : tie.Need-returns-2
 returns-2 c =
     let a = c .before .before .before .before .before .before .before .before .before .before .before .before .args in
-    took-byte width (a .run) _ (volume (a .words .now) (a .contents .now) (a .state .now)) _ (a .out .now) _ (a .buffer .now) _ (a .byte) (c .before .before .before .before .before .before .if1 .left) (c .before .before .before .before .before .if2 .taken) refl refl _ (c .holding .ensures) (c .before .before .before .put .ensures)
+    took-byte twoWidths (a .run) _ (volume (a .words .now) (a .contents .now) (a .state .now)) _ (a .out .now) _ (a .buffer .now) _ (a .byte) (c .before .before .before .before .before .before .if1 .left) (c .before .before .before .before .before .if2 .taken) refl refl _ (c .holding .ensures) (c .before .before .before .put .ensures)
 
 end-line-requires : tie.Need-end-line-requires
 end-line-requires c κs = search needs
@@ -48,7 +48,7 @@ same-length-6 c = search needs
 returns-3 : tie.Need-returns-3
 returns-3 c =
     let a = c .before .before .before .before .before .before .before .before .before .before .before .before .before .before .before .before .before .before .before .before .before .args in
-    took-line-end width (a .run) _ (volume (a .words .now) (a .contents .now) (a .state .now)) _ (a .out .now) _ (a .buffer .now) _ (a .byte) (c .before .before .before .before .before .before .before .before .before .before .before .before .before .before .before .if1 .left) (c .before .before .before .before .before .before .before .before .before .before .before .before .before .before .if2 .left) (c .before .before .before .before .before .before .before .before .end-line .ensures)
+    took-line-end twoWidths (a .run) _ (volume (a .words .now) (a .contents .now) (a .state .now)) _ (a .out .now) _ (a .buffer .now) _ (a .byte) (c .before .before .before .before .before .before .before .before .before .before .before .before .before .before .before .if1 .left) (c .before .before .before .before .before .before .before .before .before .before .before .before .before .before .if2 .left) (c .before .before .before .before .before .before .before .before .end-line .ensures)
 
 pub feed-spec : {M : Type 1} → statement M
 feed-spec =

@@ -25,7 +25,7 @@ returns c =
 
 launch-pages-requires : tie.Need-launch-pages-requires
 launch-pages-requires c κs =
-    let a = launch-accepted _ _ _ (sym (c .before .before .launch-answer .ensures) ∙ c .before .if1 .left) in (a .sized, a .launchable)
+    let a = launch-accepted _ _ _ _ (sym (c .before .before .launch-answer .ensures) ∙ c .before .if1 .left) in (a .sized, a .launchable)
 
 reply-requires-2 : tie.Need-reply-requires-2
 reply-requires-2 c κs = search needs
@@ -36,7 +36,7 @@ same-length-2 c = search needs
 returns-2 : tie.Need-returns-2
 unfolding launchOutcome
 returns-2 c =
-    ap (returned {B = List ℕ} (c .reply2 .result)) (c .before .before .before .launch-pages .ensures ∙ launch-leaves _ _ _ (sym (c .before .before .before .before .before .before .launch-answer .ensures) ∙ c .before .before .before .before .before .if1 .left))
+    ap (returned {B = List ℕ} (c .reply2 .result)) (c .before .before .before .launch-pages .ensures ∙ launch-leaves _ _ _ _ (sym (c .before .before .before .before .before .before .launch-answer .ensures) ∙ c .before .before .before .before .before .if1 .left))
     ∙ reply-done (c .reply2 .result) 0 0 0 _ _ (c .reply2 .ensures) (sym (c .before .before .before .before .before .if1 .left) ∙ c .before .before .before .before .before .before .launch-answer .ensures) refl
 
 pub launch-spec : {M : Type 1} → statement M

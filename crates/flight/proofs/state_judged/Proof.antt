@@ -16,7 +16,7 @@ returns c = rw (said-no (c .before .state-ok .ensures) (c .if1 .taken))
 
 state-sound-requires : tie.Need-state-sound-requires
 state-sound-requires c κs =
-    let e = state-fits-exactly _ _ .0 (both-right (sizesOk _) (stateFits _ _) (said-yes (c .before .state-ok .ensures) (c .if1 .left))) in omega arith
+    let e = state-fits-exactly _ _ .0 (both-right (sizesOk _ _) (stateFits _ _) (said-yes (c .before .state-ok .ensures) (c .if1 .left))) in omega arith
 
 returns-2 : tie.Need-returns-2
 unfolding stateJudged

@@ -24,7 +24,7 @@ returns c =
     reply-refused (c .reply .result) (c .before .before .withdraw-answer .result) 0 0 _ _ (c .reply .ensures) (c .before .before .withdraw-answer .ensures) (c .before .if1 .taken)
 
 withdraw-cycle-requires : tie.Need-withdraw-cycle-requires
-withdraw-cycle-requires c κs = withdraw-accepted _ _ _ (sym (c .before .before .withdraw-answer .ensures) ∙ c .before .if1 .left)
+withdraw-cycle-requires c κs = withdraw-accepted _ _ _ _ (sym (c .before .before .withdraw-answer .ensures) ∙ c .before .if1 .left)
 
 reply-requires-2 : tie.Need-reply-requires-2
 reply-requires-2 c κs = search needs
@@ -35,7 +35,7 @@ same-length-2 c = search needs
 returns-2 : tie.Need-returns-2
 unfolding withdrawOutcome
 returns-2 c =
-    ap (returned {B = List ℕ} (c .reply2 .result)) (c .before .before .before .withdraw-cycle .ensures ∙ withdraw-leaves _ _ _ (sym (c .before .before .before .before .before .before .withdraw-answer .ensures) ∙ c .before .before .before .before .before .if1 .left))
+    ap (returned {B = List ℕ} (c .reply2 .result)) (c .before .before .before .withdraw-cycle .ensures ∙ withdraw-leaves _ _ _ _ (sym (c .before .before .before .before .before .before .withdraw-answer .ensures) ∙ c .before .before .before .before .before .if1 .left))
     ∙ reply-done (c .reply2 .result) 0 0 0 _ _ (c .reply2 .ensures) (sym (c .before .before .before .before .before .if1 .left) ∙ c .before .before .before .before .before .before .withdraw-answer .ensures) refl
 
 pub withdraw-spec : {M : Type 1} → statement M

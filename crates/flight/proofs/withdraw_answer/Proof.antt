@@ -14,16 +14,16 @@ state-judged-requires : tie.Need-state-judged-requires
 state-judged-requires c κs = search needs
 
 returns : tie.Need-returns
-returns c = first-refuses _ _ (c .before .state-judged .ensures) (c .if1 .taken) ∙ sym (withdraw-chain _ _ _)
+returns c = first-refuses _ _ (c .before .state-judged .ensures) (c .if1 .taken) ∙ sym (withdraw-chain _ _ _ _)
 
 returns-2 : tie.Need-returns-2
 unfolding withdrawOwn
 returns-2 c =
-    first-passes _ _ (c .before .before .before .state-judged .ensures) (c .before .before .if1 .left) (rw (le-ltb _ _ (c .if2 .taken))) ∙ sym (withdraw-chain _ _ _)
+    first-passes _ _ (c .before .before .before .state-judged .ensures) (c .before .before .if1 .left) (rw (le-ltb _ _ (c .if2 .taken))) ∙ sym (withdraw-chain _ _ _ _)
 
 page-at-requires : tie.Need-page-at-requires
 page-at-requires c κs =
-    let e = state-fits-exactly _ _ .0 (state-judged-passed _ _ (sym (c .before .before .before .state-judged .ensures) ∙ c .before .before .if1 .left) .fitting) in omega arith
+    let e = state-fits-exactly _ _ .0 (state-judged-passed _ _ _ (sym (c .before .before .before .state-judged .ensures) ∙ c .before .before .if1 .left) .fitting) in omega arith
 
 in-flight-requires : tie.Need-in-flight-requires
 in-flight-requires c κs = search needs
@@ -33,14 +33,14 @@ unfolding withdrawOwn
 returns-3 c =
     first-passes _ _ (c .before .before .before .before .before .before .state-judged .ensures) (c .before .before .before .before .before .if1 .left)
     (rw (lt-ltb _ _ (c .before .before .before .if2 .left), said-no (c .before .in-flight .ensures ∙ ap inFlight (c .before .before .page-at .ensures)) (c .if3 .taken)))
-    ∙ sym (withdraw-chain _ _ _)
+    ∙ sym (withdraw-chain _ _ _ _)
 
 returns-4 : tie.Need-returns-4
 unfolding withdrawOwn
 returns-4 c =
     first-passes _ _ (c .before .before .before .before .before .before .state-judged .ensures) (c .before .before .before .before .before .if1 .left)
     (rw (lt-ltb _ _ (c .before .before .before .if2 .left), said-yes (c .before .in-flight .ensures ∙ ap inFlight (c .before .before .page-at .ensures)) (c .if3 .left)))
-    ∙ sym (withdraw-chain _ _ _)
+    ∙ sym (withdraw-chain _ _ _ _)
 
 pub withdraw-answer-spec : {M : Type 1} → statement M
 withdraw-answer-spec =

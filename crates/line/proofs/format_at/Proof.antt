@@ -38,15 +38,15 @@ returns-2 c l =
     let line = c .before .before .before .before .before .before .before .before .before .args .line .now in
     on-is _ (number-is line (c .before .before .before .before .before .before .number-then .ensures) (c .before .before .before .before .pages .given .1)) (on-not _ (number-not line (c .before .before .number-at .ensures) (c .enum-told2 .given .1)))
 
-ended-requires : tie.Need-ended-requires
-ended-requires c κs = tt
+sizes-at-requires : tie.Need-sizes-at-requires
+sizes-at-requires c κs = tt
 
 returns-3 : tie.Need-returns-3
 unfolding bytes said formatMeans
 returns-3 c l =
     let line = c .before .before .before .before .before .before .before .before .before .before .before .args .line .now in
     on-is _ (number-is line (c .before .before .before .before .before .before .before .before .number-then .ensures) (c .before .before .before .before .before .before .pages .given .1))
-    (on-is _ (number-is line (c .before .before .before .before .number-at .ensures) (c .before .before .slots .given .1)) (c .ended .ensures l))
+    (on-is _ (number-is line (c .before .before .before .before .number-at .ensures) (c .before .before .slots .given .1)) (c .sizes-at .ensures l))
 
 pub format-at-spec : {M : Type 1} → statement M
 format-at-spec =
@@ -61,5 +61,5 @@ format-at-spec =
     enum-known-slots
     enum-told-2
     returns-2
-    ended-requires
+    sizes-at-requires
     returns-3)

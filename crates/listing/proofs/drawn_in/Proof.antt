@@ -1,21 +1,26 @@
-use Prim.Native.Nat.{ℕ}
+use native.Mathlib.Nat.{add-sub-cancel-left}
 use mathlib.Core.Path.{ap, _∙_}
-use mathlib.Core.List.{List}
 use borrow.Author.Needs.{needs}
-use Rattle.bounded.specs.Limits.{width}
+use Rattle.bounded.specs.Parts.{part}
 use Rattle.outcome.specs.Outcome.{Outcome}
-use Rattle.bits.specs.Bits.{countOutcome}
+use Rattle.record.specs.Slot.{bytesAt}
 use Rattle.listing.proofs.drawn_in.Statement.{statement}
 use Rattle.listing.proofs.drawn_in.Tie as tie
 
-slice-aggregate-read-slot : tie.Need-slice-aggregate-read-slot
-slice-aggregate-read-slot c = search needs
+mul-b : tie.Need-mul-b
+mul-b c = search needs
 
-read-slot-requires : tie.Need-read-slot-requires
-read-slot-requires c κs = search needs
+add-count : tie.Need-add-count
+add-count c = search needs
 
-slice-aggregate-count : tie.Need-slice-aggregate-count
-slice-aggregate-count c = search needs
+sub-count : tie.Need-sub-count
+sub-count c = search needs
+
+part-count-start : tie.Need-part-count-start
+part-count-start c = search needs
+
+part-count-end : tie.Need-part-count-end
+part-count-end c = search needs
 
 count-requires : tie.Need-count-requires
 count-requires c κs = search needs
@@ -24,18 +29,18 @@ second-of-requires : tie.Need-second-of-requires
 second-of-requires c κs = search needs
 
 returns : tie.Need-returns
-returns c =
-    c .second-of .ensures
-    ∙ ap (λ (o : Outcome (Unit {0})). o .second) (c .before .count .ensures)
-    ∙ ap (λ (bytes : List ℕ). countOutcome width bytes .second) (c .before .before .before .before .read-slot .ensures)
+unfolding bytesAt part
+returns c = c .second-of .ensures ∙ ap (λ (o : Outcome (Unit {0})). o .second) (rw add-sub-cancel-left at (c .before .count .ensures))
 
 pub drawn-in-spec : {M : Type 1} → statement M
 drawn-in-spec =
     tie.close
     (tie.spec
-    slice-aggregate-read-slot
-    read-slot-requires
-    slice-aggregate-count
+    mul-b
+    add-count
+    sub-count
+    part-count-start
+    part-count-end
     count-requires
     second-of-requires
     returns)

@@ -3,7 +3,7 @@ use Prim.Native.Nat.{ℕ, _-_, _≤_}
 use native.Mathlib.Omega.{arith}
 use mathlib.Core.Path.{_≡_, sym, _∙_}
 use borrow.Author.Needs.{needs}
-use Rattle.bounded.specs.Limits.{width}
+use Rattle.bounded.specs.Limits.{twoWidths}
 use Rattle.rules.specs.Volume.{volume}
 use Rattle.rules.specs.laws.Chains.{judged-passed, volume-spans}
 use Rattle.listing.specs.Listing.{pageRead, firstRefusal, listAnswer}
@@ -13,7 +13,7 @@ use Rattle.listing.proofs.list_answer.Tie as tie
 
 abbrev Inv-loop : tie.InvT-loop
 Inv-loop sizes words contents state fits first page₀ page =
-    (page ≤ sizes .pages) × (firstRefusal page (λ (p : ℕ). pageRead width sizes (volume words contents state) p .answer) ≡ 0)
+    (page ≤ sizes .pages) × (firstRefusal page (λ (p : ℕ). pageRead twoWidths sizes (volume words contents state) p .answer) ≡ 0)
 
 abbrev μ-loop : tie.MeasureT-loop
 μ-loop sizes words contents state fits first page₀ page = sizes .pages - page

@@ -1,4 +1,3 @@
-use native.Mathlib.Omega.{arith}
 use borrow.Author.Needs.{needs}
 use Rattle.rules.specs.Read.{readSlot}
 use Rattle.listing.specs.Listing.{pageText}
@@ -15,11 +14,7 @@ committed-slot-requires c κs = let r = readable _ _ _ _ (c .before .before .bef
 drawn-in-requires : tie.Need-drawn-in-requires
 unfolding readSlot
 drawn-in-requires c κs =
-    let r = readable _ _ _ _ (c .before .before .before .before .before .before .before .pre) in
-    let size = r .contents-sized in
-    let below = r .slot-there in
-    let slot = c .before .committed-slot .ensures in
-    omega arith
+    rw (c .before .committed-slot .ensures) (readable _ _ _ _ (c .before .before .before .before .before .before .before .pre) .bytes-there)
 
 is-set-requires : tie.Need-is-set-requires
 is-set-requires c κs = search needs

@@ -3,7 +3,7 @@ use Prim.Native.Nat.{_-_, _≤_}
 use native.Mathlib.Omega.{arith}
 use mathlib.Core.Path.{_≡_, refl, _∙_}
 use lib.ListN.{length}
-use Rattle.bounded.specs.Limits.{width}
+use Rattle.bounded.specs.Limits.{twoWidths}
 use Rattle.bounded.specs.Parts.{joinFrom, joinParts}
 use Rattle.text.specs.Print.{shown, added}
 use Rattle.text.specs.PrintLaws.{added-none}
@@ -15,7 +15,7 @@ use Rattle.listing.proofs.put_pages.Tie as tie
 
 abbrev Inv-loop : tie.InvT-loop
 Inv-loop sizes words contents state out₀ at place₀ page₀ out place page =
-    (page ≤ sizes .pages) × (length out ≡ length out₀) × (shown out place ≡ added out₀ at (joinParts page (pageText width sizes (volume words contents state))))
+    (page ≤ sizes .pages) × (length out ≡ length out₀) × (shown out place ≡ added out₀ at (joinParts page (pageText twoWidths sizes (volume words contents state))))
 
 abbrev μ-loop : tie.MeasureT-loop
 μ-loop sizes words contents state out₀ at place₀ page₀ out place page = sizes .pages - page

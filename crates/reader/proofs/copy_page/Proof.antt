@@ -5,7 +5,7 @@ use mathlib.Core.List.{List}
 use lib.ListN.{length}
 use borrow.Author.Needs.{needs}
 use borrow.Author.Tests.{lt-ltb, le-ltb}
-use Rattle.bounded.specs.Limits.{width}
+use Rattle.bounded.specs.PartsLaws.{part-inside}
 use Rattle.outcome.specs.Outcome.{returned}
 use Rattle.outcome.specs.Reply.{reply-refused, reply-done}
 use Rattle.record.specs.Slot.{bytesAt}
@@ -60,9 +60,8 @@ read-slot-requires c κs =
     let f = slice-whole _ _ _ _ (sym (c .before .before .before .before .before .before .slice-fits .ensures) ∙ judged-passed _ _ _ _ _ (sym (c .before .before .before .before .before .judged .ensures) ∙ c .before .before .before .before .if1 .left) .fitting) in
     let a = c .before .before .before .before .before .before .before .before .before .before .before .args in
     let size = f .0 .flash-sized .contents-sized in
-    let below = c .before .if3 .left in
-    let whole : length (a .out .now) ≡ width = f .1 in
-    subst (λ (n : ℕ). n * c .before .before .committed-slot .result + n ≤ length (a .contents .now)) (sym whole) (omega arith)
+    let inside = part-inside (a .width) (a .slots) (c .before .before .committed-slot .result) (omega (arith, c .before .if3 .left)) in
+    subst (λ (n : ℕ). n * c .before .before .committed-slot .result + n ≤ length (a .contents .now)) (sym (f .1)) (omega arith)
 
 reply-requires-4 : tie.Need-reply-requires-4
 reply-requires-4 c κs = search needs
@@ -76,9 +75,9 @@ returns-4 c =
     let s = c .before .before .before .before .before .before .committed-slot in
     let f = slice-whole _ _ _ _ (sym (c .before .before .before .before .before .before .before .before .before .before .slice-fits .ensures) ∙ judged-passed _ _ _ _ _ (sym (c .before .before .before .before .before .before .before .before .before .judged .ensures) ∙ c .before .before .before .before .before .before .before .before .if1 .left) .fitting) in
     let a = c .before .before .before .before .before .before .before .before .before .before .before .before .before .before .before .args in
-    let e : c .before .before .before .read-slot .last .1 .1 .0 ≡ bytesAt width (a .contents .now) (s .result) =
+    let e : c .before .before .before .read-slot .last .1 .1 .0 ≡ bytesAt (a .width) (a .contents .now) (s .result) =
     c .before .before .before .read-slot .ensures ∙ ap (λ (w : ℕ). bytesAt w (a .contents .now) (s .result)) (f .1) in
-    ap (returned {B = List ℕ} (c .reply4 .result)) (e ∙ ap (bytesAt width (a .contents .now)) (s .ensures))
+    ap (returned {B = List ℕ} (c .reply4 .result)) (e ∙ ap (bytesAt (a .width) (a .contents .now)) (s .ensures))
     ∙ reply-done _ 0 0 0 _ _ (c .reply4 .ensures)
     (judged-passes _ _ _ _ _ _ _ _ (read-chain _ _ _ _ _) (c .before .before .before .before .before .before .before .before .before .before .slice-fits .ensures) _ (c .before .before .before .before .before .before .before .before .before .judged .ensures) (c .before .before .before .before .before .before .before .before .if1 .left)
     (rw (lt-ltb _ _ (c .before .before .before .before .before .before .before .if2 .left), ← s .ensures, lt-ltb _ _ (c .before .before .before .before .before .if3 .left))))

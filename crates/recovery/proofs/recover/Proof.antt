@@ -20,11 +20,11 @@ same-length c = search needs
 
 returns : tie.Need-returns
 unfolding recoverOutcome
-returns c = reply-refused _ 1 0 0 _ _ (c .reply .ensures) (answer-by-sizes _ _ _ (said-no (c .before .before .table-ok .ensures) (c .before .if1 .taken))) (λ e. omega arith)
+returns c = reply-refused _ 1 0 0 _ _ (c .reply .ensures) (answer-by-sizes _ _ _ _ (said-no (c .before .before .table-ok .ensures) (c .before .if1 .taken))) (λ e. omega arith)
 
 table-answer-requires : tie.Need-table-answer-requires
 table-answer-requires c κs =
-    let f = recover-fits _ _ _ (said-yes (c .before .before .table-ok .ensures) (c .before .if1 .left)) in
+    let f = recover-fits _ _ _ _ (said-yes (c .before .before .table-ok .ensures) (c .before .if1 .left)) in
     (f .slots-in, f .pages-most)
 
 reply-requires-2 : tie.Need-reply-requires-2
@@ -37,11 +37,11 @@ returns-2 : tie.Need-returns-2
 unfolding recoverOutcome
 returns-2 c =
     let t = c .before .before .table-answer in
-    reply-refused _ (t .result) 0 0 _ _ (c .reply2 .ensures) (t .ensures .0 ∙ answer-by-table _ _ _ (said-yes (c .before .before .before .before .before .table-ok .ensures) (c .before .before .before .before .if1 .left))) (c .before .if2 .taken)
+    reply-refused _ (t .result) 0 0 _ _ (c .reply2 .ensures) (t .ensures .0 ∙ answer-by-table _ _ _ _ (said-yes (c .before .before .before .before .before .table-ok .ensures) (c .before .before .before .before .if1 .left))) (c .before .if2 .taken)
 
 fill-state-requires : tie.Need-fill-state-requires
 fill-state-requires c κs =
-    let f = recover-fits _ _ _ (said-yes (c .before .before .before .before .before .before .table-ok .ensures) (c .before .before .before .before .before .if1 .left)) in
+    let f = recover-fits _ _ _ _ (said-yes (c .before .before .before .before .before .before .table-ok .ensures) (c .before .before .before .before .before .if1 .left)) in
     let t = c .before .before .before .table-answer in
     let done = c .before .before .if2 .left in
     (f .slots-in, (f .pages-most, (accepted-sound _ _ _ (sym (t .ensures .0) ∙ done), (t .ensures .1 done, f .state-sized))))
@@ -57,7 +57,7 @@ unfolding recoverOutcome
 returns-3 c =
     let t = c .before .before .before .before .before .before .before .table-answer in
     ap (returned (c .reply3 .result)) (c .before .before .before .fill-state .ensures)
-    ∙ reply-done _ 0 0 0 _ _ (c .reply3 .ensures) (sym (c .before .before .before .before .before .before .if2 .left) ∙ t .ensures .0 ∙ answer-by-table _ _ _ (said-yes (c .before .before .before .before .before .before .before .before .before .before .table-ok .ensures) (c .before .before .before .before .before .before .before .before .before .if1 .left))) refl
+    ∙ reply-done _ 0 0 0 _ _ (c .reply3 .ensures) (sym (c .before .before .before .before .before .before .if2 .left) ∙ t .ensures .0 ∙ answer-by-table _ _ _ _ (said-yes (c .before .before .before .before .before .before .before .before .before .before .table-ok .ensures) (c .before .before .before .before .before .before .before .before .before .if1 .left))) refl
 
 pub recover-spec : {M : Type 1} → statement M
 recover-spec =

@@ -15,7 +15,7 @@ same-length c = search needs
 returns : tie.Need-returns
 returns c =
     let a = c .before .before .before .before .before .before .before .args in
-    format-refused (a .run) _ _ _ (a .pages) (a .slots) _ _ (c .before .answer-of .ensures) (c .before .before .before .before .say .ensures) (c .if1 .taken)
+    format-refused (a .run) _ _ _ (a .sizes) _ _ (c .before .answer-of .ensures) (c .before .before .before .before .say .ensures) (c .if1 .taken)
 
 on-requires : tie.Need-on-requires
 on-requires c κs = search needs
@@ -26,7 +26,7 @@ same-length-2 c = search needs
 returns-2 : tie.Need-returns-2
 returns-2 c =
     let a = c .before .before .before .before .before .before .before .before .args in
-    format-accepted (a .run) _ _ _ (a .pages) (a .slots) _ _ (c .before .before .answer-of .ensures) (c .before .before .before .before .before .say .ensures) _ (c .on .ensures) (c .before .if1 .left)
+    format-accepted (a .run) _ _ _ (a .sizes) _ _ (c .before .before .answer-of .ensures) (c .before .before .before .before .before .say .ensures) _ (c .on .ensures) (c .before .if1 .left)
 
 pub say-format-spec : {M : Type 1} → statement M
 say-format-spec =

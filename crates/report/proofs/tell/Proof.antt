@@ -1,7 +1,7 @@
 use Prim.Native.Nat.{ℕ}
 use mathlib.Core.List.{List, []}
 use borrow.Author.Needs.{needs}
-use Rattle.bounded.specs.Limits.{width}
+use Rattle.bounded.specs.Limits.{twoWidths}
 use Rattle.line.specs.Line.{said}
 use Rattle.rules.specs.Volume.{volume}
 use Rattle.report.specs.Report.{standing, told}
@@ -43,7 +43,7 @@ returns : tie.Need-returns
 unfolding said told standing
 returns c =
     let a = c .before .before .before .before .before .before .before .before .before .before .before .args in
-    let h = went-format (a .run) _ (volume (a .words .now) (a .contents .now) (a .state .now)) (a .out .now) _ _ _ _ (c .before .before .say-format .ensures) in
+    let h = went-format (a .run) _ (volume (a .words .now) (a .contents .now) (a .state .now)) (a .out .now) _ _ _ (c .before .before .say-format .ensures) in
     rw (c .before .before .before .before .before .line .given .1) (λ (list : List ℕ). h .0, (λ (list : List ℕ). h .1 .0, h .1 .1))
 
 same-length-2 : tie.Need-same-length-2
@@ -83,7 +83,7 @@ same-length-5 c = search needs
 returns-5 : tie.Need-returns-5
 returns-5 c =
     let a = c .before .before .before .before .before .before .before .before .before .args in
-    let h = answer-told width (a .run) _ (volume (a .words .now) (a .contents .now) (a .state .now)) (a .out .now) _ (a .line) _ _ (c .before .before .before .before .match .keys5) (c .before .before .say .ensures) in
+    let h = answer-told twoWidths (a .run) _ (volume (a .words .now) (a .contents .now) (a .state .now)) (a .out .now) _ (a .line) _ _ (c .before .before .before .before .match .keys5) (c .before .before .say .ensures) in
     (λ (list : List ℕ). h list .0, (λ (list : List ℕ). h list .1 .0, h [] .1 .1))
 
 pub tell-spec : {M : Type 1} → statement M

@@ -3,7 +3,7 @@ use Prim.Native.Nat.{ℕ, _*_}
 use mathlib.Core.Path.{refl}
 use mathlib.Core.List.{List, [], _∷_}
 use lib.ListN.{replicate}
-use Rattle.bounded.specs.Limits.{width}
+use Rattle.bounded.specs.Limits.{twoWidths}
 use Rattle.outcome.specs.Row.{Row, row, RowsHold}
 use Rattle.sizes.specs.Sizes.{sizesOf}
 use Rattle.rules.specs.Volume.{Volume}
@@ -12,11 +12,11 @@ use Rattle.rules.specs.cases.Computing.{computing}
 
 -- buffers of the lengths that P and S ask for
 unfoldable pub buffers : (P S : ℕ) → Volume
-buffers P S = record { flash = record { words = replicate (5 * S) 7; contents = replicate (width * S) 7 }; state = replicate (4 * P) 7 }
+buffers P S = record { flash = record { words = replicate (5 * S) 7; contents = replicate (32 * S) 7 }; state = replicate (4 * P) 7 }
 
 -- format's answer on them
 unfoldable pub formatOn : (P S : ℕ) → List ℕ
-formatOn P S = formatOutcome width (sizesOf P S) (buffers P S) .answer ∷ []
+formatOn P S = formatOutcome twoWidths (sizesOf P S 32) (buffers P S) .answer ∷ []
 
 -- "P 0 or 257, S 1,025 or P-1: 1. P=256, S=1,024 formats."
 unfoldable pub boundRows : List Row

@@ -1,4 +1,5 @@
 -- A name for "these definitions compute": a declaration that unfolds it unfolds them all.
+use Rattle.bounded.specs.Limits.{twoWidths}
 use Rattle.outcome.specs.Computing.{computing as outcome-computing}
 use Rattle.sizes.specs.Sizes.{sizesOk, wordsFit, contentsFit, stateFits, noRepeats, inRange, listOk}
 use Rattle.state.specs.Computing.{computing as state-computing}
@@ -17,5 +18,5 @@ use Rattle.rules.specs.Recover.{walkOf, backPointer, committedBy, commit
 use Rattle.rules.specs.Verdict.{isStraddled, linkVerdict, slotVerdict, verdict}
 
 unfoldable pub computing : Unit {0}
-unfolding table-computing state-computing outcome-computing formattedWords formattedContents formatted formatAnswer formatOutcome readSlot readAnswer readOutcome sizesOk wordsFit contentsFit stateFits volumeFits noRepeats inRange listOk somePage usedUp launchAnswer launchOutcome withdrawAnswer withdrawOutcome planOf writeAnswer writeStep writeDone writeChange writeOutcome eraseAnswer eraseSteps eraseOutcome isObsolete isExposed outdoneBy supports isNeeded isCurrent mayEraseRecord mayErase mayEraseAll suggestAnswer suggestedSlot suggestOutcome endsHere oneMore link followFrom follow walkOf isAstray backPointer committedBy committedOf recovered recoverAnswer recoverOutcome isStraddled linkVerdict slotVerdict verdict
+unfolding table-computing state-computing outcome-computing formattedWords formattedContents formatted formatAnswer formatOutcome readSlot readAnswer readOutcome twoWidths sizesOk wordsFit contentsFit stateFits volumeFits noRepeats inRange listOk somePage usedUp launchAnswer launchOutcome withdrawAnswer withdrawOutcome planOf writeAnswer writeStep writeDone writeChange writeOutcome eraseAnswer eraseSteps eraseOutcome isObsolete isExposed outdoneBy supports isNeeded isCurrent mayEraseRecord mayErase mayEraseAll suggestAnswer suggestedSlot suggestOutcome endsHere oneMore link followFrom follow walkOf isAstray backPointer committedBy committedOf recovered recoverAnswer recoverOutcome isStraddled linkVerdict slotVerdict verdict
 computing = tt

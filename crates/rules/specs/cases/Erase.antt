@@ -6,7 +6,7 @@ use mathlib.Core.Bool.{cond}
 use lib.Dec.{eqb}
 use lib.ListN.{replicate}
 use Rattle.bounded.specs.Parts.{joinParts}
-use Rattle.bounded.specs.Limits.{width}
+use Rattle.bounded.specs.Limits.{twoWidths}
 use Rattle.outcome.specs.Outcome.{Outcome}
 use Rattle.outcome.specs.Row.{Row, row, RowsHold}
 use Rattle.sizes.specs.Sizes.{sizesOf}
@@ -21,7 +21,7 @@ use Rattle.rules.specs.cases.Computing.{computing}
 
 -- erase these slots of a volume of 3 pages and 8 slots
 unfoldable pub eraseOn : Volume → List ℕ → Outcome Flash
-eraseOn v slots = eraseOutcome width (sizesOf 3 8) v slots
+eraseOn v slots = eraseOutcome twoWidths (sizesOf 3 8 32) v slots
 
 -- the answers of two erasures, one after the other
 unfoldable pub erasedInTurn : Volume → (first then : List ℕ) → List ℕ
@@ -44,7 +44,7 @@ volume6 =
     record {
       flash = record {
         words = tableOf 8 (formattedRecords 3 ++ given 0 1 0 1 1 ∷ given 1 2 0 2 1 ∷ given 2 1 0 1 2 ∷ given 1 3 2 1 3 ∷ []);
-        contents = joinParts 8 (λ k. replicate width (cond (eqb k 6) 3 0));
+        contents = joinParts 8 (λ k. replicate 32 (cond (eqb k 6) 3 0));
       };
       state = stateWords 3 page;
     }

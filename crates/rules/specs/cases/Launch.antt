@@ -2,6 +2,7 @@
 use Prim.Native.Nat.{ℕ}
 use mathlib.Core.Path.{refl}
 use mathlib.Core.List.{List, [], _∷_}
+use Rattle.bounded.specs.Limits.{twoWidths}
 use Rattle.outcome.specs.Row.{Row, row, RowsHold}
 use Rattle.sizes.specs.Sizes.{sizesOf}
 use Rattle.state.specs.State.{stateWords}
@@ -13,9 +14,9 @@ use Rattle.rules.specs.cases.Computing.{computing}
 -- the answers of launch, withdraw and launch of page 0, one page and one slot, from a state with this committed and this used version
 unfoldable pub launchedAgain : (committed used : ℕ) → List ℕ
 launchedAgain committed used =
-    let launch = launchOutcome (sizesOf 1 1) (stateWords 1 (λ p. atRest committed used)) (0 ∷ []) in
-    let withdraw = withdrawOutcome (sizesOf 1 1) (launch .left) 0 in
-    launch .answer ∷ withdraw .answer ∷ launchOutcome (sizesOf 1 1) (withdraw .left) (0 ∷ []) .answer ∷ []
+    let launch = launchOutcome twoWidths (sizesOf 1 1 32) (stateWords 1 (λ p. atRest committed used)) (0 ∷ []) in
+    let withdraw = withdrawOutcome twoWidths (sizesOf 1 1 32) (launch .left) 0 in
+    launch .answer ∷ withdraw .answer ∷ launchOutcome twoWidths (sizesOf 1 1 32) (withdraw .left) (0 ∷ []) .answer ∷ []
 
 -- "launch with used 4,294,967,293, then withdraw, launch again"
 unfoldable pub launchRows : List Row

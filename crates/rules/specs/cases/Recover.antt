@@ -3,6 +3,7 @@ use Prim.Native.Nat.{ℕ, _*_}
 use mathlib.Core.Path.{refl}
 use mathlib.Core.List.{List, [], _∷_, _++_}
 use lib.ListN.{replicate}
+use Rattle.bounded.specs.Limits.{twoWidths}
 use Rattle.bounded.specs.Parts.{joinParts}
 use Rattle.outcome.specs.Outcome.{Outcome}
 use Rattle.outcome.specs.Row.{Row, row, RowsHold}
@@ -15,7 +16,7 @@ use Rattle.rules.specs.cases.Computing.{computing}
 
 -- Recover on 8 slots that hold these records; the old state holds anything, here 7 in every word.
 unfoldable pub recoverOn : ℕ → List Record → Outcome (List ℕ)
-recoverOn P records = recoverOutcome (sizesOf P 8) (tableOf 8 records) (replicate (4 * P) 7)
+recoverOn P records = recoverOutcome twoWidths (sizesOf P 8 32) (tableOf 8 records) (replicate (4 * P) 7)
 
 -- the committed versions that an outcome's state says, page by page; and the used ones
 unfoldable pub committedIn : ℕ → Outcome (List ℕ) → List ℕ

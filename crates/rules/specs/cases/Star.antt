@@ -3,7 +3,7 @@ use Prim.Native.Nat.{ℕ, _*_}
 use mathlib.Core.Path.{_≡_, refl, ap}
 use mathlib.Core.List.{List, [], _∷_, _++_}
 use lib.ListN.{replicate}
-use Rattle.bounded.specs.Limits.{width, noNumber}
+use Rattle.bounded.specs.Limits.{noNumber, twoWidths}
 use Rattle.bounded.specs.Parts.{part}
 use Rattle.outcome.specs.Outcome.{Outcome}
 use Rattle.outcome.specs.Row.{Row, row, RowsHold, rows-join}
@@ -22,15 +22,15 @@ unfoldable pub recovered4 : Outcome (List ℕ)
 recovered4 = recoverOn 3 table4
 
 unfoldable pub launched6 : Outcome (List ℕ)
-launched6 = launchOutcome (sizesOf 3 8) (recovered4 .left) (1 ∷ [])
+launched6 = launchOutcome twoWidths (sizesOf 3 8 32) (recovered4 .left) (1 ∷ [])
 
 -- the volume of case 4, with a state
 unfoldable pub volume4 : List ℕ → Volume
-volume4 state = record { flash = record { words = tableOf 8 table4; contents = replicate (width * 8) 0 }; state = state }
+volume4 state = record { flash = record { words = tableOf 8 table4; contents = replicate (32 * 8) 0 }; state = state }
 
 -- slot 6 is the lowest blank one; the bytes may be any
 unfoldable pub written6 : Outcome Volume
-written6 = writeOutcome width (sizesOf 3 8) (volume4 (launched6 .left)) 1 6 (replicate width 3)
+written6 = writeOutcome twoWidths (sizesOf 3 8 32) (volume4 (launched6 .left)) 1 6 (replicate 32 3)
 
 -- Case 6's three answers, done, and the words of the record written, "(1,3,2,1,3)"; then cases 6 to 8 on the volume that is left.
 unfoldable pub rows6 : (recovered launched : Outcome (List ℕ)) (written : Outcome Volume) → List Row
@@ -52,11 +52,11 @@ recovered4-is = refl
 
 launched6-is : launched6 ≡ record { answer = 0; second = 0; left = 0 ∷ 1 ∷ noNumber ∷ 0 ∷ 2 ∷ 3 ∷ 1 ∷ 0 ∷ 1 ∷ 1 ∷ noNumber ∷ 0 ∷ [] }
 unfolding launched6 computing
-launched6-is = ap (λ (o : Outcome (List ℕ)). launchOutcome (sizesOf 3 8) (o .left) (1 ∷ [])) recovered4-is
+launched6-is = ap (λ (o : Outcome (List ℕ)). launchOutcome twoWidths (sizesOf 3 8 32) (o .left) (1 ∷ [])) recovered4-is
 
 written6-is : written6 ≡ record { answer = 0; second = 1; left = volume6 }
 unfolding written6 volume4 volume6 table4 computing
-written6-is = ap (λ (o : Outcome (List ℕ)). writeOutcome width (sizesOf 3 8) (volume4 (o .left)) 1 6 (replicate width 3)) launched6-is
+written6-is = ap (λ (o : Outcome (List ℕ)). writeOutcome twoWidths (sizesOf 3 8 32) (volume4 (o .left)) 1 6 (replicate 32 3)) launched6-is
 
 rows6-hold : RowsHold (rows6 recovered4 launched6 written6)
 unfolding rows6 volume6 computing

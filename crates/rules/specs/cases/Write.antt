@@ -2,7 +2,7 @@
 use mathlib.Core.Path.{refl}
 use mathlib.Core.List.{List, [], _∷_}
 use lib.ListN.{replicate}
-use Rattle.bounded.specs.Limits.{width}
+use Rattle.bounded.specs.Limits.{twoWidths}
 use Rattle.bounded.specs.Parts.{part}
 use Rattle.outcome.specs.Outcome.{Outcome}
 use Rattle.outcome.specs.Row.{Row, row, RowsHold}
@@ -15,14 +15,14 @@ use Rattle.rules.specs.cases.Computing.{computing}
 
 -- a formatted volume of 2 pages and 4 slots on which pages 0 and 1 are launched
 unfoldable pub launched2 : Volume
-launched2 = record { flash = formatted width (sizesOf 2 4) .flash; state = launchOutcome (sizesOf 2 4) (formatted width (sizesOf 2 4) .state) (0 ∷ 1 ∷ []) .left }
+launched2 = record { flash = formatted (sizesOf 2 4 32) .flash; state = launchOutcome twoWidths (sizesOf 2 4 32) (formatted (sizesOf 2 4 32) .state) (0 ∷ 1 ∷ []) .left }
 
 -- page 0 is written into slot 2, then page 1 into slot 3
 unfoldable pub first2 : Outcome Volume
-first2 = writeOutcome width (sizesOf 2 4) launched2 0 2 (replicate width 3)
+first2 = writeOutcome twoWidths (sizesOf 2 4 32) launched2 0 2 (replicate 32 3)
 
 unfoldable pub second2 : Outcome Volume
-second2 = writeOutcome width (sizesOf 2 4) (first2 .left) 1 3 (replicate width 3)
+second2 = writeOutcome twoWidths (sizesOf 2 4 32) (first2 .left) 1 3 (replicate 32 3)
 
 -- the answer, done, and the words of the slot written
 unfoldable pub writeRows : List Row

@@ -6,6 +6,7 @@ use mathlib.Core.Bool.{true, false, _&&_}
 use lib.Dec.{ltb, eqb}
 use lib.ListN.{length}
 use borrow.Author.Tests.{ltb-true, eqb-true}
+use Rattle.bounded.specs.Limits.{Widths}
 use Rattle.bounded.specs.Choice.{both-left, both-right}
 use Rattle.bounded.specs.Below.{someBelow}
 use Rattle.bounded.specs.BelowLaws.{first-found, first-passes, first-none-before}
@@ -39,9 +40,9 @@ pub record WithdrawTests (P : ℕ) (state : List ℕ) (page : ℕ) : Type 0 wher
   pub page-below : page < P
   pub flying : inFlight (stateAt state page) ≡ true
 
-pub record WriteTests (w : ℕ) (sizes : Sizes) (v : Volume) (page slot : ℕ) (bytes : List ℕ) : Type 0 where
-  pub fits : Fits w sizes v
-  pub whole : length bytes ≡ w
+pub record WriteTests (widths : Widths) (sizes : Sizes) (v : Volume) (page slot : ℕ) (bytes : List ℕ) : Type 0 where
+  pub fits : Fits widths sizes v
+  pub whole : length bytes ≡ (sizes .width)
   pub sound : stateSound (sizes .pages) (stateAt (v .state)) ≡ true
   pub page-below : page < (sizes .pages)
   pub slot-below : slot < (sizes .slots)
@@ -49,34 +50,34 @@ pub record WriteTests (w : ℕ) (sizes : Sizes) (v : Volume) (page slot : ℕ) (
   pub unwritten : isWritten (stateAt (v .state) page) ≡ false
   pub free : isBlank (slotAt (v .flash .words) slot) ≡ true
 
-module _ (sizes : Sizes) (state : List ℕ) where
+module _ (widths : Widths) (sizes : Sizes) (state : List ℕ) where
   -- the state's words are four for each of P pages
-  sized : (sizesOk sizes && stateFits (sizes .pages) state) ≡ true → length state ≡ 4 * (sizes .pages)
-  sized e = state-fits-exactly (sizes .pages) state .0 (both-right (sizesOk sizes) (stateFits (sizes .pages) state) e)
+  sized : (sizesOk widths sizes && stateFits (sizes .pages) state) ≡ true → length state ≡ 4 * (sizes .pages)
+  sized e = state-fits-exactly (sizes .pages) state .0 (both-right (sizesOk widths sizes) (stateFits (sizes .pages) state) e)
 
-  pub launch-tests : (pages : List ℕ) → launchAnswer sizes state pages ≡ 0 → LaunchTests (sizes .pages) state pages
+  pub launch-tests : (pages : List ℕ) → launchAnswer widths sizes state pages ≡ 0 → LaunchTests (sizes .pages) state pages
   unfolding launchAnswer
   launch-tests pages z =
-      let a = held (sizesOk sizes && stateFits (sizes .pages) state) _ _ z in
+      let a = held (sizesOk widths sizes && stateFits (sizes .pages) state) _ _ z in
       let b = held (stateSound (sizes .pages) (stateAt state)) _ _ (a .1) in
       let c = held (listOk (sizes .pages) pages) _ _ (b .1) in
       let d = passed (somePage pages (stateAt state) inFlight) _ _ (c .1) in
       let f = passed (somePage pages (stateAt state) usedUp) _ _ (d .1) in
       record { state-sized = sized (a .0); sound = b .0; listed = c .0; none-flying = d .0; none-used-up = f .0 }
 
-  pub withdraw-tests : (page : ℕ) → withdrawAnswer sizes state page ≡ 0 → WithdrawTests (sizes .pages) state page
+  pub withdraw-tests : (page : ℕ) → withdrawAnswer widths sizes state page ≡ 0 → WithdrawTests (sizes .pages) state page
   unfolding withdrawAnswer
   withdraw-tests page z =
-      let a = held (sizesOk sizes && stateFits (sizes .pages) state) _ _ z in
+      let a = held (sizesOk widths sizes && stateFits (sizes .pages) state) _ _ z in
       let b = held (stateSound (sizes .pages) (stateAt state)) _ _ (a .1) in
       let c = held (ltb page (sizes .pages)) _ _ (b .1) in
       let d = held (inFlight (stateAt state page)) _ _ (c .1) in
       record { state-sized = sized (a .0); sound = b .0; page-below = ltb-true page (sizes .pages) (c .0); flying = d .0 }
 
-pub write-tests : (w : ℕ) (sizes : Sizes) (v : Volume) (page slot : ℕ) (bytes : List ℕ) → writeAnswer w sizes v page slot bytes ≡ 0 → WriteTests w sizes v page slot bytes
+pub write-tests : (widths : Widths) (sizes : Sizes) (v : Volume) (page slot : ℕ) (bytes : List ℕ) → writeAnswer widths sizes v page slot bytes ≡ 0 → WriteTests widths sizes v page slot bytes
 unfolding writeAnswer
-write-tests w sizes v page slot bytes z =
-    let a = held (volumeFits w sizes v && eqb (length bytes) w) _ _ z in
+write-tests widths sizes v page slot bytes z =
+    let a = held (volumeFits widths sizes v && eqb (length bytes) (sizes .width)) _ _ z in
     let b = held (tableSound (sizes .pages) (sizes .slots) (slotAt (v .flash .words))) _ _ (a .1) in
     let c = held (stateSound (sizes .pages) (stateAt (v .state))) _ _ (b .1) in
     let d = held (ltb page (sizes .pages) && ltb slot (sizes .slots)) _ _ (c .1) in
@@ -84,8 +85,8 @@ write-tests w sizes v page slot bytes z =
     let g = passed (isWritten (stateAt (v .state) page)) _ _ (f .1) in
     let h = held (isBlank (slotAt (v .flash .words) slot)) _ _ (g .1) in
     record {
-      fits = fits-facts w sizes v (both-left (volumeFits w sizes v) (eqb (length bytes) w) (a .0));
-      whole = eqb-true (length bytes) w (both-right (volumeFits w sizes v) (eqb (length bytes) w) (a .0));
+      fits = fits-facts widths sizes v (both-left (volumeFits widths sizes v) (eqb (length bytes) (sizes .width)) (a .0));
+      whole = eqb-true (length bytes) (sizes .width) (both-right (volumeFits widths sizes v) (eqb (length bytes) (sizes .width)) (a .0));
       sound = c .0;
       page-below = ltb-true page (sizes .pages) (both-left (ltb page (sizes .pages)) (ltb slot (sizes .slots)) (d .0));
       slot-below = ltb-true slot (sizes .slots) (both-right (ltb page (sizes .pages)) (ltb slot (sizes .slots)) (d .0));
@@ -94,20 +95,20 @@ write-tests w sizes v page slot bytes z =
       free = h .0;
     }
 
-pub record EraseTests (w : ℕ) (sizes : Sizes) (v : Volume) (list : List ℕ) : Type 0 where
-  pub fits : Fits w sizes v
+pub record EraseTests (widths : Widths) (sizes : Sizes) (v : Volume) (list : List ℕ) : Type 0 where
+  pub fits : Fits widths sizes v
   pub listed : listOk (sizes .slots) list ≡ true
   pub permitted : mayEraseAll (sizes .slots) (slotAt (v .flash .words)) (stateAt (v .state)) list ≡ true
 
-pub erase-tests : (w : ℕ) (sizes : Sizes) (v : Volume) (list : List ℕ) → eraseAnswer w sizes v list ≡ 0 → EraseTests w sizes v list
+pub erase-tests : (widths : Widths) (sizes : Sizes) (v : Volume) (list : List ℕ) → eraseAnswer widths sizes v list ≡ 0 → EraseTests widths sizes v list
 unfolding eraseAnswer
-erase-tests w sizes v list e =
-    let a = held (volumeFits w sizes v) _ _ e in
+erase-tests widths sizes v list e =
+    let a = held (volumeFits widths sizes v) _ _ e in
     let b = held (tableSound (sizes .pages) (sizes .slots) (slotAt (v .flash .words))) _ _ (a .1) in
     let c = held (stateSound (sizes .pages) (stateAt (v .state))) _ _ (b .1) in
     let d = held (listOk (sizes .slots) list) _ _ (c .1) in
     let f = held (mayEraseAll (sizes .slots) (slotAt (v .flash .words)) (stateAt (v .state)) list) _ _ (d .1) in
-    record { fits = fits-facts w sizes v (a .0); listed = d .0; permitted = f .0 }
+    record { fits = fits-facts widths sizes v (a .0); listed = d .0; permitted = f .0 }
 
 -- "the lowest": a slot that may be erased, and none below it may
 pub record Lowest (S : ℕ) (words state : List ℕ) (slot : ℕ) : Type 0 where
@@ -116,14 +117,14 @@ pub record Lowest (S : ℕ) (words state : List ℕ) (slot : ℕ) : Type 0 where
   pub none-lower : (k : ℕ) → k < slot → mayErase S (slotAt words) (stateAt state) k ≡ false
 
 -- Where suggest answers 0 the slot that it names is the lowest that may be erased.
-pub suggested-lowest : (sizes : Sizes) (words state : List ℕ) → suggestAnswer sizes words state ≡ 0 → Lowest (sizes .slots) words state (suggestOutcome sizes words state .second)
+pub suggested-lowest : (widths : Widths) (sizes : Sizes) (words state : List ℕ) → suggestAnswer widths sizes words state ≡ 0 → Lowest (sizes .slots) words state (suggestOutcome widths sizes words state .second)
 unfolding suggestAnswer suggestedSlot
-suggested-lowest sizes words state z =
+suggested-lowest widths sizes words state z =
     let S = sizes .slots in
     let may = mayErase S (slotAt words) (stateAt state) in
-    let a = held (sizesOk sizes && (wordsFit S words && stateFits (sizes .pages) state)) _ _ z in
+    let a = held (sizesOk widths sizes && (wordsFit S words && stateFits (sizes .pages) state)) _ _ z in
     let b = held (tableSound (sizes .pages) S (slotAt words)) _ _ (a .1) in
     let c = held (stateSound (sizes .pages) (stateAt state)) _ _ (b .1) in
     let d = held (someBelow S may) _ _ (c .1) in
     let l = first-found may S (d .0) in
-    rw (suggest-done sizes words state z) (record { slot-below = l; permitted = first-passes may S l; none-lower = first-none-before may S })
+    rw (suggest-done widths sizes words state z) (record { slot-below = l; permitted = first-passes may S l; none-lower = first-none-before may S })

@@ -7,6 +7,7 @@ use mathlib.Core.Bool.{Bool, true, not, _&&_}
 use lib.Dec.{ltb, eqb}
 use lib.ListN.{length}
 use borrow.Author.Tests.{eqb-true}
+use Rattle.bounded.specs.Limits.{Widths}
 use Rattle.bounded.specs.Choice.{both-left, both-right}
 use Rattle.bounded.specs.Below.{someBelow}
 use Rattle.outcome.specs.Outcome.{_⇒_otherwise_}
@@ -40,9 +41,9 @@ judged fits P S words state =
     0
 
 -- 1 and 5 of the calls on the state alone
-unfoldable pub stateJudged : (sizes : Sizes) (state : List ℕ) → ℕ
-stateJudged sizes state =
-    not (sizesOk sizes && stateFits (sizes .pages) state) ⇒ 1 otherwise
+unfoldable pub stateJudged : Widths → Sizes → (state : List ℕ) → ℕ
+stateJudged widths sizes state =
+    not (sizesOk widths sizes && stateFits (sizes .pages) state) ⇒ 1 otherwise
     not (stateSound (sizes .pages) (stateAt state)) ⇒ 5 otherwise
     0
 
@@ -76,14 +77,14 @@ pub record StateJudged (sizes : Sizes) (state : List ℕ) : Type 0 where
   pub fitting : stateFits (sizes .pages) state ≡ true
   pub sound : stateSound (sizes .pages) (stateAt state) ≡ true
 
-pub state-judged-passed : (sizes : Sizes) (state : List ℕ) → stateJudged sizes state ≡ 0 → StateJudged sizes state
+pub state-judged-passed : (widths : Widths) (sizes : Sizes) (state : List ℕ) → stateJudged widths sizes state ≡ 0 → StateJudged sizes state
 unfolding stateJudged
-state-judged-passed sizes state e =
-    let a = held (sizesOk sizes && stateFits (sizes .pages) state) _ _ e in
+state-judged-passed widths sizes state e =
+    let a = held (sizesOk widths sizes && stateFits (sizes .pages) state) _ _ e in
     let b = held (stateSound (sizes .pages) (stateAt state)) _ _ (a .1) in
     record {
-      bounds = sizes-facts sizes (both-left (sizesOk sizes) (stateFits (sizes .pages) state) (a .0));
-      fitting = both-right (sizesOk sizes) (stateFits (sizes .pages) state) (a .0);
+      bounds = sizes-facts widths sizes (both-left (sizesOk widths sizes) (stateFits (sizes .pages) state) (a .0)) .0;
+      fitting = both-right (sizesOk widths sizes) (stateFits (sizes .pages) state) (a .0);
       sound = b .0;
     }
 
@@ -94,29 +95,29 @@ pub record Spans (P S : ℕ) (words state : List ℕ) : Type 0 where
   pub slots-in : 5 * S ≤ length words
   pub pages-in : 4 * P ≤ length state
 
-pub volume-spans : (w : ℕ) (sizes : Sizes) (v : Volume) → volumeFits w sizes v ≡ true → Spans (sizes .pages) (sizes .slots) (v .flash .words) (v .state)
-volume-spans w sizes v e =
-    let f = fits-facts w sizes v e in
+pub volume-spans : (widths : Widths) (sizes : Sizes) (v : Volume) → volumeFits widths sizes v ≡ true → Spans (sizes .pages) (sizes .slots) (v .flash .words) (v .state)
+volume-spans widths sizes v e =
+    let f = fits-facts widths sizes v e in
     let x = f .flash-sized .words-sized in
     let y = f .state-sized in
     record { bounds = f .bounds; slots-in = omega arith; pages-in = omega arith }
 
 -- … with one test more
-pub slice-spans : (w : ℕ) (sizes : Sizes) (v : Volume) (b : Bool) → (volumeFits w sizes v && b) ≡ true → Spans (sizes .pages) (sizes .slots) (v .flash .words) (v .state)
-slice-spans w sizes v b e = volume-spans w sizes v (both-left (volumeFits w sizes v) b e)
+pub slice-spans : (widths : Widths) (sizes : Sizes) (v : Volume) (b : Bool) → (volumeFits widths sizes v && b) ≡ true → Spans (sizes .pages) (sizes .slots) (v .flash .words) (v .state)
+slice-spans widths sizes v b e = volume-spans widths sizes v (both-left (volumeFits widths sizes v) b e)
 
 -- … and the slice is as long as a slot's bytes
-pub slice-whole : (w : ℕ) (sizes : Sizes) (v : Volume) (n : ℕ) → (volumeFits w sizes v && eqb n w) ≡ true → Fits w sizes v × (n ≡ w)
-slice-whole w sizes v n e =
-    (fits-facts w sizes v (both-left (volumeFits w sizes v) (eqb n w) e), eqb-true n w (both-right (volumeFits w sizes v) (eqb n w) e))
+pub slice-whole : (widths : Widths) (sizes : Sizes) (v : Volume) (n : ℕ) → (volumeFits widths sizes v && eqb n (sizes .width)) ≡ true → Fits widths sizes v × (n ≡ (sizes .width))
+slice-whole widths sizes v n e =
+    (fits-facts widths sizes v (both-left (volumeFits widths sizes v) (eqb n (sizes .width)) e), eqb-true n (sizes .width) (both-right (volumeFits widths sizes v) (eqb n (sizes .width)) e))
 
-pub table-spans : (sizes : Sizes) (words state : List ℕ) → (sizesOk sizes && (wordsFit (sizes .slots) words && stateFits (sizes .pages) state)) ≡ true → Spans (sizes .pages) (sizes .slots) words state
-table-spans sizes words state e =
-    let f = both-right (sizesOk sizes) (wordsFit (sizes .slots) words && stateFits (sizes .pages) state) e in
+pub table-spans : (widths : Widths) (sizes : Sizes) (words state : List ℕ) → (sizesOk widths sizes && (wordsFit (sizes .slots) words && stateFits (sizes .pages) state)) ≡ true → Spans (sizes .pages) (sizes .slots) words state
+table-spans widths sizes words state e =
+    let f = both-right (sizesOk widths sizes) (wordsFit (sizes .slots) words && stateFits (sizes .pages) state) e in
     let x = words-fit-exactly (sizes .slots) words .0 (both-left (wordsFit (sizes .slots) words) (stateFits (sizes .pages) state) f) in
     let y = state-fits-exactly (sizes .pages) state .0 (both-right (wordsFit (sizes .slots) words) (stateFits (sizes .pages) state) f) in
     record {
-      bounds = sizes-facts sizes (both-left (sizesOk sizes) (wordsFit (sizes .slots) words && stateFits (sizes .pages) state) e);
+      bounds = sizes-facts widths sizes (both-left (sizesOk widths sizes) (wordsFit (sizes .slots) words && stateFits (sizes .pages) state) e) .0;
       slots-in = omega arith;
       pages-in = omega arith;
     }
@@ -133,9 +134,9 @@ listAnswer state pages =
 unfoldable pub launchOwn : ℕ → (state pages : List ℕ) → ℕ
 launchOwn P state pages = not (listOk P pages) ⇒ 6 otherwise listAnswer state pages
 
-pub launch-chain : (sizes : Sizes) (state pages : List ℕ) → launchAnswer sizes state pages ≡ firstOf (stateJudged sizes state) (launchOwn (sizes .pages) state pages)
+pub launch-chain : (widths : Widths) (sizes : Sizes) (state pages : List ℕ) → launchAnswer widths sizes state pages ≡ firstOf (stateJudged widths sizes state) (launchOwn (sizes .pages) state pages)
 unfolding launchAnswer stateJudged launchOwn listAnswer
-launch-chain sizes state pages = split-two (not (sizesOk sizes && stateFits (sizes .pages) state)) (not (stateSound (sizes .pages) (stateAt state))) 0 4 _
+launch-chain widths sizes state pages = split-two (not (sizesOk widths sizes && stateFits (sizes .pages) state)) (not (stateSound (sizes .pages) (stateAt state))) 0 4 _
 
 -- withdraw: 6 and 9
 unfoldable pub withdrawOwn : ℕ → List ℕ → ℕ → ℕ
@@ -144,9 +145,9 @@ withdrawOwn P state page =
     not (inFlight (stateAt state page)) ⇒ 9 otherwise
     0
 
-pub withdraw-chain : (sizes : Sizes) (state : List ℕ) (page : ℕ) → withdrawAnswer sizes state page ≡ firstOf (stateJudged sizes state) (withdrawOwn (sizes .pages) state page)
+pub withdraw-chain : (widths : Widths) (sizes : Sizes) (state : List ℕ) (page : ℕ) → withdrawAnswer widths sizes state page ≡ firstOf (stateJudged widths sizes state) (withdrawOwn (sizes .pages) state page)
 unfolding withdrawAnswer stateJudged withdrawOwn
-withdraw-chain sizes state page = split-two (not (sizesOk sizes && stateFits (sizes .pages) state)) (not (stateSound (sizes .pages) (stateAt state))) 0 4 _
+withdraw-chain widths sizes state page = split-two (not (sizesOk widths sizes && stateFits (sizes .pages) state)) (not (stateSound (sizes .pages) (stateAt state))) 0 4 _
 
 -- write: 6, then 9, 10 and 11 by the page's state and whether the slot is blank
 unfoldable pub pageAnswer : PageState → Bool → ℕ
@@ -160,12 +161,12 @@ unfoldable pub writeOwn : (P S : ℕ) (words state : List ℕ) (page slot : ℕ)
 writeOwn P S words state page slot = not (ltb page P && ltb slot S) ⇒ 6 otherwise pageAnswer (stateAt state page) (isBlank (slotAt words slot))
 
 pub write-chain :
-    (w : ℕ) (sizes : Sizes) (v : Volume) (page slot : ℕ) (bytes : List ℕ)
-    → writeAnswer w sizes v page slot bytes
-    ≡ firstOf (judged (volumeFits w sizes v && eqb (length bytes) w) (sizes .pages) (sizes .slots) (v .flash .words) (v .state)) (writeOwn (sizes .pages) (sizes .slots) (v .flash .words) (v .state) page slot)
+    (widths : Widths) (sizes : Sizes) (v : Volume) (page slot : ℕ) (bytes : List ℕ)
+    → writeAnswer widths sizes v page slot bytes
+    ≡ firstOf (judged (volumeFits widths sizes v && eqb (length bytes) (sizes .width)) (sizes .pages) (sizes .slots) (v .flash .words) (v .state)) (writeOwn (sizes .pages) (sizes .slots) (v .flash .words) (v .state) page slot)
 unfolding writeAnswer judged writeOwn pageAnswer
-write-chain w sizes v page slot bytes =
-    split-three (not (volumeFits w sizes v && eqb (length bytes) w)) (not (tableSound (sizes .pages) (sizes .slots) (slotAt (v .flash .words)))) (not (stateSound (sizes .pages) (stateAt (v .state)))) 0 1 4 _
+write-chain widths sizes v page slot bytes =
+    split-three (not (volumeFits widths sizes v && eqb (length bytes) (sizes .width))) (not (tableSound (sizes .pages) (sizes .slots) (slotAt (v .flash .words)))) (not (stateSound (sizes .pages) (stateAt (v .state)))) 0 1 4 _
 
 -- erase: 6 and 12
 unfoldable pub eraseOwn : ℕ → (words state slots : List ℕ) → ℕ
@@ -174,19 +175,19 @@ eraseOwn S words state slots =
     not (mayEraseAll S (slotAt words) (stateAt state) slots) ⇒ 12 otherwise
     0
 
-pub erase-chain : (w : ℕ) (sizes : Sizes) (v : Volume) (slots : List ℕ) → eraseAnswer w sizes v slots ≡ firstOf (judged (volumeFits w sizes v) (sizes .pages) (sizes .slots) (v .flash .words) (v .state)) (eraseOwn (sizes .slots) (v .flash .words) (v .state) slots)
+pub erase-chain : (widths : Widths) (sizes : Sizes) (v : Volume) (slots : List ℕ) → eraseAnswer widths sizes v slots ≡ firstOf (judged (volumeFits widths sizes v) (sizes .pages) (sizes .slots) (v .flash .words) (v .state)) (eraseOwn (sizes .slots) (v .flash .words) (v .state) slots)
 unfolding eraseAnswer judged eraseOwn
-erase-chain w sizes v slots =
-    split-three (not (volumeFits w sizes v)) (not (tableSound (sizes .pages) (sizes .slots) (slotAt (v .flash .words)))) (not (stateSound (sizes .pages) (stateAt (v .state)))) 0 1 4 _
+erase-chain widths sizes v slots =
+    split-three (not (volumeFits widths sizes v)) (not (tableSound (sizes .pages) (sizes .slots) (slotAt (v .flash .words)))) (not (stateSound (sizes .pages) (stateAt (v .state)))) 0 1 4 _
 
 -- suggest: 13
 unfoldable pub suggestOwn : ℕ → (words state : List ℕ) → ℕ
 suggestOwn S words state = not (someBelow S (mayErase S (slotAt words) (stateAt state))) ⇒ 13 otherwise 0
 
-pub suggest-chain : (sizes : Sizes) (words state : List ℕ) → suggestAnswer sizes words state ≡ firstOf (judged (sizesOk sizes && (wordsFit (sizes .slots) words && stateFits (sizes .pages) state)) (sizes .pages) (sizes .slots) words state) (suggestOwn (sizes .slots) words state)
+pub suggest-chain : (widths : Widths) (sizes : Sizes) (words state : List ℕ) → suggestAnswer widths sizes words state ≡ firstOf (judged (sizesOk widths sizes && (wordsFit (sizes .slots) words && stateFits (sizes .pages) state)) (sizes .pages) (sizes .slots) words state) (suggestOwn (sizes .slots) words state)
 unfolding suggestAnswer judged suggestOwn
-suggest-chain sizes words state =
-    split-three (not (sizesOk sizes && (wordsFit (sizes .slots) words && stateFits (sizes .pages) state))) (not (tableSound (sizes .pages) (sizes .slots) (slotAt words))) (not (stateSound (sizes .pages) (stateAt state))) 0 1 4 _
+suggest-chain widths sizes words state =
+    split-three (not (sizesOk widths sizes && (wordsFit (sizes .slots) words && stateFits (sizes .pages) state))) (not (tableSound (sizes .pages) (sizes .slots) (slotAt words))) (not (stateSound (sizes .pages) (stateAt state))) 0 1 4 _
 
 -- read: 6 and 14
 unfoldable pub readOwn : (P S : ℕ) (words state : List ℕ) (page : ℕ) → ℕ
@@ -196,8 +197,8 @@ readOwn P S words state page =
     0
 
 pub read-chain :
-    (w : ℕ) (sizes : Sizes) (v : Volume) (page : ℕ) (out : List ℕ)
-    → readAnswer w sizes v page out ≡ firstOf (judged (volumeFits w sizes v && eqb (length out) w) (sizes .pages) (sizes .slots) (v .flash .words) (v .state)) (readOwn (sizes .pages) (sizes .slots) (v .flash .words) (v .state) page)
+    (widths : Widths) (sizes : Sizes) (v : Volume) (page : ℕ) (out : List ℕ)
+    → readAnswer widths sizes v page out ≡ firstOf (judged (volumeFits widths sizes v && eqb (length out) (sizes .width)) (sizes .pages) (sizes .slots) (v .flash .words) (v .state)) (readOwn (sizes .pages) (sizes .slots) (v .flash .words) (v .state) page)
 unfolding readAnswer judged readOwn
-read-chain w sizes v page out =
-    split-three (not (volumeFits w sizes v && eqb (length out) w)) (not (tableSound (sizes .pages) (sizes .slots) (slotAt (v .flash .words)))) (not (stateSound (sizes .pages) (stateAt (v .state)))) 0 1 4 _
+read-chain widths sizes v page out =
+    split-three (not (volumeFits widths sizes v && eqb (length out) (sizes .width))) (not (tableSound (sizes .pages) (sizes .slots) (slotAt (v .flash .words)))) (not (stateSound (sizes .pages) (stateAt (v .state)))) 0 1 4 _

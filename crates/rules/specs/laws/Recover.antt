@@ -7,6 +7,7 @@ use mathlib.Core.Logic.{_↔_}
 use mathlib.Core.Bool.{Bool, true, false, cond}
 use lib.Dec.{ltb}
 use lib.ListN.{length}
+use Rattle.bounded.specs.Limits.{Widths}
 use Rattle.bounded.specs.Below.{someBelow}
 use Rattle.bounded.specs.Choice.{never}
 use Rattle.bounded.specs.BelowLaws.{some-at, some-of}
@@ -89,19 +90,19 @@ astray-means P S t sound = (
 -- ---- recovery reads only the slot table
 
 -- The answer depends on P, S, the slot words and the state's length alone,
-pub recover-answer-reads : (sizes : Sizes) (words a b : List ℕ) → length a ≡ length b → recoverAnswer sizes words a ≡ recoverAnswer sizes words b
+pub recover-answer-reads : (widths : Widths) (sizes : Sizes) (words a b : List ℕ) → length a ≡ length b → recoverAnswer widths sizes words a ≡ recoverAnswer widths sizes words b
 unfolding recoverAnswer stateFits
-recover-answer-reads sizes words a b e = rw (recoverAnswer, stateFits, e)
+recover-answer-reads widths sizes words a b e = rw (recoverAnswer, stateFits, e)
 
 -- and so do the words that an accepted recover fills.
 pub recover-fills :
-    (sizes : Sizes) (words a : List ℕ)
-    → recoverAnswer sizes words a ≡ 0
-    → recoverOutcome sizes words a ≡ record { answer = 0; second = 0; left = stateWords (sizes .pages) (recovered (sizes .pages) (sizes .slots) (slotAt words)) }
+    (widths : Widths) (sizes : Sizes) (words a : List ℕ)
+    → recoverAnswer widths sizes words a ≡ 0
+    → recoverOutcome widths sizes words a ≡ record { answer = 0; second = 0; left = stateWords (sizes .pages) (recovered (sizes .pages) (sizes .slots) (slotAt words)) }
 unfolding recoverOutcome
-recover-fills sizes words a e = settled-done (recoverAnswer sizes words a) 0 0 a (stateWords (sizes .pages) (recovered (sizes .pages) (sizes .slots) (slotAt words))) e
+recover-fills widths sizes words a e = settled-done (recoverAnswer widths sizes words a) 0 0 a (stateWords (sizes .pages) (recovered (sizes .pages) (sizes .slots) (slotAt words))) e
 
 -- A refused recover leaves the state as it was, and its second number is 0.
-pub recover-refused : (sizes : Sizes) (words a : List ℕ) → ¬ (recoverAnswer sizes words a ≡ 0) → recoverOutcome sizes words a ≡ record { answer = recoverAnswer sizes words a; second = 0; left = a }
+pub recover-refused : (widths : Widths) (sizes : Sizes) (words a : List ℕ) → ¬ (recoverAnswer widths sizes words a ≡ 0) → recoverOutcome widths sizes words a ≡ record { answer = recoverAnswer widths sizes words a; second = 0; left = a }
 unfolding recoverOutcome
-recover-refused sizes words a h = settled-refused (recoverAnswer sizes words a) 0 0 a (stateWords (sizes .pages) (recovered (sizes .pages) (sizes .slots) (slotAt words))) h
+recover-refused widths sizes words a h = settled-refused (recoverAnswer widths sizes words a) 0 0 a (stateWords (sizes .pages) (recovered (sizes .pages) (sizes .slots) (slotAt words))) h

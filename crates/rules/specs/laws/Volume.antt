@@ -4,6 +4,7 @@ use mathlib.Core.Path.{_≡_}
 use mathlib.Core.Logic.{_↔_}
 use mathlib.Core.Bool.{Bool, true, _&&_}
 use lib.ListN.{length}
+use Rattle.bounded.specs.Limits.{Widths}
 use Rattle.bounded.specs.Choice.{both, both-left, both-right}
 use Rattle.sizes.specs.declared.Sizes.{Sizes}
 use Rattle.sizes.specs.Sizes.{sizesOk, wordsFit, contentsFit, stateFits}
@@ -11,36 +12,39 @@ use Rattle.sizes.specs.SizesLaws.{SizesFacts, sizes-facts, sizes-test, words-fi
 use Rattle.record.specs.FlashLaws.{Sized}
 use Rattle.rules.specs.Volume.{Volume, volumeFits}
 
--- P, S and the lengths of a volume's buffers are right
-pub record Fits (w : ℕ) (sizes : Sizes) (v : Volume) : Type 0 where
+-- P, S, the width and the lengths of a volume's buffers are right
+pub record Fits (widths : Widths) (sizes : Sizes) (v : Volume) : Type 0 where
   pub bounds : SizesFacts (sizes .pages) (sizes .slots)
-  pub flash-sized : Sized w (sizes .slots) (v .flash)
+  pub allowed : widths (sizes .width) ≡ true
+  pub flash-sized : Sized (sizes .width) (sizes .slots) (v .flash)
   pub state-sized : length (v .state) ≡ 4 * (sizes .pages)
 
-module _ (w : ℕ) (sizes : Sizes) (v : Volume) where
-  pub fits-facts : volumeFits w sizes v ≡ true → Fits w sizes v
+module _ (widths : Widths) (sizes : Sizes) (v : Volume) where
+  pub fits-facts : volumeFits widths sizes v ≡ true → Fits widths sizes v
   unfolding volumeFits
   fits-facts e =
       let words-test : Bool = wordsFit (sizes .slots) (v .flash .words) in
-      let contents-test : Bool = contentsFit w (sizes .slots) (v .flash .contents) in
+      let contents-test : Bool = contentsFit (sizes .width) (sizes .slots) (v .flash .contents) in
       let state-test : Bool = stateFits (sizes .pages) (v .state) in
-      let e1 = both-right (sizesOk sizes) (words-test && (contents-test && state-test)) e in
+      let e1 = both-right (sizesOk widths sizes) (words-test && (contents-test && state-test)) e in
       let e2 = both-right words-test (contents-test && state-test) e1 in
+      let s = sizes-facts widths sizes (both-left (sizesOk widths sizes) (words-test && (contents-test && state-test)) e) in
       record {
-        bounds = sizes-facts sizes (both-left (sizesOk sizes) (words-test && (contents-test && state-test)) e);
+        bounds = s .0;
+        allowed = s .1;
         flash-sized = record {
           words-sized = words-fit-exactly (sizes .slots) (v .flash .words) .0 (both-left words-test (contents-test && state-test) e1);
-          contents-sized = contents-fit-exactly w (sizes .slots) (v .flash .contents) .0 (both-left contents-test state-test e2);
+          contents-sized = contents-fit-exactly (sizes .width) (sizes .slots) (v .flash .contents) .0 (both-left contents-test state-test e2);
         };
         state-sized = state-fits-exactly (sizes .pages) (v .state) .0 (both-right contents-test state-test e2);
       }
 
-  pub fits-test : Fits w sizes v → volumeFits w sizes v ≡ true
+  pub fits-test : Fits widths sizes v → volumeFits widths sizes v ≡ true
   unfolding volumeFits
   fits-test f =
-      both (sizes-test sizes (f .bounds))
+      both (sizes-test widths sizes (f .bounds) (f .allowed))
       (both (words-fit-exactly (sizes .slots) (v .flash .words) .1 (f .flash-sized .words-sized))
-      (both (contents-fit-exactly w (sizes .slots) (v .flash .contents) .1 (f .flash-sized .contents-sized)) (state-fits-exactly (sizes .pages) (v .state) .1 (f .state-sized))))
+      (both (contents-fit-exactly (sizes .width) (sizes .slots) (v .flash .contents) .1 (f .flash-sized .contents-sized)) (state-fits-exactly (sizes .pages) (v .state) .1 (f .state-sized))))
 
-  pub fits-exactly : (volumeFits w sizes v ≡ true) ↔ Fits w sizes v
+  pub fits-exactly : (volumeFits widths sizes v ≡ true) ↔ Fits widths sizes v
   fits-exactly = (fits-facts, fits-test)

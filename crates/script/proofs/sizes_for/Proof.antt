@@ -19,7 +19,7 @@ returns c = λ (memory : Volume) (list : List ℕ). rw (c .before .line .given .
 
 returns-2 : tie.Need-returns-2
 unfolding standing sizesFor
-returns-2 c = λ (memory : Volume) (list : List ℕ). sym (other-line _ list _ _ (c .match .keys2))
+returns-2 c = λ (memory : Volume) (list : List ℕ). sym (other-line _ list _ _ (c .before .match .keys2))
 
 pub sizes-for-spec : {M : Type 1} → statement M
 sizes-for-spec = tie.close (tie.spec enum-known-line returns returns-2)

@@ -1,5 +1,5 @@
 use borrow.Author.Needs.{needs}
-use Rattle.bounded.specs.Limits.{width}
+use Rattle.bounded.specs.Limits.{twoWidths}
 use Rattle.rules.specs.Volume.{volume}
 use Rattle.script.specs.StepLaws.{went-volume}
 use Rattle.script.proofs.volume_step.Statement.{statement}
@@ -27,7 +27,7 @@ returns : tie.Need-returns
 returns c =
     let a = c .before .before .before .before .before .before .before .before .before .before .before .before .before .before .before .before .before .before .before .before .before .before .args in
     let h = c .before .before .tell .ensures in
-    went-volume (a .run) _ (volume (a .words .now) (a .contents .now) (a .state .now)) (a .out .now) _ width (a .sizes) _ _ _ (c .before .before .before .before .before .before .before .before .before .before .before .before .before .call .ensures) (h .0 (a .list .now), (h .1 .0 (a .list .now), h .1 .1))
+    went-volume (a .run) _ (volume (a .words .now) (a .contents .now) (a .state .now)) (a .out .now) _ twoWidths (a .sizes) _ _ _ (c .before .before .before .before .before .before .before .before .before .before .before .before .before .call .ensures) (h .0 (a .list .now), (h .1 .0 (a .list .now), h .1 .1))
 
 pub volume-step-spec : {M : Type 1} → statement M
 volume-step-spec =

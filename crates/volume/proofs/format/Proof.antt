@@ -4,6 +4,7 @@ use mathlib.Core.Path.{refl}
 use borrow.Author.Needs.{needs}
 use Rattle.bounded.specs.Choice.{said-no, said-yes}
 use Rattle.outcome.specs.Reply.{reply-refused, reply-done}
+use Rattle.sizes.specs.SizesLaws.{width-most}
 use Rattle.rules.specs.laws.Volume.{fits-facts}
 use Rattle.rules.specs.Format.{formatted, formatAnswer, formatOutcome}
 use Rattle.volume.proofs.format.Statement.{statement}
@@ -32,7 +33,7 @@ returns c =
 format-flash-requires : tie.Need-format-flash-requires
 format-flash-requires c κs =
     let f = fits-facts _ _ _ (said-yes (c .before .before .before .volume-fits .ensures) (c .before .before .if1 .left)) in
-    (f .flash-sized .words-sized, f .flash-sized .contents-sized)
+    (f .flash-sized .words-sized, (f .flash-sized .contents-sized, width-most _ (f .allowed)))
 
 format-state-requires : tie.Need-format-state-requires
 format-state-requires c κs = fits-facts _ _ _ (said-yes (c .before .before .before .before .before .before .before .before .before .volume-fits .ensures) (c .before .before .before .before .before .before .before .before .if1 .left)) .state-sized

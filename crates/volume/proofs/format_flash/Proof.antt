@@ -3,32 +3,35 @@ use Prim.Native.Nat.{ℕ, _≤_, _-_}
 use native.Mathlib.Omega.{arith}
 use mathlib.Core.Path.{_≡_, refl, ap, _∙_}
 use lib.ListN.{length}
-use Rattle.bounded.specs.Limits.{width}
 use Rattle.bounded.specs.Parts.{putPart}
+use Rattle.bounded.specs.PartsLaws.{part-inside}
 use Rattle.bounded.specs.Fill.{filled, filled-none, filled-more}
-use Rattle.sizes.specs.Sizes.{sizesOf}
 use Rattle.volume.specs.FormatLaws.{freshWords, freshBytes, words-formatted, contents-formatted}
 use Rattle.volume.proofs.format_flash.Statement.{statement}
 use Rattle.volume.proofs.format_flash.Tie as tie
 
 abbrev Inv-loop : tie.InvT-loop
-Inv-loop pages slots words₀ contents₀ k₀ words contents k =
-    (k ≤ slots)
-    × (words ≡ filled 5 (freshWords pages) k words₀)
-    × (contents ≡ filled width (freshBytes width pages) k contents₀)
+Inv-loop sizes words₀ contents₀ k₀ words contents k =
+    (k ≤ sizes .slots)
+    × (words ≡ filled 5 (freshWords (sizes .pages)) k words₀)
+    × (contents ≡ filled (sizes .width) (freshBytes (sizes .width) (sizes .pages)) k contents₀)
     × (length words ≡ length words₀)
     × (length contents ≡ length contents₀)
 
 abbrev μ-loop : tie.MeasureT-loop
-μ-loop pages slots words₀ contents₀ k₀ words contents k = slots - k
+μ-loop sizes words₀ contents₀ k₀ words contents k = sizes .slots - k
 
 loop-holds : tie.Need-loop-holds Inv-loop μ-loop
 loop-holds c =
     let a = c .before .before .args in
-    (omega arith, filled-none 5 (freshWords (a .pages)) _, filled-none width (freshBytes width (a .pages)) _, refl, refl)
+    (omega arith, filled-none 5 (freshWords (a .sizes .pages)) _, filled-none (a .sizes .width) (freshBytes (a .sizes .width) (a .sizes .pages)) _, refl, refl)
 
 format-slot-requires : tie.Need-format-slot-requires Inv-loop μ-loop
-format-slot-requires c κs = (omega arith, omega arith)
+format-slot-requires c κs =
+    let b = c .before .before .before .before .before .before .before in
+    let l = c .before .before .before .before .loop in
+    let inside = part-inside (b .args .sizes .width) (b .args .sizes .slots) (l .k) (c .before .before .if1 .taken) in
+    (omega arith, (omega arith, b .pre .1 .1))
 
 add-k : tie.Need-add-k Inv-loop μ-loop
 add-k c = omega arith
@@ -38,37 +41,37 @@ loop-less c = omega arith
 
 loop-again : tie.Need-loop-again Inv-loop μ-loop
 loop-again c =
-    let a = c .before .before .before .before .before .before .before .before .before .before .before .args in
-    let l = c .before .before .before .before .before .before .before .before .loop in
+    let a = c .before .before .before .before .before .before .before .before .before .before .before .before .args in
+    let l = c .before .before .before .before .before .before .before .before .before .loop in
     let s = c .before .before .before .before .format-slot in (
       omega arith,
       s .ensures .0
-          ∙ ap (putPart 5 (l .k) (freshWords (a .pages) (l .k))) (l .inv .1)
-          ∙ filled-more 5 (freshWords (a .pages)) (a .words .now) (l .k),
+          ∙ ap (putPart 5 (l .k) (freshWords (a .sizes .pages) (l .k))) (l .inv .1)
+          ∙ filled-more 5 (freshWords (a .sizes .pages)) (a .words .now) (l .k),
       s .ensures .1
-          ∙ ap (putPart width (l .k) (freshBytes width (a .pages) (l .k))) (l .inv .2)
-          ∙ filled-more width (freshBytes width (a .pages)) (a .contents .now) (l .k),
+          ∙ ap (putPart (a .sizes .width) (l .k) (freshBytes (a .sizes .width) (a .sizes .pages) (l .k))) (l .inv .2)
+          ∙ filled-more (a .sizes .width) (freshBytes (a .sizes .width) (a .sizes .pages)) (a .contents .now) (l .k),
       s .kept .1 .0 ∙ l .inv .3,
       s .kept .1 .1 .0 ∙ l .inv .4,
     )
 
 same-length : tie.Need-same-length Inv-loop μ-loop
-same-length c = c .before .loop .inv .3
+same-length c = c .before .before .loop .inv .3
 
 same-length-2 : tie.Need-same-length-2 Inv-loop μ-loop
-same-length-2 c = c .before .loop .inv .4
+same-length-2 c = c .before .before .loop .inv .4
 
 returns : tie.Need-returns Inv-loop μ-loop
 returns c =
-    let a = c .before .before .before .before .args in
-    let l = c .before .loop in
-    let e : l .k ≡ a .slots = omega arith in (
+    let a = c .before .before .before .before .before .args in
+    let l = c .before .before .loop in
+    let e : l .k ≡ a .sizes .slots = omega arith in (
       l .inv .1
-          ∙ ap (λ (n : ℕ). filled 5 (freshWords (a .pages)) n (a .words .now)) e
-          ∙ words-formatted (sizesOf (a .pages) (a .slots)) (a .words .now) (c .before .before .before .before .pre .0),
+          ∙ ap (λ (n : ℕ). filled 5 (freshWords (a .sizes .pages)) n (a .words .now)) e
+          ∙ words-formatted (a .sizes) (a .words .now) (c .before .before .before .before .before .pre .0),
       l .inv .2
-          ∙ ap (λ (n : ℕ). filled width (freshBytes width (a .pages)) n (a .contents .now)) e
-          ∙ contents-formatted width (sizesOf (a .pages) (a .slots)) (a .contents .now) (c .before .before .before .before .pre .1),
+          ∙ ap (λ (n : ℕ). filled (a .sizes .width) (freshBytes (a .sizes .width) (a .sizes .pages)) n (a .contents .now)) e
+          ∙ contents-formatted (a .sizes) (a .contents .now) (c .before .before .before .before .before .pre .1 .0),
     )
 
 pub format-flash-spec : {M : Type 1} → statement M

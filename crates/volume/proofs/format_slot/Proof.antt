@@ -8,11 +8,8 @@ use Rattle.volume.proofs.format_slot.Tie as tie
 formatted-requires : tie.Need-formatted-requires
 formatted-requires c κs = search needs
 
-slice-aggregate-put-slot : tie.Need-slice-aggregate-put-slot
-slice-aggregate-put-slot c = search needs
-
-put-slot-requires : tie.Need-put-slot-requires
-put-slot-requires c κs = search needs
+fill-slot-requires : tie.Need-fill-slot-requires
+fill-slot-requires c κs = search needs
 
 same-length : tie.Need-same-length
 same-length c = search needs
@@ -23,17 +20,14 @@ same-length-2 c = search needs
 returns : tie.Need-returns
 returns c =
     let a = c .before .before .before .before .before .before .before .before .before .before .before .before .args in
-    let s = c .before .before .before .before .put-slot in
-    let h = c .before .before .before .before .before .before .before .before .before .if1 .taken in (
-      rw (words-of-page (a .pages) (a .slot) h, ← c .before .before .before .before .before .before .formatted .ensures) (s .ensures .0),
-      rw (bytes-of-page (a .pages) (a .slot) 32 h) (s .ensures .1),
+    let s = c .before .before .before .before .fill-slot in
+    let h = c .before .before .before .before .before .before .before .before .if1 .taken in (
+      rw (words-of-page (a .sizes .pages) (a .slot) h, ← c .before .before .before .before .before .before .before .formatted .ensures) (s .ensures .0),
+      rw (bytes-of-page (a .sizes .pages) (a .slot) (a .sizes .width) h) (s .ensures .1),
     )
 
-slice-aggregate-put-slot-2 : tie.Need-slice-aggregate-put-slot-2
-slice-aggregate-put-slot-2 c = search needs
-
-put-slot-requires-2 : tie.Need-put-slot-requires-2
-put-slot-requires-2 c κs = search needs
+fill-slot-requires-2 : tie.Need-fill-slot-requires-2
+fill-slot-requires-2 c κs = search needs
 
 same-length-3 : tie.Need-same-length-3
 same-length-3 c = search needs
@@ -45,10 +39,10 @@ returns-2 : tie.Need-returns-2
 unfolding blankRecord
 returns-2 c =
     let a = c .before .before .before .before .before .before .before .before .before .before .before .args in
-    let s = c .before .before .before .before .put-slot2 in
-    let h = c .before .before .before .before .before .before .before .before .if1 .left in (
-      rw (words-of-free (a .pages) (a .slot) h) (s .ensures .0),
-      rw (bytes-of-free (a .pages) (a .slot) 32 h) (s .ensures .1),
+    let s = c .before .before .before .before .fill-slot2 in
+    let h = c .before .before .before .before .before .before .before .if1 .left in (
+      rw (words-of-free (a .sizes .pages) (a .slot) h) (s .ensures .0),
+      rw (bytes-of-free (a .sizes .pages) (a .slot) (a .sizes .width) h) (s .ensures .1),
     )
 
 pub format-slot-spec : {M : Type 1} → statement M
@@ -56,13 +50,11 @@ format-slot-spec =
     tie.close
     (tie.spec
     formatted-requires
-    slice-aggregate-put-slot
-    put-slot-requires
+    fill-slot-requires
     same-length
     same-length-2
     returns
-    slice-aggregate-put-slot-2
-    put-slot-requires-2
+    fill-slot-requires-2
     same-length-3
     same-length-4
     returns-2)

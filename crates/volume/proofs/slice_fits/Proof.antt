@@ -9,8 +9,11 @@ volume-fits-requires c κs = search needs
 returns : tie.Need-returns
 returns c = rw (said-no (c .before .volume-fits .ensures) (c .if1 .taken))
 
+cast-result : tie.Need-cast-result
+cast-result c = search needs
+
 returns-2 : tie.Need-returns-2
-returns-2 c = rw (said-yes (c .before .volume-fits .ensures) (c .if1 .left))
+returns-2 c = rw (said-yes (c .before .before .volume-fits .ensures) (c .before .if1 .left))
 
 pub slice-fits-spec : {M : Type 1} → statement M
-slice-fits-spec = tie.close (tie.spec volume-fits-requires returns returns-2)
+slice-fits-spec = tie.close (tie.spec volume-fits-requires returns cast-result returns-2)

@@ -19,9 +19,6 @@ returns-2 : tie.Need-returns-2
 unfolding volumeFits
 returns-2 c = rw (said-yes (c .before .before .before .are-ok .ensures) (c .before .before .if1 .left), said-no (c .before .words-fit .ensures) (c .if2 .taken))
 
-cast-contents-fit : tie.Need-cast-contents-fit
-cast-contents-fit c = search needs
-
 contents-fit-requires : tie.Need-contents-fit-requires
 contents-fit-requires c κs = search needs
 
@@ -49,7 +46,6 @@ volume-fits-spec =
     returns
     words-fit-requires
     returns-2
-    cast-contents-fit
     contents-fit-requires
     returns-3
     state-fits-requires

@@ -1,4 +1,5 @@
 -- Each return is what the tests on its way give.
+use borrow.Author.Needs.{needs}
 use borrow.Author.Tests.{ne-eqb, eq-eqb, lt-ltb, le-ltb, le-leb, lt-leb}
 use Rattle.sizes.specs.Sizes.{sizesOk}
 use Rattle.sizes.proofs.Sizes.are_ok.Statement.{statement}
@@ -22,5 +23,15 @@ returns-4 : tie.Need-returns-4
 unfolding sizesOk
 returns-4 c = search tests
 
+cast-width-ok : tie.Need-cast-width-ok
+cast-width-ok c = search needs
+
+width-ok-requires : tie.Need-width-ok-requires
+width-ok-requires c κs = search needs
+
+returns-5 : tie.Need-returns-5
+unfolding sizesOk
+returns-5 c = search (tests, c .width-ok .ensures)
+
 pub are-ok-spec : {M : Type 1} → statement M
-are-ok-spec = tie.close (tie.spec returns returns-2 returns-3 returns-4)
+are-ok-spec = tie.close (tie.spec returns returns-2 returns-3 returns-4 cast-width-ok width-ok-requires returns-5)
