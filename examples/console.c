@@ -5,7 +5,8 @@
  *   console FILE           powers up from FILE (made and formatted where it is missing) and lists the pistons
  *   console FILE N SEED    formats FILE and stores random sets, N times killed; after each kill powers up and compares
  *
- * A FILE that is there and is no flash file of this console, by its length, is left as it is.
+ * A piston has 32 bytes, 256 stops; with a last argument 64 it has 64 bytes, 512 stops. A FILE that is there and is no flash file
+ * of this console and this width, by its length, is left as it is.
  *
  * The driver is what firmware has to supply: load the flash at power-up, and program one slot at a time from the images in
  * memory, wholly or not at all, before the next call. A freshly formatted file is moved into place in one piece: that stands for
@@ -26,19 +27,26 @@
 #include <sys/wait.h>
 #include <unistd.h>
 
-enum { PAGES = 8, SLOTS = 24, SLOT_BYTES = 64 };
+enum { PAGES = 8, SLOTS = 24, WORD_BYTES = 4 * BPCC_SLOT_WORDS };
+
+/* The bytes of a piston: the width of the volume. */
+static uint32_t width = BPCC_WIDTH_32;
 
 /* The images of the flash in memory, and the state. The console owns them and lends them to each call. */
 static uint32_t words[BPCC_SLOT_WORDS * SLOTS];
-static uint8_t contents[BPCC_WIDTH * SLOTS];
+static uint8_t contents[BPCC_MAX_WIDTH * SLOTS];
 static uint32_t state[BPCC_PAGE_WORDS * PAGES];
 
+#define VOLUME PAGES, SLOTS, width
 #define WORDS words, BPCC_TABLE_WORDS(SLOTS)
-#define CONTENTS contents, BPCC_CONTENTS_BYTES(SLOTS)
+#define CONTENTS contents, BPCC_CONTENTS_BYTES(SLOTS, width)
 #define STATE state, BPCC_STATE_WORDS(PAGES)
 
-/* The file that stands for the chip. */
+/* The file that stands for the chip: for each slot its five words, its bytes, and bytes 0 to a multiple of 32. */
 static int flash = -1;
+
+#define SLOT_BYTES(width) (32 + (size_t)(width))
+#define FLASH_BYTES(width) ((off_t)(SLOTS * SLOT_BYTES(width)))
 
 /* The power fails at the step that finds 0 here; below 0 it holds. */
 static long steps_left = -1;
@@ -64,16 +72,28 @@ static void step(void) {
     }
 }
 
-/* Programs slot k from the images: the five words and the 32 bytes, in one piece. */
+/* Programs slot k from the images: the five words and the bytes, in one piece. */
 static void program(uint32_t k) {
-    uint8_t piece[SLOT_BYTES] = {0};
-    memcpy(piece, words + BPCC_SLOT_WORDS * k, 4 * BPCC_SLOT_WORDS);
-    memcpy(piece + 4 * BPCC_SLOT_WORDS, contents + BPCC_WIDTH * k, BPCC_WIDTH);
+    uint8_t piece[SLOT_BYTES(BPCC_MAX_WIDTH)] = {0};
+    const size_t length = SLOT_BYTES(width);
+    memcpy(piece, words + BPCC_SLOT_WORDS * k, WORD_BYTES);
+    memcpy(piece + WORD_BYTES, contents + width * k, width);
     step();
-    if (pwrite(flash, piece, sizeof piece, (off_t)k * SLOT_BYTES) != (ssize_t)sizeof piece) {
+    if (pwrite(flash, piece, length, (off_t)(k * length)) != (ssize_t)length) {
         fail("the flash file takes no slot");
     }
     step();
+}
+
+/* Loads slot k of the flash into the images. */
+static void load(uint32_t k) {
+    uint8_t piece[SLOT_BYTES(BPCC_MAX_WIDTH)];
+    const size_t length = SLOT_BYTES(width);
+    if (pread(flash, piece, length, (off_t)(k * length)) != (ssize_t)length) {
+        fail("the flash file cannot be read");
+    }
+    memcpy(words + BPCC_SLOT_WORDS * k, piece, WORD_BYTES);
+    memcpy(contents + width * k, piece + WORD_BYTES, width);
 }
 
 /* Makes a formatted flash file under another name and moves it into place, so that it is there whole or not at all. */
@@ -83,7 +103,7 @@ static void make_flash(const char *path) {
     if (snprintf(fresh, sizeof fresh, "%s.new", path) >= (int)sizeof fresh) {
         fail("the flash file's name is too long");
     }
-    done("format", bpcc_format(PAGES, SLOTS, WORDS, CONTENTS, STATE));
+    done("format", bpcc_format(VOLUME, WORDS, CONTENTS, STATE));
     flash = open(fresh, O_RDWR | O_CREAT | O_TRUNC, 0600);
     if (flash < 0) {
         fail("the flash file cannot be made");
@@ -97,14 +117,18 @@ static void make_flash(const char *path) {
     }
 }
 
-/* Whether the file is there; one that is must have a flash file's length. */
+/* Whether the file is there; one that is must have the length of a flash file of this width. */
 static int is_there(const char *path) {
     struct stat file;
     if (stat(path, &file) != 0) {
         return 0;
     }
-    if (!S_ISREG(file.st_mode) || file.st_size != (off_t)SLOTS * SLOT_BYTES) {
+    if (!S_ISREG(file.st_mode) || (file.st_size != FLASH_BYTES(BPCC_WIDTH_32) && file.st_size != FLASH_BYTES(BPCC_WIDTH_64))) {
         fail("the file is no flash file of this console");
+    }
+    if (file.st_size != FLASH_BYTES(width)) {
+        fail(width == BPCC_WIDTH_32 ? "the file has pistons of 64 bytes: the last argument 64 is missing"
+                                    : "the file has pistons of 32 bytes: leave out the last argument 64");
     }
     return 1;
 }
@@ -118,15 +142,10 @@ static void power_up(const char *path) {
     }
     flash = open(path, O_RDWR);
     for (k = 0; k < SLOTS; k++) {
-        uint8_t piece[SLOT_BYTES];
-        if (pread(flash, piece, sizeof piece, (off_t)k * SLOT_BYTES) != (ssize_t)sizeof piece) {
-            fail("the flash file cannot be read");
-        }
-        memcpy(words + BPCC_SLOT_WORDS * k, piece, 4 * BPCC_SLOT_WORDS);
-        memcpy(contents + BPCC_WIDTH * k, piece + 4 * BPCC_SLOT_WORDS, BPCC_WIDTH);
+        load(k);
     }
     memset(state, 0xFF, sizeof state);
-    done("recover", bpcc_recover(PAGES, SLOTS, WORDS, STATE));
+    done("recover", bpcc_recover(VOLUME, WORDS, STATE));
 }
 
 /* A blank slot; where there is none, one that the library suggests is erased first. */
@@ -138,8 +157,8 @@ static uint32_t blank_slot(uint32_t start) {
             return slot;
         }
     }
-    slot = done("suggest", bpcc_suggest(PAGES, SLOTS, WORDS, STATE));
-    done("erase", bpcc_erase(PAGES, SLOTS, WORDS, CONTENTS, STATE, &slot, 1));
+    slot = done("suggest", bpcc_suggest(VOLUME, WORDS, STATE));
+    done("erase", bpcc_erase(VOLUME, WORDS, CONTENTS, STATE, &slot, 1));
     program(slot);
     return slot;
 }
@@ -147,7 +166,7 @@ static uint32_t blank_slot(uint32_t start) {
 /* What a piston holds once it is stored as part of set number n. */
 static void piston(uint8_t *bytes, uint32_t page, uint32_t n) {
     uint32_t i;
-    for (i = 0; i < BPCC_WIDTH; i++) {
+    for (i = 0; i < width; i++) {
         bytes[i] = (uint8_t)(n >> (8 * (i % 4))) ^ (uint8_t)(n == 0 ? 0 : page * i);
     }
 }
@@ -156,18 +175,18 @@ static void piston(uint8_t *bytes, uint32_t page, uint32_t n) {
  * these, and gives 0. */
 static int store(const uint32_t *set, uint32_t count, uint32_t n, uint32_t pieces) {
     uint32_t i;
-    done("launch", bpcc_launch(PAGES, SLOTS, STATE, set, count));
+    done("launch", bpcc_launch(VOLUME, STATE, set, count));
     for (i = 0; i < count && i < pieces; i++) {
-        uint8_t bytes[BPCC_WIDTH];
+        uint8_t bytes[BPCC_MAX_WIDTH];
         uint32_t slot = blank_slot((uint32_t)rand() % SLOTS);
         piston(bytes, set[i], n);
-        done("write", bpcc_write(PAGES, SLOTS, WORDS, CONTENTS, STATE, set[i], slot, bytes, sizeof bytes));
+        done("write", bpcc_write(VOLUME, WORDS, CONTENTS, STATE, set[i], slot, bytes, width));
         program(slot);
     }
     if (i == count) {
         return 1;
     }
-    done("withdraw", bpcc_withdraw(PAGES, SLOTS, STATE, set[0]));
+    done("withdraw", bpcc_withdraw(VOLUME, STATE, set[0]));
     return 0;
 }
 
@@ -200,10 +219,10 @@ static void play(const char *path, int notes, uint32_t n) {
 
 /* Whether piston `page`, read after power-up, holds what set n stored. */
 static int holds(uint32_t page, uint32_t n) {
-    uint8_t out[BPCC_WIDTH], bytes[BPCC_WIDTH];
-    done("read", bpcc_read(PAGES, SLOTS, WORDS, CONTENTS, STATE, page, out, sizeof out));
+    uint8_t out[BPCC_MAX_WIDTH], bytes[BPCC_MAX_WIDTH];
+    done("read", bpcc_read(VOLUME, WORDS, CONTENTS, STATE, page, out, width));
     piston(bytes, page, n);
-    return memcmp(out, bytes, sizeof out) == 0;
+    return memcmp(out, bytes, width) == 0;
 }
 
 /* Every piston holds the set that stored it last; a set that was being stored is there whole or not at all. */
@@ -278,10 +297,10 @@ static int list(const char *path) {
     uint32_t page;
     power_up(path);
     for (page = 0; page < PAGES; page++) {
-        uint8_t out[BPCC_WIDTH];
-        done("read", bpcc_read(PAGES, SLOTS, WORDS, CONTENTS, STATE, page, out, sizeof out));
+        uint8_t out[BPCC_MAX_WIDTH];
+        done("read", bpcc_read(VOLUME, WORDS, CONTENTS, STATE, page, out, width));
         printf("piston %lu: version %lu, %lu stops drawn\n", (unsigned long)page, (unsigned long)state[BPCC_PAGE_WORDS * page],
-               (unsigned long)done("count", bpcc_count(out, sizeof out)));
+               (unsigned long)done("count", bpcc_count(out, width)));
     }
     return 0;
 }
@@ -297,12 +316,16 @@ static unsigned number(const char *word) {
 
 int main(int argc, char **argv) {
     int named = argc > 1 && argv[1][0] != '-' && argv[1][0] != '\0';
+    if (argc > 1 && argc % 2 == 1 && strcmp(argv[argc - 1], "64") == 0) {
+        width = BPCC_WIDTH_64;
+        argc--;
+    }
     if (named && argc == 2) {
         return list(argv[1]);
     }
     if (named && argc == 4 && number(argv[2]) != 0 && number(argv[3]) != 0) {
         return trial(argv[1], number(argv[2]), number(argv[3]));
     }
-    fprintf(stderr, "usage: console FILE [KILLS SEED]   (KILLS and SEED from 1 up)\n");
+    fprintf(stderr, "usage: console FILE [KILLS SEED] [64]   (KILLS and SEED from 1 up)\n");
     return 2;
 }

@@ -2,10 +2,11 @@
  * bpcc.h: pages kept in raw flash so that a set stored together comes back whole, all old or all new, wherever power fails
  * (Back-Pointer Cyclic Commit). C99 and C++.
  *
- * A volume has P pages (1 to 256) and S slots (P to 1,024), both numbered from 0. The caller owns all memory and lends it:
+ * A volume has P pages (1 to 256) and S slots (P to 1,024), both numbered from 0, and a width W (32 or 64), the bytes of a page.
+ * Every call but bpcc_count takes these three first, and a volume keeps them. The caller owns all memory and lends it:
  *
  *   words     BPCC_TABLE_WORDS(S) words, the slot table: an image of the flash; slot k has words 5k to 5k+4
- *   contents  BPCC_CONTENTS_BYTES(S) bytes, the slots' bytes: an image of the flash; slot k has bytes 32k to 32k+31
+ *   contents  BPCC_CONTENTS_BYTES(S, W) bytes, the slots' bytes: an image of the flash; slot k has the W bytes from W*k on
  *   state     BPCC_STATE_WORDS(P) words of working memory, lost when power fails; page p has words 4p to 4p+3:
  *             the last committed version, the last used version, the next page of its transaction (BPCC_NONE: not in flight),
  *             and written (0 or 1)
@@ -34,26 +35,28 @@ extern "C" {
 
 /* The interface's version: the major number rises where a caller must change, the minor where something is added, made
  * stricter, or costs otherwise (docs/CHANGES.md). */
-#define BPCC_VERSION_MAJOR 1
-#define BPCC_VERSION_MINOR 2
+#define BPCC_VERSION_MAJOR 2
+#define BPCC_VERSION_MINOR 0
 
-/* Bytes of contents for each slot, and the length of what is written and read. */
-#define BPCC_WIDTH 32
+/* The two widths: bytes of contents for each slot, and the length of what is written and read. */
+#define BPCC_WIDTH_32 32
+#define BPCC_WIDTH_64 64
 
 /* A word of a blank slot; in a state, not in flight; the slot that a refused bpcc_suggest names. */
 #define BPCC_NONE UINT32_C(4294967295)
 
-/* The most pages and slots of a volume. */
+/* The most pages and slots of a volume, and its largest width. */
 #define BPCC_MAX_PAGES 256
 #define BPCC_MAX_SLOTS 1024
+#define BPCC_MAX_WIDTH BPCC_WIDTH_64
 
 /* Words of a slot in the table, and of a page in the state. */
 #define BPCC_SLOT_WORDS 5
 #define BPCC_PAGE_WORDS 4
 
-/* The lengths of words, contents and state for P pages and S slots. */
+/* The lengths of words, contents and state for P pages, S slots and width W. */
 #define BPCC_TABLE_WORDS(slots) (BPCC_SLOT_WORDS * (size_t)(slots))
-#define BPCC_CONTENTS_BYTES(slots) (BPCC_WIDTH * (size_t)(slots))
+#define BPCC_CONTENTS_BYTES(slots, width) ((size_t)(width) * (size_t)(slots))
 #define BPCC_STATE_WORDS(pages) (BPCC_PAGE_WORDS * (size_t)(pages))
 
 /* The answers. Each one's condition is in docs/SPEC.md, section 7; what to do about it in docs/INTEGRATION.md. */
@@ -84,7 +87,7 @@ static inline uint32_t bpcc_answer(uint64_t reply) {
 static inline const char *bpcc_answer_text(uint32_t answer) {
     switch (answer) {
     case BPCC_DONE: return "done";
-    case BPCC_WRONG_SIZE: return "pages, slots or a length wrong";
+    case BPCC_WRONG_SIZE: return "pages, slots, width or a length wrong";
     case BPCC_SLOT_UNSOUND: return "slot neither blank nor sound";
     case BPCC_RECORDS_CLASH: return "records clash or a page has none";
     case BPCC_LINKS_ASTRAY: return "links astray";
@@ -108,11 +111,11 @@ static inline uint32_t bpcc_second(uint64_t reply) {
 }
 
 /*
- * Formats a volume. Slot i below P holds the record (i, 0, 0, i, 0) with 32 zero bytes; all other slots are blank with bytes
- * 255; the state says 0, 0, not in flight, 0 for each page.
+ * Formats a volume. Slot i below P holds the record (i, 0, 0, i, 0) with `width` zero bytes; all other slots are blank with
+ * bytes 255; the state says 0, 0, not in flight, 0 for each page.
  * Refuses: 1.
  */
-uint64_t bpcc_format(uint32_t pages, uint32_t slots,
+uint64_t bpcc_format(uint32_t pages, uint32_t slots, uint32_t width,
                      uint32_t *words, size_t words_length,
                      uint8_t *contents, size_t contents_length,
                      uint32_t *state, size_t state_length);
@@ -122,18 +125,18 @@ uint64_t bpcc_format(uint32_t pages, uint32_t slots,
  * is the following page in the list (the last points to the first), written is 0. Flash is untouched.
  * Refuses: 1, 5, 6, 7, 8.
  */
-uint64_t bpcc_launch(uint32_t pages, uint32_t slots,
+uint64_t bpcc_launch(uint32_t pages, uint32_t slots, uint32_t width,
                      uint32_t *state, size_t state_length,
                      const uint32_t *list, size_t list_length);
 
 /*
  * Writes a page of a transaction to a blank slot: the planned record (v = used of the page, c = its committed, np = its next,
- * nv = used of np) and the 32 bytes. Nothing else in flash changes, and the page becomes written. If its whole transaction is
- * then written, each of its pages gets committed = used and leaves flight, written 0, and the second number, done, is 1;
- * else 0.
+ * nv = used of np) and the bytes, `width` of them. Nothing else in flash changes, and the page becomes written. If its whole
+ * transaction is then written, each of its pages gets committed = used and leaves flight, written 0, and the second number,
+ * done, is 1; else 0.
  * Refuses: 1, 2, 5, 6, 9, 10, 11.
  */
-uint64_t bpcc_write(uint32_t pages, uint32_t slots,
+uint64_t bpcc_write(uint32_t pages, uint32_t slots, uint32_t width,
                     uint32_t *words, size_t words_length,
                     uint8_t *contents, size_t contents_length,
                     uint32_t *state, size_t state_length,
@@ -144,7 +147,7 @@ uint64_t bpcc_write(uint32_t pages, uint32_t slots,
  * Withdraws the transaction that holds the page: every page of it leaves flight, written 0; nothing else changes.
  * Refuses: 1, 5, 6, 9.
  */
-uint64_t bpcc_withdraw(uint32_t pages, uint32_t slots,
+uint64_t bpcc_withdraw(uint32_t pages, uint32_t slots, uint32_t width,
                        uint32_t *state, size_t state_length,
                        uint32_t page);
 
@@ -153,7 +156,7 @@ uint64_t bpcc_withdraw(uint32_t pages, uint32_t slots,
  * section 5) is judged for every slot on the table before the call.
  * Refuses: 1, 2, 5, 6, 12. Uses less than 7 KiB of stack.
  */
-uint64_t bpcc_erase(uint32_t pages, uint32_t slots,
+uint64_t bpcc_erase(uint32_t pages, uint32_t slots, uint32_t width,
                     uint32_t *words, size_t words_length,
                     uint8_t *contents, size_t contents_length,
                     const uint32_t *state, size_t state_length,
@@ -163,7 +166,7 @@ uint64_t bpcc_erase(uint32_t pages, uint32_t slots,
  * Names, as the second number, the lowest slot that may be erased. Alters nothing.
  * Refuses, with BPCC_NONE as the second number: 1, 2, 5, 13. Uses less than 7 KiB of stack.
  */
-uint64_t bpcc_suggest(uint32_t pages, uint32_t slots,
+uint64_t bpcc_suggest(uint32_t pages, uint32_t slots, uint32_t width,
                       const uint32_t *words, size_t words_length,
                       const uint32_t *state, size_t state_length);
 
@@ -172,22 +175,22 @@ uint64_t bpcc_suggest(uint32_t pages, uint32_t slots,
  * highest version that any record gives it or links to as used, not in flight, written 0. The first call after power-up.
  * Refuses: 1, 2, 3, 4, 14.
  */
-uint64_t bpcc_recover(uint32_t pages, uint32_t slots,
+uint64_t bpcc_recover(uint32_t pages, uint32_t slots, uint32_t width,
                       const uint32_t *words, size_t words_length,
                       uint32_t *state, size_t state_length);
 
 /*
- * Counts, as the second number, the set bits of 32 bytes (the drawn stops: stop s is bit s mod 8 of byte s div 8, lowest bit
- * first). Alters nothing.
+ * Counts, as the second number, the set bits of 32 or 64 bytes (the drawn stops: stop s is bit s mod 8 of byte s div 8, lowest
+ * bit first). It takes no volume and no width. Alters nothing.
  * Refuses: 1.
  */
 uint64_t bpcc_count(const uint8_t *bytes, size_t bytes_length);
 
 /*
- * Copies to out the 32 bytes of the lowest slot that holds the page at its committed version. Alters nothing else.
+ * Copies to out, `width` long, the bytes of the lowest slot that holds the page at its committed version. Alters nothing else.
  * Refuses: 1, 2, 5, 6, 14.
  */
-uint64_t bpcc_read(uint32_t pages, uint32_t slots,
+uint64_t bpcc_read(uint32_t pages, uint32_t slots, uint32_t width,
                    const uint32_t *words, size_t words_length,
                    const uint8_t *contents, size_t contents_length,
                    const uint32_t *state, size_t state_length,

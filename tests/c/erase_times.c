@@ -3,10 +3,10 @@
  * passes if every call gave the answer expected. No time is a failure.
  *
  * A time is the shortest of ROUNDS calls, each on the volume as it was made. To see another archive's times beside, prefix its
- * symbols and link both:
+ * symbols and link both; its calls must have this header's parameters (those before version 2.0 lack the width):
  *
  *     objcopy --prefix-symbols=before_ OTHER.a before.a
- *     objcopy --redefine-sym before_memset=memset before.a
+ *     objcopy --redefine-sym before_memset=memset --redefine-sym before_memcpy=memcpy before.a
  *     gcc -O2 -DBESIDE -Iinclude tests/c/erase_times.c target/staticlib/libbpcc.a before.a
  */
 #define _POSIX_C_SOURCE 200809L
@@ -17,26 +17,28 @@
 #include <string.h>
 #include <time.h>
 
-enum { SLOTS = BPCC_MAX_SLOTS, ROUNDS = 501 };
+enum { SLOTS = BPCC_MAX_SLOTS, ROUNDS = 201 };
 
 #ifdef BESIDE
-uint64_t before_bpcc_erase(uint32_t, uint32_t, uint32_t *, size_t, uint8_t *, size_t, const uint32_t *, size_t, const uint32_t *, size_t);
-uint64_t before_bpcc_suggest(uint32_t, uint32_t, const uint32_t *, size_t, const uint32_t *, size_t);
+uint64_t before_bpcc_erase(uint32_t, uint32_t, uint32_t, uint32_t *, size_t, uint8_t *, size_t, const uint32_t *, size_t,
+                           const uint32_t *, size_t);
+uint64_t before_bpcc_suggest(uint32_t, uint32_t, uint32_t, const uint32_t *, size_t, const uint32_t *, size_t);
 #endif
 
 static struct volume {
-    uint32_t pages;
+    uint32_t pages, width;
     uint32_t words[BPCC_SLOT_WORDS * SLOTS];
-    uint8_t contents[BPCC_WIDTH * SLOTS];
+    uint8_t contents[BPCC_MAX_WIDTH * SLOTS];
     uint32_t state[BPCC_PAGE_WORDS * BPCC_MAX_PAGES];
 } v, made;
 
 static uint32_t list[SLOTS]; /* the numbers from 0 up */
-static const uint8_t bytes[BPCC_WIDTH];
+static const uint8_t bytes[BPCC_MAX_WIDTH];
 static unsigned wrong; /* answers not expected, on the volume at hand */
 
+#define VOLUME v.pages, SLOTS, v.width
 #define WORDS v.words, BPCC_TABLE_WORDS(SLOTS)
-#define CONTENTS v.contents, BPCC_CONTENTS_BYTES(SLOTS)
+#define CONTENTS v.contents, BPCC_CONTENTS_BYTES(SLOTS, v.width)
 #define STATE v.state, BPCC_STATE_WORDS(v.pages)
 
 static void expect(uint32_t answer, uint64_t reply) {
@@ -45,15 +47,15 @@ static void expect(uint32_t answer, uint64_t reply) {
 
 static void format(uint32_t pages) {
     v.pages = pages;
-    expect(BPCC_DONE, bpcc_format(pages, SLOTS, WORDS, CONTENTS, STATE));
+    expect(BPCC_DONE, bpcc_format(VOLUME, WORDS, CONTENTS, STATE));
 }
 
 static void launch(const uint32_t *pages, size_t length) {
-    expect(BPCC_DONE, bpcc_launch(v.pages, SLOTS, STATE, pages, length));
+    expect(BPCC_DONE, bpcc_launch(VOLUME, STATE, pages, length));
 }
 
 static void put(uint32_t page, uint32_t slot) {
-    expect(BPCC_DONE, bpcc_write(v.pages, SLOTS, WORDS, CONTENTS, STATE, page, slot, bytes, sizeof bytes));
+    expect(BPCC_DONE, bpcc_write(VOLUME, WORDS, CONTENTS, STATE, page, slot, bytes, v.width));
 }
 
 /* So many obsolete records, one committed record of each page behind them, and then so many exposed ones. */
@@ -70,7 +72,7 @@ static void mixed(uint32_t pages, uint32_t obsolete, uint32_t exposed) {
         const uint32_t both[] = {slot % pages, (slot + 1) % pages};
         launch(both, 2);
         put(both[0], slot);
-        expect(BPCC_DONE, bpcc_withdraw(v.pages, SLOTS, STATE, both[0]));
+        expect(BPCC_DONE, bpcc_withdraw(VOLUME, STATE, both[0]));
     }
 }
 
@@ -91,29 +93,32 @@ static void all_needed(void) {
     }
 }
 
-/* Each case: its volume, how many slots an erase lists (0: a suggest), and the answer expected. */
+/* Each case: its volume and width, how many slots an erase lists (0: a suggest, which takes no contents), and the answer expected. */
 static const struct kind {
     const char *what;
     void (*make)(void);
+    uint32_t width;
     size_t listed;
     uint32_t answer;
 } kinds[] = {
-    {"erase, 1,000 obsolete slots listed, 0 exposed records", none_exposed, 1000, BPCC_DONE},
-    {"erase, 1,000 obsolete slots listed, 16 exposed records", few_exposed, 1000, BPCC_DONE},
-    {"erase, 800 obsolete slots listed, 200 exposed records", many_exposed, 800, BPCC_DONE},
-    {"erase, one obsolete slot listed, 0 exposed records", none_exposed, 1, BPCC_DONE},
-    {"erase, one obsolete slot listed, 16 exposed records", few_exposed, 1, BPCC_DONE},
-    {"suggest, 1,022 needed records, nothing may go", all_needed, 0, BPCC_NOTHING_TO_ERASE},
-    {"suggest, a formatted volume, nothing may go", formatted, 0, BPCC_NOTHING_TO_ERASE},
+    {"erase, 1,000 obsolete slots listed, 0 exposed records", none_exposed, BPCC_WIDTH_32, 1000, BPCC_DONE},
+    {"erase, 1,000 obsolete slots listed, 0 exposed records, width 64", none_exposed, BPCC_WIDTH_64, 1000, BPCC_DONE},
+    {"erase, 1,000 obsolete slots listed, 16 exposed records", few_exposed, BPCC_WIDTH_32, 1000, BPCC_DONE},
+    {"erase, 800 obsolete slots listed, 200 exposed records", many_exposed, BPCC_WIDTH_32, 800, BPCC_DONE},
+    {"erase, one obsolete slot listed, 0 exposed records", none_exposed, BPCC_WIDTH_32, 1, BPCC_DONE},
+    {"erase, one obsolete slot listed, 0 exposed records, width 64", none_exposed, BPCC_WIDTH_64, 1, BPCC_DONE},
+    {"erase, one obsolete slot listed, 16 exposed records", few_exposed, BPCC_WIDTH_32, 1, BPCC_DONE},
+    {"suggest, 1,022 needed records, nothing may go", all_needed, BPCC_WIDTH_32, 0, BPCC_NOTHING_TO_ERASE},
+    {"suggest, a formatted volume, nothing may go", formatted, BPCC_WIDTH_32, 0, BPCC_NOTHING_TO_ERASE},
 };
 
 static uint64_t reply_of(size_t listed) {
-    return listed > 0 ? bpcc_erase(v.pages, SLOTS, WORDS, CONTENTS, STATE, list, listed) : bpcc_suggest(v.pages, SLOTS, WORDS, STATE);
+    return listed > 0 ? bpcc_erase(VOLUME, WORDS, CONTENTS, STATE, list, listed) : bpcc_suggest(VOLUME, WORDS, STATE);
 }
 
 #ifdef BESIDE
 static uint64_t reply_before(size_t listed) {
-    return listed > 0 ? before_bpcc_erase(v.pages, SLOTS, WORDS, CONTENTS, STATE, list, listed) : before_bpcc_suggest(v.pages, SLOTS, WORDS, STATE);
+    return listed > 0 ? before_bpcc_erase(VOLUME, WORDS, CONTENTS, STATE, list, listed) : before_bpcc_suggest(VOLUME, WORDS, STATE);
 }
 #endif
 
@@ -148,6 +153,7 @@ int main(void) {
 #endif
         int round;
         wrong = 0;
+        v.width = kinds[i].width;
         kinds[i].make();
         made = v;
         for (round = 0; round < ROUNDS; round++) {

@@ -1,6 +1,6 @@
 /*
- * Document 01's sample sequence over include/bpcc.h, every answer and every buffer checked, and every call with NULL, 0 for every
- * choice of its buffers. C99 and C++.
+ * Document 01's sample sequence over include/bpcc.h at both widths, every answer and every buffer checked, every call with
+ * NULL, 0 for every choice of its buffers, and every call with widths that there are not. C99 and C++.
  * The last line of its output is 'N passed, M failed'.
  */
 #include "bpcc.h"
@@ -16,8 +16,11 @@ enum { WORDS = 1, CONTENTS = 2, STATE = 4, LIST = 8, BYTES = 16, OUT = 32 };
 /* The memory of every buffer, and a copy. */
 static struct {
     uint32_t words[BPCC_SLOT_WORDS * SLOTS], state[BPCC_PAGE_WORDS * PAGES], list[1];
-    uint8_t contents[BPCC_WIDTH * SLOTS], bytes[BPCC_WIDTH], out[BPCC_WIDTH + 1];
+    uint8_t contents[BPCC_MAX_WIDTH * SLOTS], bytes[BPCC_MAX_WIDTH], out[BPCC_MAX_WIDTH + 1];
 } memory, before;
+
+/* The width of the volume, and the width that calls are told. */
+static uint32_t width, told;
 
 /* The buffers as they are lent. */
 static uint32_t *words, *state, *list;
@@ -47,15 +50,15 @@ static void lend(unsigned absent) {
     words = absent & WORDS ? NULL : memory.words;
     words_length = absent & WORDS ? 0 : BPCC_TABLE_WORDS(SLOTS);
     contents = absent & CONTENTS ? NULL : memory.contents;
-    contents_length = absent & CONTENTS ? 0 : BPCC_CONTENTS_BYTES(SLOTS);
+    contents_length = absent & CONTENTS ? 0 : BPCC_CONTENTS_BYTES(SLOTS, width);
     state = absent & STATE ? NULL : memory.state;
     state_length = absent & STATE ? 0 : BPCC_STATE_WORDS(PAGES);
     list = absent & LIST ? NULL : memory.list;
     list_length = absent & LIST ? 0 : 1;
     bytes = absent & BYTES ? NULL : memory.bytes;
-    bytes_length = absent & BYTES ? 0 : BPCC_WIDTH;
+    bytes_length = absent & BYTES ? 0 : width;
     out = absent & OUT ? NULL : memory.out;
-    out_length = absent & OUT ? 0 : BPCC_WIDTH;
+    out_length = absent & OUT ? 0 : width;
 }
 
 /* Copies the memory. */
@@ -69,36 +72,37 @@ static void expect_kept(const char *name) {
 }
 
 static uint64_t format(uint32_t slots) {
-    return bpcc_format(PAGES, slots, words, words_length, contents, contents_length, state, state_length);
+    return bpcc_format(PAGES, slots, told, words, words_length, contents, contents_length, state, state_length);
 }
 
 static uint64_t launch(const uint32_t *pages, size_t length) {
-    return bpcc_launch(PAGES, SLOTS, state, state_length, pages, length);
+    return bpcc_launch(PAGES, SLOTS, told, state, state_length, pages, length);
 }
 
 static uint64_t write(uint32_t page, uint32_t slot, uint8_t fill) {
     memset(memory.bytes, fill, sizeof memory.bytes);
-    return bpcc_write(PAGES, SLOTS, words, words_length, contents, contents_length, state, state_length, page, slot, bytes, bytes_length);
+    return bpcc_write(PAGES, SLOTS, told, words, words_length, contents, contents_length, state, state_length, page, slot, bytes,
+                      bytes_length);
 }
 
 static uint64_t withdraw(uint32_t page) {
-    return bpcc_withdraw(PAGES, SLOTS, state, state_length, page);
+    return bpcc_withdraw(PAGES, SLOTS, told, state, state_length, page);
 }
 
 static uint64_t erase(const uint32_t *slots, size_t length) {
-    return bpcc_erase(PAGES, SLOTS, words, words_length, contents, contents_length, state, state_length, slots, length);
+    return bpcc_erase(PAGES, SLOTS, told, words, words_length, contents, contents_length, state, state_length, slots, length);
 }
 
 static uint64_t suggest(void) {
-    return bpcc_suggest(PAGES, SLOTS, words, words_length, state, state_length);
+    return bpcc_suggest(PAGES, SLOTS, told, words, words_length, state, state_length);
 }
 
 static uint64_t recover(void) {
-    return bpcc_recover(PAGES, SLOTS, words, words_length, state, state_length);
+    return bpcc_recover(PAGES, SLOTS, told, words, words_length, state, state_length);
 }
 
 static uint64_t read(uint32_t page, size_t length) {
-    return bpcc_read(PAGES, SLOTS, words, words_length, contents, contents_length, state, state_length, page, out, length);
+    return bpcc_read(PAGES, SLOTS, told, words, words_length, contents, contents_length, state, state_length, page, out, length);
 }
 
 /* A cut: the state is lost. */
@@ -118,14 +122,14 @@ static void expect_state(uint32_t page, uint32_t committed, uint32_t used, uint3
     check(at[0] == committed && at[1] == used && at[2] == next && at[3] == written, name);
 }
 
-/* A page reads as 32 bytes of one value, with so many set bits. */
+/* A page reads as bytes of one value, with so many set bits in each. */
 static void expect_page(uint32_t page, uint8_t fill, uint32_t drawn, const char *name) {
-    uint8_t same[BPCC_WIDTH];
+    uint8_t same[BPCC_MAX_WIDTH];
     memset(memory.out, 0xA5, sizeof memory.out);
     memset(same, fill, sizeof same);
     expect(read(page, out_length), BPCC_DONE, 0, name);
-    check(memcmp(out, same, sizeof same) == 0 && out[BPCC_WIDTH] == 0xA5, name);
-    expect(bpcc_count(out, out_length), BPCC_DONE, drawn, name);
+    check(memcmp(out, same, width) == 0 && out[width] == 0xA5, name);
+    expect(bpcc_count(out, out_length), BPCC_DONE, drawn * width, name);
 }
 
 /* Document 01's sample, call by call. */
@@ -136,7 +140,8 @@ static void sample(void) {
     expect_slot(0, 0, 0, 0, 0, 0, "slot 0 is formatted");
     expect_slot(1, 1, 0, 0, 1, 0, "slot 1 is formatted");
     expect_slot(2, BPCC_NONE, BPCC_NONE, BPCC_NONE, BPCC_NONE, BPCC_NONE, "slot 2 is blank");
-    check(contents[0] == 0 && contents[63] == 0 && contents[64] == 255 && contents[127] == 255, "formatted contents");
+    check(contents[0] == 0 && contents[2 * width - 1] == 0, "formatted contents");
+    check(contents[2 * width] == 255 && contents[4 * width - 1] == 255, "blank contents");
     expect_state(1, 0, 0, BPCC_NONE, 0, "formatted state");
     expect(launch(both, 2), BPCC_DONE, 0, "launch pages 0 and 1");
     expect_state(0, 0, 1, 1, 0, "page 0 in flight");
@@ -153,7 +158,7 @@ static void sample(void) {
     expect_slot(3, 1, 2, 0, 1, 2, "the planned record of page 1");
     expect_state(1, 2, 2, BPCC_NONE, 0, "page 1 committed");
     expect_page(0, 0, 0, "page 0 reads as formatted");
-    expect_page(1, 3, 64, "page 1 reads as stored");
+    expect_page(1, 3, 2, "page 1 reads as stored");
 }
 
 /* Refusals after the sample, each leaving every buffer. */
@@ -167,9 +172,11 @@ static void refusals(void) {
     expect(write(0, 3, 3), BPCC_PAGE_NOT_IN_FLIGHT, 0, "write a page not in flight");
     expect(withdraw(0), BPCC_PAGE_NOT_IN_FLIGHT, 0, "withdraw a page not in flight");
     expect(erase(any, 1), BPCC_MAY_NOT_ERASE, 0, "erase a committed record");
-    expect(read(0, BPCC_WIDTH + 1), BPCC_WRONG_SIZE, 0, "read to 33 bytes");
-    expect(read(2, BPCC_WIDTH), BPCC_WRONG_LIST, 0, "read no such page");
-    expect(bpcc_count(out, BPCC_WIDTH + 1), BPCC_WRONG_SIZE, 0, "count 33 bytes");
+    expect(read(0, width - 1), BPCC_WRONG_SIZE, 0, "read to a byte less");
+    expect(read(0, width + 1), BPCC_WRONG_SIZE, 0, "read to a byte more");
+    expect(read(2, width), BPCC_WRONG_LIST, 0, "read no such page");
+    expect(bpcc_count(out, width - 1), BPCC_WRONG_SIZE, 0, "count a byte less");
+    expect(bpcc_count(out, width + 1), BPCC_WRONG_SIZE, 0, "count a byte more");
     expect_kept("refusals leave every buffer");
 }
 
@@ -179,18 +186,36 @@ static void erasing(void) {
     for (slot = 1; slot <= 2; slot++) {
         expect(suggest(), BPCC_DONE, slot, "suggest the obsolete slot, then the exposed one");
         expect(erase(&slot, 1), BPCC_DONE, 0, "erase the suggested slot");
-        check(words[BPCC_SLOT_WORDS * slot] == BPCC_NONE && contents[BPCC_WIDTH * slot] == 255, "the suggested slot is blank");
+        check(words[BPCC_SLOT_WORDS * slot] == BPCC_NONE && contents[width * slot] == 255, "the suggested slot is blank");
     }
     expect(suggest(), BPCC_NOTHING_TO_ERASE, BPCC_NONE, "suggest with nothing to erase");
     crash();
     expect(suggest(), BPCC_STATE_UNSOUND, BPCC_NONE, "suggest with the state lost");
     expect(recover(), BPCC_DONE, 0, "recover again");
     expect_page(0, 0, 0, "page 0 stays");
-    expect_page(1, 3, 64, "page 1 stays");
+    expect_page(1, 3, 2, "page 1 stays");
 }
 
-/* The nine calls. */
+/* The nine calls, and the buffers that each takes. */
 enum call { FORMAT, LAUNCH, WRITE, WITHDRAW, ERASE, SUGGEST, RECOVER, COUNT, READ };
+
+static const struct taking {
+    enum call call;
+    unsigned buffers;
+    const char *name;
+} calls[] = {
+    {FORMAT, WORDS | CONTENTS | STATE, "format with NULL, 0 or another width"},
+    {LAUNCH, STATE | LIST, "launch with NULL, 0 or another width"},
+    {WRITE, WORDS | CONTENTS | STATE | BYTES, "write with NULL, 0 or another width"},
+    {WITHDRAW, STATE, "withdraw with NULL, 0 or another width"},
+    {ERASE, WORDS | CONTENTS | STATE | LIST, "erase with NULL, 0 or another width"},
+    {SUGGEST, WORDS | STATE, "suggest with NULL, 0 or another width"},
+    {RECOVER, WORDS | STATE, "recover with NULL, 0 or another width"},
+    {COUNT, BYTES, "count with NULL, 0"},
+    {READ, WORDS | CONTENTS | STATE | OUT, "read with NULL, 0 or another width"},
+};
+
+enum { CALLS = sizeof calls / sizeof *calls };
 
 /* Makes a call that is done on the ready volume, where every buffer is there. */
 static uint64_t make(enum call call) {
@@ -220,32 +245,53 @@ static void ready(void) {
     keep();
 }
 
-/* A call refuses NULL, 0 for every choice of the buffers that it takes, leaving every buffer, and is done where all are there. */
-static void expect_nulls(enum call call, unsigned takes, const char *name) {
+/* A call refuses, leaving every buffer. */
+static void expect_refused(enum call call, uint32_t answer, const char *name) {
+    expect(make(call), answer, call == SUGGEST ? BPCC_NONE : 0, name);
+    expect_kept(name);
+}
+
+/* A call refuses NULL, 0 for every choice of the buffers that it takes, and is done where all are there. */
+static void nulls(const struct taking *t) {
     unsigned absent;
     ready();
-    for (absent = 1; absent <= takes; absent++) {
-        if ((absent & takes) == absent) {
+    for (absent = 1; absent <= t->buffers; absent++) {
+        if ((absent & t->buffers) == absent) {
             lend(absent);
-            expect(make(call), absent == LIST ? BPCC_WRONG_LIST : BPCC_WRONG_SIZE, call == SUGGEST ? BPCC_NONE : 0, name);
-            expect_kept(name);
+            expect_refused(t->call, absent == LIST ? BPCC_WRONG_LIST : BPCC_WRONG_SIZE, t->name);
         }
     }
     lend(0);
-    check(bpcc_answer(make(call)) == BPCC_DONE, name);
+    check(bpcc_answer(make(t->call)) == BPCC_DONE, t->name);
 }
 
-/* Every call with NULL, 0. */
-static void nulls(void) {
-    expect_nulls(FORMAT, WORDS | CONTENTS | STATE, "format with NULL, 0");
-    expect_nulls(LAUNCH, STATE | LIST, "launch with NULL, 0");
-    expect_nulls(WRITE, WORDS | CONTENTS | STATE | BYTES, "write with NULL, 0");
-    expect_nulls(WITHDRAW, STATE, "withdraw with NULL, 0");
-    expect_nulls(ERASE, WORDS | CONTENTS | STATE | LIST, "erase with NULL, 0");
-    expect_nulls(SUGGEST, WORDS | STATE, "suggest with NULL, 0");
-    expect_nulls(RECOVER, WORDS | STATE, "recover with NULL, 0");
-    expect_nulls(COUNT, BYTES, "count with NULL, 0");
-    expect_nulls(READ, WORDS | CONTENTS | STATE | OUT, "read with NULL, 0");
+/* A call refuses every wrong width, and the other one exactly where it takes the contents. Count takes none. */
+static void widths(const struct taking *t) {
+    const uint32_t wrong[] = {0, 31, 33, 63, 65, 96, BPCC_NONE};
+    size_t i;
+    ready();
+    for (i = 0; t->call != COUNT && i < sizeof wrong / sizeof *wrong; i++) {
+        told = wrong[i];
+        expect_refused(t->call, BPCC_WRONG_SIZE, t->name);
+    }
+    told = BPCC_WIDTH_32 + BPCC_WIDTH_64 - width;
+    if (t->buffers & CONTENTS) {
+        expect_refused(t->call, BPCC_WRONG_SIZE, t->name);
+    } else {
+        check(bpcc_answer(make(t->call)) == BPCC_DONE, t->name);
+    }
+    told = width;
+}
+
+/* Count takes 32 and 64 bytes and no other number; all bits set are 256 and 512. */
+static void counts(void) {
+    uint8_t all[96];
+    size_t length;
+    memset(all, 0xFF, sizeof all);
+    for (length = 0; length <= sizeof all; length++) {
+        int right = length == BPCC_WIDTH_32 || length == BPCC_WIDTH_64;
+        expect(bpcc_count(all, length), right ? BPCC_DONE : BPCC_WRONG_SIZE, right ? (uint32_t)(8 * length) : 0, "count");
+    }
 }
 
 /* Every answer has a text of its own, and no other number has one. */
@@ -262,11 +308,23 @@ static void texts(void) {
     }
 }
 
-int main(void) {
+/* Everything that depends on the width. */
+static void at_width(uint32_t w) {
+    size_t i;
+    width = told = w;
     sample();
     refusals();
     erasing();
-    nulls();
+    for (i = 0; i < CALLS; i++) {
+        nulls(&calls[i]);
+        widths(&calls[i]);
+    }
+}
+
+int main(void) {
+    at_width(BPCC_WIDTH_32);
+    at_width(BPCC_WIDTH_64);
+    counts();
     texts();
     printf("%u passed, %u failed\n", passed, failed);
     return failed != 0;

@@ -1,8 +1,8 @@
 /*
- * The longest time of each call over S, the number of slots. A call is made on kinds of volume that keep it busy, at five sizes:
- * a line for each kind says what it is and has its times, and the table at the end has the longest of each call, in milliseconds.
- * No time is a failure; the last line is 'N passed, M failed', and a kind at a size passes if it could be made and each call on
- * it gave the answer expected.
+ * The longest time of each call over S, the number of slots, at both widths. A call is made on kinds of volume that keep it busy,
+ * at five sizes: a line for each kind says what it is and has its times, and a table behind the kinds of each width has the
+ * longest of each call, in milliseconds. No time is a failure; the last line is 'N passed, M failed', and a kind at a size passes
+ * if it could be made and each call on it gave the answer expected.
  *
  * A time is the shortest of ROUNDS calls, each on the volume as it was made, less what reading the clock takes: what else the
  * machine does is left out. The calls themselves make the volumes, but for two made by hand, to which no list of calls leads:
@@ -27,29 +27,31 @@ static const uint32_t sizes[SIZES] = {64, 128, 256, 512, 1024};
 static struct volume {
     uint32_t pages, slots, first, listed;
     uint32_t words[BPCC_SLOT_WORDS * BPCC_MAX_SLOTS];
-    uint8_t contents[BPCC_WIDTH * BPCC_MAX_SLOTS];
+    uint8_t contents[BPCC_MAX_WIDTH * BPCC_MAX_SLOTS];
     uint32_t state[BPCC_PAGE_WORDS * BPCC_MAX_PAGES];
 } v, made;
 
+static uint32_t width; /* of all volumes at hand */
 static uint32_t list[BPCC_MAX_SLOTS]; /* the numbers from 0 up */
-static uint8_t bytes[BPCC_WIDTH];
+static uint8_t bytes[BPCC_MAX_WIDTH];
 static unsigned passed, failed, wrong; /* wrong: answers not expected, on the volume at hand */
 
+#define VOLUME v.pages, v.slots, width
 #define WORDS v.words, BPCC_TABLE_WORDS(v.slots)
-#define CONTENTS v.contents, BPCC_CONTENTS_BYTES(v.slots)
+#define CONTENTS v.contents, BPCC_CONTENTS_BYTES(v.slots, width)
 #define STATE v.state, BPCC_STATE_WORDS(v.pages)
 
 static uint64_t reply_of(enum call call) {
     switch (call) {
-    case FORMAT: return bpcc_format(v.pages, v.slots, WORDS, CONTENTS, STATE);
-    case LAUNCH: return bpcc_launch(v.pages, v.slots, STATE, list + v.first, v.listed);
-    case WRITE: return bpcc_write(v.pages, v.slots, WORDS, CONTENTS, STATE, v.pages - 1, v.slots - 1, bytes, sizeof bytes);
-    case WITHDRAW: return bpcc_withdraw(v.pages, v.slots, STATE, v.pages - 1);
-    case ERASE: return bpcc_erase(v.pages, v.slots, WORDS, CONTENTS, STATE, list + v.first, v.listed);
-    case SUGGEST: return bpcc_suggest(v.pages, v.slots, WORDS, STATE);
-    case RECOVER: return bpcc_recover(v.pages, v.slots, WORDS, STATE);
-    case COUNT: return bpcc_count(bytes, sizeof bytes);
-    case READ: return bpcc_read(v.pages, v.slots, WORDS, CONTENTS, STATE, v.pages - 1, bytes, sizeof bytes);
+    case FORMAT: return bpcc_format(VOLUME, WORDS, CONTENTS, STATE);
+    case LAUNCH: return bpcc_launch(VOLUME, STATE, list + v.first, v.listed);
+    case WRITE: return bpcc_write(VOLUME, WORDS, CONTENTS, STATE, v.pages - 1, v.slots - 1, bytes, width);
+    case WITHDRAW: return bpcc_withdraw(VOLUME, STATE, v.pages - 1);
+    case ERASE: return bpcc_erase(VOLUME, WORDS, CONTENTS, STATE, list + v.first, v.listed);
+    case SUGGEST: return bpcc_suggest(VOLUME, WORDS, STATE);
+    case RECOVER: return bpcc_recover(VOLUME, WORDS, STATE);
+    case COUNT: return bpcc_count(bytes, width);
+    case READ: return bpcc_read(VOLUME, WORDS, CONTENTS, STATE, v.pages - 1, bytes, width);
     default: return BPCC_DONE; /* no call: what reading the clock takes */
     }
 }
@@ -69,12 +71,12 @@ static void format(uint32_t slots, uint32_t pages) {
 /* Launches a ring of two pages, or of one. */
 static void launch(uint32_t first, uint32_t second) {
     const uint32_t both[] = {first, second};
-    expect(BPCC_DONE, bpcc_launch(v.pages, v.slots, STATE, both, first == second ? 1 : 2));
+    expect(BPCC_DONE, bpcc_launch(VOLUME, STATE, both, first == second ? 1 : 2));
 }
 
 /* Writes a page in flight. */
 static void put(uint32_t page, uint32_t slot) {
-    expect(BPCC_DONE, bpcc_write(v.pages, v.slots, WORDS, CONTENTS, STATE, page, slot, bytes, sizeof bytes));
+    expect(BPCC_DONE, bpcc_write(VOLUME, WORDS, CONTENTS, STATE, page, slot, bytes, width));
 }
 
 /* A set of one page, stored. */
@@ -87,12 +89,12 @@ static void store(uint32_t page, uint32_t slot) {
 static void abandon(uint32_t page, uint32_t other, uint32_t slot) {
     launch(page, other);
     put(page, slot);
-    expect(BPCC_DONE, bpcc_withdraw(v.pages, v.slots, STATE, page));
+    expect(BPCC_DONE, bpcc_withdraw(VOLUME, STATE, page));
 }
 
 /* Erases a slot. */
 static void blank(uint32_t slot) {
-    expect(BPCC_DONE, bpcc_erase(v.pages, v.slots, WORDS, CONTENTS, STATE, &slot, 1));
+    expect(BPCC_DONE, bpcc_erase(VOLUME, WORDS, CONTENTS, STATE, &slot, 1));
 }
 
 /* The lowest blank slot; where there is none, one is erased. */
@@ -258,7 +260,7 @@ static const struct kind {
     {SUGGEST, BPCC_NOTHING_TO_ERASE, chain_needed, "P = S, by hand, S-1 needed records of one chain"},
     {RECOVER, BPCC_DONE, ring, "P = S/2, a ring of all, no slot blank"},
     {RECOVER, BPCC_DONE, old_links, "P = S-2, links to older versions"},
-    {COUNT, BPCC_DONE, at_rest, "32 bytes"},
+    {COUNT, BPCC_DONE, at_rest, "the bytes of a page"},
     {READ, BPCC_DONE, in_flight, "P = S, all in flight"},
 };
 
@@ -312,8 +314,26 @@ static void measure(const struct kind *kind, double clock_time, double *longest)
     print_times(times);
 }
 
+/* Times every kind at a width, and prints the table of the longest. */
+static void measure_all(uint32_t at, double clock_time) {
+    double longest[CALLS][SIZES] = {{0}};
+    size_t i;
+    width = at;
+    printf("width %lu: kinds of volume (P is 256 where more are named), milliseconds at each number of slots\n", (unsigned long)width);
+    for (i = 0; i < sizeof kinds / sizeof *kinds; i++) {
+        measure(&kinds[i], clock_time, longest[kinds[i].call]);
+    }
+    printf("# width %lu\nslots", (unsigned long)width);
+    for (i = 0; i < SIZES; i++) {
+        printf(" %lu%s", (unsigned long)sizes[i], i + 1 < SIZES ? "" : "\n");
+    }
+    for (i = 0; i < CALLS; i++) {
+        printf("%s", names[i]);
+        print_times(longest[i]);
+    }
+}
+
 int main(int argc, char **argv) {
-    static double longest[CALLS][SIZES];
     double clock_time;
     size_t i;
     if (argc > 1) {
@@ -324,18 +344,8 @@ int main(int argc, char **argv) {
         list[i] = (uint32_t)i;
     }
     clock_time = shortest(CALLS, BPCC_DONE);
-    printf("kinds of volume (P is 256 where more are named), milliseconds at each number of slots\n");
-    for (i = 0; i < sizeof kinds / sizeof *kinds; i++) {
-        measure(&kinds[i], clock_time, longest[kinds[i].call]);
-    }
-    printf("slots");
-    for (i = 0; i < SIZES; i++) {
-        printf(" %lu%s", (unsigned long)sizes[i], i + 1 < SIZES ? "" : "\n");
-    }
-    for (i = 0; i < CALLS; i++) {
-        printf("%s", names[i]);
-        print_times(longest[i]);
-    }
+    measure_all(BPCC_WIDTH_32, clock_time);
+    measure_all(BPCC_WIDTH_64, clock_time);
     printf("%u passed, %u failed\n", passed, failed);
     return failed != 0;
 }

@@ -18,15 +18,16 @@
 #include <sys/types.h>
 #include <unistd.h>
 
-enum { PAGES = 64, SLOTS = 72, WORD_BYTES = 4 * BPCC_SLOT_WORDS, SLOT_BYTES = WORD_BYTES + BPCC_WIDTH };
+enum { PAGES = 64, SLOTS = 72, WIDTH = BPCC_WIDTH_32, WORD_BYTES = 4 * BPCC_SLOT_WORDS, SLOT_BYTES = WORD_BYTES + WIDTH };
 
 static uint32_t words[BPCC_SLOT_WORDS * SLOTS];
-static uint8_t contents[BPCC_WIDTH * SLOTS];
+static uint8_t contents[WIDTH * SLOTS];
 static uint32_t state[BPCC_PAGE_WORDS * PAGES];
 static int flash;
 
+#define VOLUME PAGES, SLOTS, WIDTH
 #define WORDS words, BPCC_TABLE_WORDS(SLOTS)
-#define CONTENTS contents, BPCC_CONTENTS_BYTES(SLOTS)
+#define CONTENTS contents, BPCC_CONTENTS_BYTES(SLOTS, WIDTH)
 #define STATE state, BPCC_STATE_WORDS(PAGES)
 
 static void need(int holds, const char *what) {
@@ -45,7 +46,7 @@ static uint32_t done(const char *call, uint64_t reply) {
 static void program(uint32_t slot) {
     uint8_t piece[SLOT_BYTES];
     memcpy(piece, words + BPCC_SLOT_WORDS * slot, WORD_BYTES);
-    memcpy(piece + WORD_BYTES, contents + BPCC_WIDTH * slot, BPCC_WIDTH);
+    memcpy(piece + WORD_BYTES, contents + WIDTH * slot, WIDTH);
     need(pwrite(flash, piece, SLOT_BYTES, (off_t)slot * SLOT_BYTES) == SLOT_BYTES, "the file takes no slot");
     need(fdatasync(flash) == 0, "the file is not synced");
 }
@@ -54,7 +55,7 @@ static void load(uint32_t slot) {
     uint8_t piece[SLOT_BYTES];
     need(pread(flash, piece, SLOT_BYTES, (off_t)slot * SLOT_BYTES) == SLOT_BYTES, "the file is too short");
     memcpy(words + BPCC_SLOT_WORDS * slot, piece, WORD_BYTES);
-    memcpy(contents + BPCC_WIDTH * slot, piece + WORD_BYTES, BPCC_WIDTH);
+    memcpy(contents + WIDTH * slot, piece + WORD_BYTES, WIDTH);
 }
 
 /* A blank slot; where there is none, one is erased. */
@@ -64,8 +65,8 @@ static uint32_t blank_slot(void) {
         slot++;
     }
     if (slot == SLOTS) {
-        slot = done("suggest", bpcc_suggest(PAGES, SLOTS, WORDS, STATE));
-        done("erase", bpcc_erase(PAGES, SLOTS, WORDS, CONTENTS, STATE, &slot, 1));
+        slot = done("suggest", bpcc_suggest(VOLUME, WORDS, STATE));
+        done("erase", bpcc_erase(VOLUME, WORDS, CONTENTS, STATE, &slot, 1));
         program(slot);
     }
     return slot;
@@ -74,15 +75,15 @@ static uint32_t blank_slot(void) {
 /* Set n: `size` pages that follow those of set n-1, with bytes of its own. */
 static void store(uint32_t n, uint32_t size) {
     uint32_t list[PAGES] = {0}, i, stored = 0;
-    uint8_t bytes[BPCC_WIDTH];
+    uint8_t bytes[WIDTH];
     memset(bytes, (int)(n % 256), sizeof bytes);
     for (i = 0; i < size; i++) {
         list[i] = (n * size + i) % PAGES;
     }
-    done("launch", bpcc_launch(PAGES, SLOTS, STATE, list, size));
+    done("launch", bpcc_launch(VOLUME, STATE, list, size));
     for (i = 0; i < size; i++) {
         uint32_t slot = blank_slot();
-        stored = done("write", bpcc_write(PAGES, SLOTS, WORDS, CONTENTS, STATE, list[i], slot, bytes, sizeof bytes));
+        stored = done("write", bpcc_write(VOLUME, WORDS, CONTENTS, STATE, list[i], slot, bytes, sizeof bytes));
         program(slot);
     }
     need(stored == 1, "a set is not stored");
@@ -90,7 +91,7 @@ static void store(uint32_t n, uint32_t size) {
 
 static void make(void) {
     uint32_t slot;
-    done("format", bpcc_format(PAGES, SLOTS, WORDS, CONTENTS, STATE));
+    done("format", bpcc_format(VOLUME, WORDS, CONTENTS, STATE));
     for (slot = 0; slot < SLOTS; slot++) {
         program(slot);
     }
@@ -103,7 +104,7 @@ static void store_sets(uint32_t sets, uint32_t size) {
     for (i = 0; i < SLOTS; i++) {
         load(i);
     }
-    done("recover", bpcc_recover(PAGES, SLOTS, WORDS, STATE));
+    done("recover", bpcc_recover(VOLUME, WORDS, STATE));
     for (i = 1; i <= sets; i++) {
         store(i, size);
     }

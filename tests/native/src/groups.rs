@@ -9,8 +9,8 @@ pub mod scripts;
 
 use crate::harness::Group;
 
-/// A group's tests, counted.
-pub type Tests = fn(&mut Group);
+/// A group's tests at a width, counted.
+pub type Tests = fn(&mut Group, u32);
 
 /// Every group by its name, in the order in which they run.
 pub const GROUPS: [(&str, Tests); 6] = [

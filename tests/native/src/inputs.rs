@@ -1,13 +1,17 @@
 //! Volumes, states and arguments for the calls: reachable, sound, damaged and sheer garbage.
 
 use crate::implementations::reference::Reference;
-use crate::interface::{NONE, SLOT_WORDS, WIDTH};
+use crate::interface::{NONE, SLOT_WORDS, WIDTHS};
 use crate::random::Random;
-use crate::rules::{entry, may_erase, records, set_entry, slot, state_sound, Entry, Record, LAST_VERSION};
-use crate::volume::{Call, Volume};
+use crate::rules::{entry, may_erase, records, set_entry, slot, slot_words, state_sound, table_sound, Entry, Record, LAST_VERSION};
+use crate::volume::{Call, Sizes, Volume};
+
+/// Widths that no volume has.
+pub const WRONG_WIDTHS: [u32; 7] = [0, 31, 33, 63, 65, 96, NONE];
 
 /// The numbers at which something changes, for P pages and S slots.
-pub fn boundary(random: &mut Random, pages: u32, slots: u32) -> u32 {
+pub fn boundary(random: &mut Random, sizes: Sizes) -> u32 {
+    let Sizes { pages, slots, .. } = sizes;
     random.pick(&[
         0,
         1,
@@ -34,8 +38,8 @@ pub fn boundary(random: &mut Random, pages: u32, slots: u32) -> u32 {
     ])
 }
 
-/// A volume and state for one round of calls.
-pub fn volume(random: &mut Random) -> Volume {
+/// A volume of a width, and its state, for one round of calls.
+pub fn volume(random: &mut Random, width: u32) -> Volume {
     let large = random.one_in(2000);
     let pages = if large {
         random.pick(&[255, 256])
@@ -45,33 +49,34 @@ pub fn volume(random: &mut Random) -> Volume {
         1 + random.below(4)
     };
     let slots = if large { 1024 - random.below(2) } else { pages + random.below(9) };
+    let sizes = Sizes { pages, slots, width };
     let mut v = match random.below(10) {
-        0..=3 => reached(random, pages, slots),
-        4..=5 => sound_table(random, pages, slots),
-        6..=8 => linked_table(random, pages, slots),
-        _ => garbage(random, pages, slots),
+        0..=3 => reached(random, sizes),
+        4..=5 => sound_table(random, sizes),
+        6..=8 => linked_table(random, sizes),
+        _ => garbage(random, sizes),
     };
     choose_state(random, &mut v);
     if random.one_in(8) {
-        damage(random, pages, slots, &mut v.words);
+        damage(random, sizes, &mut v.words);
     }
     if random.one_in(8) {
-        damage(random, pages, slots, &mut v.state);
+        damage(random, sizes, &mut v.state);
     }
     v
 }
 
 /// What some calls leave of a formatted volume.
-fn reached(random: &mut Random, pages: u32, slots: u32) -> Volume {
-    let mut v = Volume::formatted(&Reference, pages, slots);
+fn reached(random: &mut Random, sizes: Sizes) -> Volume {
+    let mut v = Volume::formatted(&Reference, sizes);
     for _ in 0..random.below(40) {
         let call = match random.below(8) {
             0..=1 => Call::Launch(pages_to_launch(random, &v)),
             2..=5 => {
                 let (page, slot) = page_and_slot_to_write(random, &v);
-                Call::Write { page, slot, bytes: random.bytes(WIDTH) }
+                Call::Write { page, slot, bytes: random.bytes(sizes.width) }
             }
-            6 if random.one_in(4) => Call::Withdraw(random.below(pages)),
+            6 if random.one_in(4) => Call::Withdraw(random.below(sizes.pages)),
             6 if random.one_in(4) => Call::Recover,
             _ => Call::Erase(slots_to_erase(random, &v)),
         };
@@ -98,27 +103,28 @@ fn sound_record(random: &mut Random, pages: u32, p: u32) -> Record {
 }
 
 /// Sound records and blank slots in any order, pages and versions repeated or missing.
-fn sound_table(random: &mut Random, pages: u32, slots: u32) -> Volume {
-    let mut v = Volume::with_records(pages, slots, &[]);
-    v.contents = random.bytes(v.contents.len());
-    for k in 0..slots as usize {
+fn sound_table(random: &mut Random, sizes: Sizes) -> Volume {
+    let mut v = Volume::with_records(sizes, &[]);
+    v.contents = random.bytes(v.contents.len() as u32);
+    for k in 0..sizes.slots {
         if !random.one_in(3) {
-            let p = random.below(pages);
-            let five = sound_record(random, pages, p).words();
-            v.words[SLOT_WORDS * k..][..SLOT_WORDS].copy_from_slice(&five);
+            let p = random.below(sizes.pages);
+            let five = sound_record(random, sizes.pages, p).words();
+            v.words[slot_words(k)].copy_from_slice(&five);
         }
     }
     v
 }
 
 /// At least one record for each page, no two with equal page and version, most links of highest records to highest versions.
-fn linked_table(random: &mut Random, pages: u32, slots: u32) -> Volume {
+fn linked_table(random: &mut Random, sizes: Sizes) -> Volume {
+    let Sizes { pages, slots, .. } = sizes;
     let highest: Vec<u32> = (0..pages).map(|_| 1 + version(random).min(LAST_VERSION - 1)).collect();
     let mut held: Vec<Record> = Vec::new();
     for p in 0..pages {
         let v = highest[p as usize];
         let np = random.below(pages);
-        let off = if random.one_in(6) { random.pick(&[1, NONE]) } else { 0 };
+        let off = if random.one_in(6) { random.pick(&[1, NONE, NONE - 1]) } else { 0 };
         let nv = if np == p { v } else { highest[np as usize].wrapping_add(off).min(LAST_VERSION) };
         let c = if random.one_in(3) { 0 } else { version(random) % v };
         held.push(Record { p, v, c, np, nv });
@@ -135,23 +141,23 @@ fn linked_table(random: &mut Random, pages: u32, slots: u32) -> Volume {
     let mut fives: Vec<[u32; SLOT_WORDS]> = held.iter().map(|r| r.words()).collect();
     fives.resize(slots as usize, [NONE; SLOT_WORDS]);
     random.shuffle(&mut fives);
-    Volume::with_records(pages, slots, &fives)
+    Volume::with_records(sizes, &fives)
 }
 
-fn garbage(random: &mut Random, pages: u32, slots: u32) -> Volume {
-    let mut v = Volume::zeroed(pages, slots);
+fn garbage(random: &mut Random, sizes: Sizes) -> Volume {
+    let mut v = Volume::zeroed(sizes);
     let wild = random.one_in(2);
-    let word = |random: &mut Random| if wild { random.number() as u32 } else { boundary(random, pages, slots) };
+    let word = |random: &mut Random| if wild { random.number() as u32 } else { boundary(random, sizes) };
     v.words.iter_mut().for_each(|w| *w = word(random));
     v.state.iter_mut().for_each(|w| *w = word(random));
-    v.contents = random.bytes(v.contents.len());
+    v.contents = random.bytes(v.contents.len() as u32);
     v
 }
 
 /// Keeps the volume's state, recovers it, makes a sound one, or loses it.
 fn choose_state(random: &mut Random, v: &mut Volume) {
     match random.below(12) {
-        0..=3 if state_sound(v.pages, &v.state) => {}
+        0..=3 if state_sound(v.sizes.pages, &v.state) => {}
         4 => drop(v.call(&Reference, &Call::Recover)),
         5 => v.state.fill(NONE),
         _ => sound_state(random, v),
@@ -160,15 +166,15 @@ fn choose_state(random: &mut Random, v: &mut Volume) {
 
 /// Any sound state, its committed versions often those of records.
 fn sound_state(random: &mut Random, v: &mut Volume) {
-    let table = records(&v.words);
-    let mut flying = random.subset(v.pages);
+    let (table, pages) = (records(&v.words), v.sizes.pages);
+    let mut flying = random.subset(pages);
     if random.one_in(2) {
-        flying.truncate(v.pages as usize / 2);
+        flying.truncate(pages as usize / 2);
     }
     let mut next = flying.clone();
     random.shuffle(&mut next);
     let all_written = random.one_in(6);
-    for p in 0..v.pages {
+    for p in 0..pages {
         let own: Vec<u32> = table.iter().filter(|(_, r)| r.p == p).map(|(_, r)| r.v).collect();
         let held = !own.is_empty() && !random.one_in(5);
         let committed = if held { random.pick(&own).min(LAST_VERSION) } else { version(random) };
@@ -188,11 +194,11 @@ fn sound_state(random: &mut Random, v: &mut Volume) {
 }
 
 /// Alters one to three words.
-fn damage(random: &mut Random, pages: u32, slots: u32, words: &mut [u32]) {
+fn damage(random: &mut Random, sizes: Sizes, words: &mut [u32]) {
     for _ in 0..1 + random.below(3) {
         let at = random.below(words.len() as u32) as usize;
         words[at] = match random.below(4) {
-            0 => boundary(random, pages, slots),
+            0 => boundary(random, sizes),
             1 => words[at].wrapping_add(1),
             2 => words[at].wrapping_sub(1),
             _ => words[random.below(words.len() as u32) as usize],
@@ -215,36 +221,38 @@ fn spoiled(random: &mut Random, mut list: Vec<u32>, n: u32) -> Vec<u32> {
 }
 
 pub fn pages_to_launch(random: &mut Random, v: &Volume) -> Vec<u32> {
-    let free: Vec<u32> = (0..v.pages).filter(|&p| !entry(&v.state, p).in_flight()).collect();
-    let list = if random.one_in(4) || free.is_empty() { random.subset(v.pages) } else { random.some_of(free, v.pages) };
-    spoiled(random, list, v.pages)
+    let pages = v.sizes.pages;
+    let free: Vec<u32> = (0..pages).filter(|&p| !entry(&v.state, p).in_flight()).collect();
+    let list = if random.one_in(4) || free.is_empty() { random.subset(pages) } else { random.some_of(free, pages) };
+    spoiled(random, list, pages)
 }
 
 pub fn page_and_slot_to_write(random: &mut Random, v: &Volume) -> (u32, u32) {
-    let waiting: Vec<u32> = (0..v.pages).filter(|&p| entry(&v.state, p).in_flight() && entry(&v.state, p).written == 0).collect();
+    let Sizes { pages, slots, .. } = v.sizes;
+    let waiting: Vec<u32> = (0..pages).filter(|&p| entry(&v.state, p).in_flight() && entry(&v.state, p).written == 0).collect();
     let blank = v.blank_slots();
-    let page = if random.one_in(5) || waiting.is_empty() { random.below(v.pages) } else { random.pick(&waiting) };
-    let slot = if random.one_in(5) || blank.is_empty() { random.below(v.slots) } else { random.pick(&blank) };
+    let page = if random.one_in(5) || waiting.is_empty() { random.below(pages) } else { random.pick(&waiting) };
+    let slot = if random.one_in(5) || blank.is_empty() { random.below(slots) } else { random.pick(&blank) };
     match random.below(20) {
-        0 => (boundary(random, v.pages, v.slots), slot),
-        1 => (page, boundary(random, v.pages, v.slots)),
+        0 => (boundary(random, v.sizes), slot),
+        1 => (page, boundary(random, v.sizes)),
         _ => (page, slot),
     }
 }
 
 pub fn page_to_take(random: &mut Random, v: &Volume) -> u32 {
     if random.one_in(10) {
-        boundary(random, v.pages, v.slots)
+        boundary(random, v.sizes)
     } else {
-        random.below(v.pages)
+        random.below(v.sizes.pages)
     }
 }
 
 /// Slots that may be erased, or any that hold an obsolete or exposed record, or any at all.
 pub fn slots_to_erase(random: &mut Random, v: &Volume) -> Vec<u32> {
-    let sound = records(&v.words).iter().all(|(_, r)| r.is_sound(v.pages));
-    let tried: Vec<u32> =
-        if v.slots > 64 { (0..20).map(|i| (i * 53 + random.below(53)) % v.slots).collect() } else { (0..v.slots).collect() };
+    let Sizes { pages, slots, .. } = v.sizes;
+    let sound = table_sound(pages, &v.words);
+    let tried: Vec<u32> = if slots > 64 { (0..20).map(|i| (i * 53 + random.below(53)) % slots).collect() } else { (0..slots).collect() };
     let how = random.below(8);
     let goes = |k: u32| match slot(&v.words, k) {
         Some(_) if how < 4 => may_erase(&v.words, &v.state, k),
@@ -252,8 +260,8 @@ pub fn slots_to_erase(random: &mut Random, v: &Volume) -> Vec<u32> {
         None => false,
     };
     let chosen: Vec<u32> = tried.into_iter().filter(|&k| sound && how < 7 && goes(k)).collect();
-    let list = random.some_of(if chosen.is_empty() { (0..v.slots).collect() } else { chosen }, v.slots);
-    spoiled(random, list, v.slots)
+    let list = random.some_of(if chosen.is_empty() { (0..slots).collect() } else { chosen }, slots);
+    spoiled(random, list, slots)
 }
 
 /// A wrong size or length for some call.
@@ -263,11 +271,23 @@ pub fn resize(random: &mut Random, v: &mut Volume) {
         let wrong = random.pick(&[0, 1, n.saturating_sub(1), n + 1, n / 2, 2 * n, n.saturating_sub(4), n + 4, n + 5, n + 32]);
         list.resize(wrong, T::default());
     }
-    match random.below(5) {
-        0 => v.pages = boundary(random, v.pages, v.slots),
-        1 => v.slots = boundary(random, v.pages, v.slots),
+    match random.below(7) {
+        0 => v.sizes.pages = boundary(random, v.sizes),
+        1 => v.sizes.slots = boundary(random, v.sizes),
         2 => cut(random, &mut v.words),
         3 => cut(random, &mut v.contents),
-        _ => cut(random, &mut v.state),
+        4 => cut(random, &mut v.state),
+        _ => {
+            let width = if random.one_in(2) { random.pick(&WIDTHS) } else { random.pick(&WRONG_WIDTHS) };
+            v.sizes.width = width;
+            if is_short(width) && !random.one_in(3) {
+                v.contents.resize(width as usize * v.sizes.slots as usize, 0);
+            }
+        }
     }
+}
+
+/// Whether buffers of a width's length are to be had, be it right or wrong.
+pub fn is_short(width: u32) -> bool {
+    width < 1000
 }

@@ -5,8 +5,13 @@ use std::fmt;
 /// 4,294,967,295: a word of a blank slot, "not in flight", and the slot that a refused suggest names.
 pub const NONE: u32 = u32::MAX;
 
-/// Bytes of contents for each slot.
-pub const WIDTH: usize = 32;
+/// The widths of a volume: bytes of contents for each slot.
+pub const WIDTHS: [u32; 2] = [32, 64];
+
+/// The other of the two widths.
+pub fn other_width(width: u32) -> u32 {
+    WIDTHS[usize::from(width == WIDTHS[0])]
+}
 
 /// Words of a slot in the slot table.
 pub const SLOT_WORDS: usize = 5;
@@ -19,15 +24,15 @@ pub const PAGE_WORDS: usize = 4;
 macro_rules! calls {
     ($to:ident) => {
         $to! {
-            Format   bpcc_format   (pages, slots, [words], [contents], [state])
-            Launch   bpcc_launch   (pages, slots, [state], [list])
-            Write    bpcc_write    (pages, slots, [words], [contents], [state], page, slot, [bytes])
-            Withdraw bpcc_withdraw (pages, slots, [state], page)
-            Erase    bpcc_erase    (pages, slots, [words], [contents], [state], [list])
-            Suggest  bpcc_suggest  (pages, slots, [words], [state])
-            Recover  bpcc_recover  (pages, slots, [words], [state])
+            Format   bpcc_format   (pages, slots, width, [words], [contents], [state])
+            Launch   bpcc_launch   (pages, slots, width, [state], [list])
+            Write    bpcc_write    (pages, slots, width, [words], [contents], [state], page, slot, [bytes])
+            Withdraw bpcc_withdraw (pages, slots, width, [state], page)
+            Erase    bpcc_erase    (pages, slots, width, [words], [contents], [state], [list])
+            Suggest  bpcc_suggest  (pages, slots, width, [words], [state])
+            Recover  bpcc_recover  (pages, slots, width, [words], [state])
             Count    bpcc_count    ([bytes])
-            Read     bpcc_read     (pages, slots, [words], [contents], [state], page, [out])
+            Read     bpcc_read     (pages, slots, width, [words], [contents], [state], page, [out])
         }
     };
 }
@@ -39,6 +44,7 @@ pub(crate) use calls;
 pub struct Arguments<'a> {
     pub pages: u32,
     pub slots: u32,
+    pub width: u32,
     pub words: &'a mut [u32],
     pub contents: &'a mut [u8],
     pub state: &'a mut [u32],

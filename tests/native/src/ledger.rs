@@ -1,9 +1,8 @@
 //! Document 01's ledger: told the calls, their answers and the crashes, it keeps what each page holds.
 
-use crate::interface::WIDTH;
-use crate::volume::Call;
+use crate::volume::{Call, Sizes};
 
-type Bytes = [u8; WIDTH];
+type Bytes = Vec<u8>;
 
 #[derive(Clone, Debug)]
 pub struct Ledger {
@@ -14,11 +13,11 @@ pub struct Ledger {
 }
 
 impl Ledger {
-    pub fn new(pages: u32) -> Ledger {
-        Ledger { kept: vec![[0; WIDTH]; pages as usize], open: Vec::new() }
+    pub fn new(sizes: Sizes) -> Ledger {
+        Ledger { kept: vec![vec![0; sizes.width as usize]; sizes.pages as usize], open: Vec::new() }
     }
 
-    pub fn kept(&self, page: u32) -> &Bytes {
+    pub fn kept(&self, page: u32) -> &[u8] {
         &self.kept[page as usize]
     }
 
@@ -49,7 +48,7 @@ impl Ledger {
         let Some(at) = self.open.iter().position(|ring| ring.iter().any(|&(p, _)| p == page)) else { return };
         for (p, held) in &mut self.open[at] {
             if *p == page {
-                *held = Some(bytes.try_into().expect("an accepted write has 32 bytes"));
+                *held = Some(bytes.to_vec());
             }
         }
         if self.open[at].iter().all(|(_, held)| held.is_some()) {

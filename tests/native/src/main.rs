@@ -1,7 +1,8 @@
-//! Runs the native tests, all groups or those named, and counts.
+//! Runs the native tests, all groups or those named, each at every width, and counts.
 
 use native::groups::{Tests, GROUPS};
 use native::harness::{said, Group};
+use native::interface::WIDTHS;
 use std::panic::{catch_unwind, AssertUnwindSafe};
 
 fn main() {
@@ -12,9 +13,12 @@ fn main() {
     for (i, (name, tests)) in chosen.iter().enumerate() {
         println!("== group {} of {}: {name}", i + 1, chosen.len());
         let mut group = Group::default();
-        if let Err(panic) = catch_unwind(AssertUnwindSafe(|| tests(&mut group))) {
-            group.failed += 1;
-            println!("FAILED  {name}: {}", said(&*panic));
+        for width in WIDTHS {
+            println!("-- width {width}");
+            if let Err(panic) = catch_unwind(AssertUnwindSafe(|| tests(&mut group, width))) {
+                group.failed += 1;
+                println!("FAILED  {name}: {}", said(&*panic));
+            }
         }
         println!("{name}: {} passed, {} failed", group.passed, group.failed);
         all.passed += group.passed;

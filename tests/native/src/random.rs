@@ -48,7 +48,7 @@ impl Random {
         self.some_of((0..n).collect(), n)
     }
 
-    pub fn bytes(&mut self, n: usize) -> Vec<u8> {
+    pub fn bytes(&mut self, n: u32) -> Vec<u8> {
         (0..n).map(|_| self.number() as u8).collect()
     }
 }

@@ -1,6 +1,7 @@
-//! Document 01's definitions on plain slices: records, the state, what may be erased, how recovery follows links.
+//! Document 01's definitions on plain slices: records, the state, what may be erased, how recovery follows links. The width is any.
 
-use crate::interface::{NONE, PAGE_WORDS, SLOT_WORDS, WIDTH};
+use crate::interface::{NONE, PAGE_WORDS, SLOT_WORDS};
+use std::ops::Range;
 
 /// The highest version there is.
 pub const LAST_VERSION: u32 = 4_294_967_294;
@@ -35,10 +36,21 @@ impl Record {
     }
 }
 
+/// "Slot k has words 5k to 5k+4 …
+pub fn slot_words(k: u32) -> Range<usize> {
+    let at = SLOT_WORDS * k as usize;
+    at..at + SLOT_WORDS
+}
+
+/// … and bytes 32k to 32k+31", or as many as the width says.
+pub fn slot_bytes(width: u32, k: u32) -> Range<usize> {
+    let (width, k) = (width as usize, k as usize);
+    width * k..width * (k + 1)
+}
+
 /// Slot k's record, or nothing where the slot is blank.
 pub fn slot(words: &[u32], k: u32) -> Option<Record> {
-    let at = SLOT_WORDS * k as usize;
-    match words[at..at + SLOT_WORDS] {
+    match words[slot_words(k)] {
         [NONE, NONE, NONE, NONE, NONE] => None,
         [p, v, c, np, nv] => Some(Record { p, v, c, np, nv }),
         _ => unreachable!(),
@@ -46,9 +58,8 @@ pub fn slot(words: &[u32], k: u32) -> Option<Record> {
 }
 
 /// Stores a record and its bytes in slot k, or blanks the slot.
-pub fn set_slot(words: &mut [u32], contents: &mut [u8], k: u32, held: Option<(Record, &[u8])>) {
-    let (at, from) = (SLOT_WORDS * k as usize, WIDTH * k as usize);
-    let (five, bytes) = (&mut words[at..at + SLOT_WORDS], &mut contents[from..from + WIDTH]);
+pub fn set_slot(width: u32, words: &mut [u32], contents: &mut [u8], k: u32, held: Option<(Record, &[u8])>) {
+    let (five, bytes) = (&mut words[slot_words(k)], &mut contents[slot_bytes(width, k)]);
     match held {
         Some((record, stored)) => {
             five.copy_from_slice(&record.words());
@@ -63,7 +74,10 @@ pub fn set_slot(words: &mut [u32], contents: &mut [u8], k: u32, held: Option<(Re
 
 /// The records of the table with their slots, rising.
 pub fn records(words: &[u32]) -> Vec<(u32, Record)> {
-    (0..(words.len() / SLOT_WORDS) as u32).filter_map(|k| slot(words, k).map(|r| (k, r))).collect()
+    let slots = words.len() / SLOT_WORDS;
+    let mut held = Vec::with_capacity(slots);
+    held.extend((0..slots as u32).filter_map(|k| slot(words, k).map(|r| (k, r))));
+    held
 }
 
 /// One page's four words of the state.
@@ -100,8 +114,8 @@ pub fn words_fit(slots: u32, words: &[u32]) -> bool {
     words.len() == SLOT_WORDS * slots as usize
 }
 
-pub fn contents_fit(slots: u32, contents: &[u8]) -> bool {
-    contents.len() == WIDTH * slots as usize
+pub fn contents_fit(slots: u32, width: u32, contents: &[u8]) -> bool {
+    contents.len() == width as usize * slots as usize
 }
 
 pub fn state_fits(pages: u32, state: &[u32]) -> bool {

@@ -1,7 +1,21 @@
 //! A volume with its state, and the calls that a run makes on it.
 
-use crate::interface::{Arguments, Calls, Name, Reply, NONE, PAGE_WORDS, SLOT_WORDS, WIDTH};
-use crate::rules::slot;
+use crate::interface::{Arguments, Calls, Name, Reply, NONE, PAGE_WORDS, SLOT_WORDS};
+use crate::rules::{slot, slot_bytes, slot_words};
+
+/// A volume's sizes: its pages, its slots, and the bytes of contents for each slot.
+#[derive(Clone, Copy, Debug, PartialEq, Eq)]
+pub struct Sizes {
+    pub pages: u32,
+    pub slots: u32,
+    pub width: u32,
+}
+
+impl Sizes {
+    pub fn new(pages: u32, slots: u32, width: u32) -> Sizes {
+        Sizes { pages, slots, width }
+    }
+}
 
 /// A call of a run, with its arguments.
 #[derive(Clone, Debug)]
@@ -15,8 +29,7 @@ pub enum Call {
 
 #[derive(Clone, Debug, PartialEq, Eq)]
 pub struct Volume {
-    pub pages: u32,
-    pub slots: u32,
+    pub sizes: Sizes,
     pub words: Vec<u32>,
     pub contents: Vec<u8>,
     pub state: Vec<u32>,
@@ -24,45 +37,41 @@ pub struct Volume {
 
 impl Volume {
     /// A volume of the sizes' lengths whose words and bytes are all zero.
-    pub fn zeroed(pages: u32, slots: u32) -> Volume {
-        Volume {
-            pages,
-            slots,
-            words: vec![0; SLOT_WORDS * slots as usize],
-            contents: vec![0; WIDTH * slots as usize],
-            state: vec![0; PAGE_WORDS * pages as usize],
-        }
+    pub fn zeroed(sizes: Sizes) -> Volume {
+        let [pages, slots, width] = [sizes.pages, sizes.slots, sizes.width].map(|n| n as usize);
+        Volume { sizes, words: vec![0; SLOT_WORDS * slots], contents: vec![0; width * slots], state: vec![0; PAGE_WORDS * pages] }
     }
 
     /// A freshly formatted volume.
-    pub fn formatted(calls: &dyn Calls, pages: u32, slots: u32) -> Volume {
-        let mut v = Volume::zeroed(pages, slots);
-        assert_eq!(v.format(calls), Reply::done(0), "format of {pages} pages and {slots} slots");
+    pub fn formatted(calls: &dyn Calls, sizes: Sizes) -> Volume {
+        let mut v = Volume::zeroed(sizes);
+        assert_eq!(v.format(calls), Reply::done(0), "format of {sizes:?}");
         v
     }
 
     /// A copy of what a call is lent.
     pub fn copied(a: &Arguments) -> Volume {
-        Volume { pages: a.pages, slots: a.slots, words: a.words.to_vec(), contents: a.contents.to_vec(), state: a.state.to_vec() }
+        let sizes = Sizes::new(a.pages, a.slots, a.width);
+        Volume { sizes, words: a.words.to_vec(), contents: a.contents.to_vec(), state: a.state.to_vec() }
     }
 
     /// A volume with the given records in its lowest slots, the other slots blank, and the state lost.
-    pub fn with_records(pages: u32, slots: u32, held: &[[u32; SLOT_WORDS]]) -> Volume {
-        let mut v = Volume::zeroed(pages, slots);
+    pub fn with_records(sizes: Sizes, held: &[[u32; SLOT_WORDS]]) -> Volume {
+        let mut v = Volume::zeroed(sizes);
         v.words.fill(NONE);
         v.contents.fill(255);
         v.state.fill(NONE);
-        for (k, five) in held.iter().enumerate() {
-            v.words[SLOT_WORDS * k..][..SLOT_WORDS].copy_from_slice(five);
-            v.contents[WIDTH * k..][..WIDTH].fill(k as u8);
+        for (k, five) in (0..).zip(held) {
+            v.words[slot_words(k)].copy_from_slice(five);
+            v.contents[slot_bytes(sizes.width, k)].fill(k as u8);
         }
         v
     }
 
     /// The volume lent to a call, the call's own arguments left out.
     pub fn arguments(&mut self) -> Arguments<'_> {
-        let Volume { pages, slots, words, contents, state } = self;
-        Arguments { pages: *pages, slots: *slots, words, contents, state, ..Arguments::default() }
+        let Volume { sizes: Sizes { pages, slots, width }, words, contents, state } = self;
+        Arguments { pages: *pages, slots: *slots, width: *width, words, contents, state, ..Arguments::default() }
     }
 
     pub fn call(&mut self, calls: &dyn Calls, call: &Call) -> Reply {
@@ -90,13 +99,13 @@ impl Volume {
 
     /// The blank slots, rising.
     pub fn blank_slots(&self) -> Vec<u32> {
-        (0..self.slots).filter(|&k| slot(&self.words, k).is_none()).collect()
+        (0..self.sizes.slots).filter(|&k| slot(&self.words, k).is_none()).collect()
     }
 
     /// Makes slot k what it is in another volume of the same sizes.
     pub fn copy_slot(&mut self, from: &Volume, k: u32) {
-        let (w, b) = (SLOT_WORDS * k as usize, WIDTH * k as usize);
-        self.words[w..w + SLOT_WORDS].copy_from_slice(&from.words[w..w + SLOT_WORDS]);
-        self.contents[b..b + WIDTH].copy_from_slice(&from.contents[b..b + WIDTH]);
+        let (words, bytes) = (slot_words(k), slot_bytes(self.sizes.width, k));
+        self.words[words.clone()].copy_from_slice(&from.words[words]);
+        self.contents[bytes.clone()].copy_from_slice(&from.contents[bytes]);
     }
 }

@@ -1,17 +1,19 @@
 //! The calls against the second implementation.
 
 pub mod exhaustive;
+pub mod lengths;
 pub mod volumes;
 
 use crate::harness::Group;
 use crate::implementations::compared::Compared;
 use crate::implementations::TESTED;
-use crate::interface::Name;
+use crate::interface::{Name, WIDTHS};
+use crate::volume::Sizes;
 
-pub fn tests(group: &mut Group) {
+pub fn tests(group: &mut Group, width: u32) {
     let compared = Compared::new(TESTED);
-    for seed in 1..=10 {
-        group.plain(&format!("all calls on 40,000 volumes, seed {seed}"), || volumes::compare(&compared, 40_000, seed));
+    for seed in 1..=5 {
+        group.plain(&format!("all calls on 40,000 volumes, seed {seed}"), || volumes::compare(&compared, width, 40_000, seed));
     }
     group.test("each answer of each call seen at least 100 times, and no other", || {
         volumes::assert_all_seen(&compared);
@@ -21,14 +23,20 @@ pub fn tests(group: &mut Group) {
         };
         Name::ALL.iter().map(counts).collect()
     });
-    group.plain("format at the limits of the sizes", || volumes::compare_sizes(&compared));
-    group.plain("count of every bit and every byte", || volumes::compare_counts(&compared));
-    group.plain("the largest volume, one transaction over all pages", || volumes::compare_largest(&compared));
-    group.plain("lists of 100,001 entries", || volumes::compare_long_lists(&compared));
-    for (pages, slots, highest) in [(1, 5, 4), (2, 5, 2), (2, 4, 3), (3, 4, 2)] {
+    group.plain("format at the limits of the sizes", || volumes::compare_sizes(&compared, width));
+    group.plain("wrong widths, by every call", || lengths::compare_wrong_widths(&compared, width));
+    group.plain("the other width, by every call", || lengths::compare_other_width(&compared, width));
+    group.plain("contents and bytes of a wrong length, by every call", || lengths::compare_lengths(&compared, width));
+    group.plain("count of every bit and every byte", || lengths::compare_counts(&compared, width));
+    group.plain("count of every length", || lengths::compare_counted_lengths(&compared));
+    group.plain("the largest volume, one transaction over all pages", || volumes::compare_largest(&compared, width));
+    group.plain("lists of 100,001 entries", || volumes::compare_long_lists(&compared, width));
+    // The two largest kinds are seen at a width each.
+    let kinds = [(1, 5, 4, &WIDTHS[..]), (2, 5, 2, &WIDTHS[..]), (2, 4, 3, &WIDTHS[..1]), (3, 4, 2, &WIDTHS[1..])];
+    for (pages, slots, highest, _) in kinds.into_iter().filter(|(_, _, _, widths)| widths.contains(&width)) {
         group.test(&format!("every table of P = {pages}, S = {slots}, versions up to {highest}"), || {
-            format!("{} tables", exhaustive::tables(&compared, pages, slots, highest))
+            format!("{} tables", exhaustive::tables(&compared, Sizes { pages, slots, width }, highest))
         });
     }
-    group.test("every state of two pages, words of five values", || format!("{} states", exhaustive::states(&compared)));
+    group.test("every state of two pages, words of five values", || format!("{} states", exhaustive::states(&compared, width)));
 }

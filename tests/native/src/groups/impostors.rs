@@ -4,18 +4,18 @@ use super::calls::volumes;
 use super::runs::small_runs;
 use crate::harness::{said, Group};
 use crate::implementations::compared::Compared;
-use crate::implementations::impostors::{Impostor, FAULTS, LOSING};
+use crate::implementations::impostors::{faults, Impostor, LOSING, LOSING_64};
 use std::panic::{catch_unwind, AssertUnwindSafe};
 
-pub fn tests(group: &mut Group) {
-    for &fault in FAULTS {
-        group.test(&format!("{fault:?} differs"), || caught(|| volumes::compare(&Compared::new(&Impostor(fault)), 20_000, 1)));
+pub fn tests(group: &mut Group, width: u32) {
+    for fault in faults() {
+        group.test(&format!("{fault:?} differs"), || caught(|| volumes::compare(&Compared::new(&Impostor(fault)), width, 100_000, 1)));
     }
-    for fault in LOSING {
+    for fault in LOSING.into_iter().chain(LOSING_64.into_iter().filter(|_| width == 64)) {
         group.test(&format!("{fault:?} loses a page in runs with crashes"), || {
             caught(|| {
                 for pages in (1..=6).rev() {
-                    small_runs(&Impostor(fault), pages, 100, 400);
+                    small_runs(&Impostor(fault), width, pages, 100, 400);
                 }
             })
         });

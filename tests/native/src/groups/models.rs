@@ -6,10 +6,12 @@ use crate::harness::Group;
 use crate::implementations::TESTED;
 use walk::{walk, Rule};
 
-pub fn tests(group: &mut Group) {
-    for (pages, versions, states, depth) in [(2, 2, 403, 10), (2, 3, 8_599, 14), (2, 4, 186_657, 18), (3, 2, 11_783, 14)] {
+pub fn tests(group: &mut Group, width: u32) {
+    // The largest is walked at one width.
+    let models = [(2, 2, 403, 10), (2, 3, 8_599, 14), (3, 2, 11_783, 14), (2, 4, 186_657, 18)];
+    for (pages, versions, states, depth) in models.into_iter().filter(|&(_, _, states, _)| states < 100_000 || width == 64) {
         group.test(&format!("{pages} pages, MaxVers {versions}: {states} states"), || {
-            let found = walk(TESTED, pages, versions, Rule::Right);
+            let found = walk(TESTED, width, pages, versions, Rule::Right);
             assert_eq!(found.fault, None);
             assert_eq!((found.states, found.depth), (states, depth), "states and depth");
             format!("depth {depth}")
@@ -17,7 +19,7 @@ pub fn tests(group: &mut Group) {
     }
     for (rule, versions, depth, states) in [(Rule::CheckNone, 3, 9, 1_339), (Rule::CheckHigh, 4, 12, 21_745)] {
         group.test(&format!("{rule:?}, 2 pages, MaxVers {versions}: a fault at depth {depth}"), || {
-            let found = walk(TESTED, 2, versions, rule);
+            let found = walk(TESTED, width, 2, versions, rule);
             let (at, broken) = found.fault.expect("a state that breaks an invariant");
             assert_eq!((at, found.states), (depth, states), "depth and states");
             format!("{states} states, {broken}")

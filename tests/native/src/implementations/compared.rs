@@ -70,10 +70,11 @@ impl Copies {
 
     /// The arguments with the copies in place of the buffers.
     fn lent(&mut self, a: &Arguments) -> Arguments<'_> {
-        let &Arguments { pages, slots, page, slot, .. } = a;
+        let &Arguments { pages, slots, width, page, slot, .. } = a;
         Arguments {
             pages,
             slots,
+            width,
             page,
             slot,
             words: self.words.lent(),

@@ -1,34 +1,39 @@
 //! Implementations that are wrong in one way each, as documents 01 and 02 name them: the tests must tell every one from a right one.
 
-use super::reference::Reference;
-use crate::interface::{Arguments, Calls, Name, Reply, NONE, WIDTH};
-use crate::rules::{cycle, entry, may_erase, planned, records, set_entry, set_slot, slot, Entry, Record};
+use super::reference::{at_any_width, refusal, Reference};
+use crate::interface::{Arguments, Calls, Name, Reply, NONE};
+use crate::rules::{cycle, entry, lowest_slot, may_erase, planned, records, set_entry, set_slot, slot, slot_bytes, Entry, Record};
 use crate::volume::Volume;
 
 macro_rules! faults {
     ($($name:ident,)*) => {
-        /// What is wrong.
+        /// What is wrong; the last two are a call's own.
         #[derive(Clone, Copy, Debug, PartialEq, Eq)]
         pub enum Fault {
             $($name,)*
+            TakesAnyWidth(Name),
+            Refuses64(Name),
         }
 
-        pub const FAULTS: &[Fault] = &[$(Fault::$name,)*];
+        const PLAIN: &[Fault] = &[$(Fault::$name,)*];
     };
 }
 
 faults! {
     FormatDoesNothing,
+    FormatFills32Bytes,
     LaunchDoesNothing,
     LaunchRefusesEveryList,
     WriteStoresTheWholeTransaction,
     WriteSkipsTheFlash,
     WriteSkipsTheContents,
+    WriteCopies32Bytes,
     WriteIsDoneTooEarly,
     WithdrawDoesNothing,
     WithdrawForgetsOnePage,
     EraseDoesNothing,
     EraseKeepsTheContents,
+    EraseBlanks32Bytes,
     EraseJudgesAfterBlanking,
     EraseIgnoresStraddlers,
     EraseLooksAtHighestLinksOnly,
@@ -45,9 +50,19 @@ faults! {
     RecoverLooksAtTheLowestLaterVersion,
     CountGivesZero,
     CountLooksAtOneBitOfEachByte,
+    CountStopsAt256,
     ReadDoesNothing,
+    ReadCopies32Bytes,
+    ReadTakesSlotsFor32Bytes,
     ReadTakesTheHighestSlot,
     RefusesBySlotsBeforeState,
+}
+
+/// Every fault; those of a call for each that may have it.
+pub fn faults() -> Vec<Fault> {
+    let calls = Name::ALL.iter().copied();
+    let takes_any_width = calls.clone().filter(|&name| name != Name::Count).map(Fault::TakesAnyWidth);
+    PLAIN.iter().copied().chain(takes_any_width).chain(calls.map(Fault::Refuses64)).collect()
 }
 
 /// The faults that lose a completed page, so that runs with crashes find them without a second implementation.
@@ -63,17 +78,27 @@ pub const LOSING: [Fault; 9] = [
     Fault::RecoverTakesUsedFromVersionsAlone,
 ];
 
+/// The same, of the faults that only pages of 64 bytes have.
+pub const LOSING_64: [Fault; 3] = [Fault::WriteCopies32Bytes, Fault::ReadCopies32Bytes, Fault::ReadTakesSlotsFor32Bytes];
+
 pub struct Impostor(pub Fault);
 
 /// The right call, and then what is wrong.
 impl Calls for Impostor {
     fn call(&self, name: Name, a: &mut Arguments) -> Reply {
+        let width = if name == Name::Count { a.bytes.len() as u32 } else { a.width };
+        match self.0 {
+            Fault::TakesAnyWidth(of) if of == name => return at_any_width(name, a),
+            Fault::Refuses64(of) if of == name && width == 64 => return refusal(name, 1),
+            _ => {}
+        }
         let (before, out) = (Volume::copied(a), a.out.to_vec());
         let right = Reference.call(name, a);
         if right.answer != 0 {
             return self.refused(name, a, right);
         }
         self.put_back(name, &before, &out, a);
+        self.put_back_behind_32(name, &before, &out, a);
         self.alter(name, &before, a);
         self.reply(name, a, right)
     }
@@ -108,6 +133,21 @@ impl Impostor {
         }
     }
 
+    /// Puts back what stands behind the first 32 bytes of a page, where the fault goes no further.
+    fn put_back_behind_32(&self, name: Name, before: &Volume, out: &[u8], a: &mut Arguments) {
+        match (name, self.0) {
+            (Name::Format, Fault::FormatFills32Bytes)
+            | (Name::Write, Fault::WriteCopies32Bytes)
+            | (Name::Erase, Fault::EraseBlanks32Bytes) => {
+                for bytes in (0..a.slots).map(|k| slot_bytes(a.width, k)) {
+                    a.contents[bytes.clone()][32..].copy_from_slice(&before.contents[bytes][32..]);
+                }
+            }
+            (Name::Read, Fault::ReadCopies32Bytes) => a.out[32..].copy_from_slice(&out[32..]),
+            _ => {}
+        }
+    }
+
     /// Does what the fault does besides.
     fn alter(&self, name: Name, before: &Volume, a: &mut Arguments) {
         match (name, self.0) {
@@ -115,7 +155,7 @@ impl Impostor {
                 for q in cycle(&before.state, a.page).into_iter().filter(|&q| q != a.page) {
                     let blank = (0..a.slots).find(|&k| slot(a.words, k).is_none());
                     if let (Some(k), true) = (blank, entry(a.state, q).in_flight()) {
-                        set_slot(a.words, a.contents, k, Some((planned(a.state, q), a.bytes)));
+                        set_slot(a.width, a.words, a.contents, k, Some((planned(a.state, q), a.bytes)));
                     }
                 }
             }
@@ -132,7 +172,11 @@ impl Impostor {
             (Name::Read, Fault::ReadTakesTheHighestSlot) => {
                 let committed = entry(a.state, a.page).committed;
                 let (k, _) = *records(a.words).iter().rfind(|(_, r)| r.p == a.page && r.v == committed).unwrap();
-                a.out.copy_from_slice(&a.contents[WIDTH * k as usize..][..WIDTH]);
+                a.out.copy_from_slice(&a.contents[slot_bytes(a.width, k)]);
+            }
+            (Name::Read, Fault::ReadTakesSlotsFor32Bytes) => {
+                let k = lowest_slot(a.words, a.page, entry(a.state, a.page).committed).unwrap();
+                a.out.copy_from_slice(&a.contents[slot_bytes(32, k).start..][..a.width as usize]);
             }
             _ => {}
         }
@@ -205,6 +249,7 @@ impl Impostor {
                 later.map_or(Reply { answer: 13, second: NONE }, Reply::done)
             }
             (Name::Count, Fault::CountGivesZero) => Reply::done(0),
+            (Name::Count, Fault::CountStopsAt256) => Reply::done(a.bytes[..32].iter().map(|b| b.count_ones()).sum()),
             (Name::Count, Fault::CountLooksAtOneBitOfEachByte) => Reply::done(a.bytes.iter().filter(|&&b| b & 1 == 1).count() as u32),
             _ => right,
         }
@@ -237,7 +282,7 @@ impl Impostor {
             if !may {
                 return None;
             }
-            set_slot(&mut after.words, &mut after.contents, k, None);
+            set_slot(a.width, &mut after.words, &mut after.contents, k, None);
         }
         a.words.copy_from_slice(&after.words);
         a.contents.copy_from_slice(&after.contents);

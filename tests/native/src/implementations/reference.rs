@@ -1,32 +1,46 @@
 //! The second implementation of the calls, written from documents 01 and 02 for clarity and not for speed.
 
-use crate::interface::{Arguments, Calls, Name, Reply, NONE, WIDTH};
+use crate::interface::{Arguments, Calls, Name, Reply, NONE, WIDTHS};
 use crate::rules::{
     contents_fit, cycle, entry, follow, list_wrong, lowest_slot, may_erase, planned, records, set_entry, set_slot, sizes_fit, slot,
-    state_fits, state_sound, table_sound, words_fit, End, Entry, Record, LAST_VERSION,
+    slot_bytes, state_fits, state_sound, table_sound, words_fit, End, Entry, Record, LAST_VERSION,
 };
 
 /// The second implementation.
 pub struct Reference;
 
+/// "Other widths … are 1", of every call that takes one.
 impl Calls for Reference {
     fn call(&self, name: Name, arguments: &mut Arguments) -> Reply {
-        let meaning = match name {
-            Name::Format => format,
-            Name::Launch => launch,
-            Name::Write => write,
-            Name::Withdraw => withdraw,
-            Name::Erase => erase,
-            Name::Suggest => suggest,
-            Name::Recover => recover,
-            Name::Count => count,
-            Name::Read => read,
-        };
-        match meaning(arguments) {
-            Ok(second) => Reply::done(second),
-            Err(answer) if name == Name::Suggest => Reply { answer, second: NONE },
-            Err(answer) => Reply::refused(answer),
+        if name != Name::Count && !WIDTHS.contains(&arguments.width) {
+            refusal(name, 1)
+        } else {
+            at_any_width(name, arguments)
         }
+    }
+}
+
+/// A call as it is at any width.
+pub fn at_any_width(name: Name, arguments: &mut Arguments) -> Reply {
+    let meaning = match name {
+        Name::Format => format,
+        Name::Launch => launch,
+        Name::Write => write,
+        Name::Withdraw => withdraw,
+        Name::Erase => erase,
+        Name::Suggest => suggest,
+        Name::Recover => recover,
+        Name::Count => count,
+        Name::Read => read,
+    };
+    meaning(arguments).map_or_else(|answer| refusal(name, answer), Reply::done)
+}
+
+/// What a refused call says.
+pub fn refusal(name: Name, answer: u32) -> Reply {
+    match name {
+        Name::Suggest => Reply { answer, second: NONE },
+        _ => Reply::refused(answer),
     }
 }
 
@@ -54,14 +68,15 @@ fn table_misfits(a: &Arguments) -> bool {
 
 /// The same, of one that takes the contents too.
 fn volume_misfits(a: &Arguments) -> bool {
-    table_misfits(a) || !contents_fit(a.slots, a.contents)
+    table_misfits(a) || !contents_fit(a.slots, a.width, a.contents)
 }
 
 fn format(a: &mut Arguments) -> Outcome {
     refuse(1, volume_misfits(a))?;
+    let zeros = vec![0; a.width as usize];
     for i in 0..a.slots {
         let formatted = Record { p: i, v: 0, c: 0, np: i, nv: 0 };
-        set_slot(a.words, a.contents, i, (i < a.pages).then_some((formatted, &[0; WIDTH][..])));
+        set_slot(a.width, a.words, a.contents, i, (i < a.pages).then_some((formatted, &zeros)));
     }
     for p in 0..a.pages {
         set_entry(a.state, p, Entry { committed: 0, used: 0, next: NONE, written: 0 });
@@ -84,7 +99,7 @@ fn launch(a: &mut Arguments) -> Outcome {
 }
 
 fn write(a: &mut Arguments) -> Outcome {
-    refuse(1, volume_misfits(a) || a.bytes.len() != WIDTH)?;
+    refuse(1, volume_misfits(a) || a.bytes.len() != a.width as usize)?;
     refuse(2, !table_sound(a.pages, a.words))?;
     refuse(5, !state_sound(a.pages, a.state))?;
     refuse(6, a.page >= a.pages || a.slot >= a.slots)?;
@@ -92,7 +107,7 @@ fn write(a: &mut Arguments) -> Outcome {
     refuse(9, !e.in_flight())?;
     refuse(10, e.written == 1)?;
     refuse(11, slot(a.words, a.slot).is_some())?;
-    set_slot(a.words, a.contents, a.slot, Some((planned(a.state, a.page), a.bytes)));
+    set_slot(a.width, a.words, a.contents, a.slot, Some((planned(a.state, a.page), a.bytes)));
     set_entry(a.state, a.page, Entry { written: 1, ..e });
     let ring = cycle(a.state, a.page);
     if ring.iter().any(|&p| entry(a.state, p).written == 0) {
@@ -124,7 +139,7 @@ fn erase(a: &mut Arguments) -> Outcome {
     refuse(6, list_wrong(a.list, a.slots))?;
     refuse(12, a.list.iter().any(|&k| !may_erase(a.words, a.state, k)))?;
     for &k in a.list {
-        set_slot(a.words, a.contents, k, None);
+        set_slot(a.width, a.words, a.contents, k, None);
     }
     Ok(0)
 }
@@ -158,19 +173,19 @@ fn recover(a: &mut Arguments) -> Outcome {
     Ok(0)
 }
 
-/// "Stop s, 0 to 255, is bit s mod 8 of byte s div 8, lowest bit first; 1 means drawn."
+/// Of 32 or 64 bytes: "stop s … is bit s mod 8 of byte s div 8, lowest bit first; 1 means drawn."
 fn count(a: &mut Arguments) -> Outcome {
-    refuse(1, a.bytes.len() != WIDTH)?;
-    let drawn = (0..256).filter(|s| a.bytes[s / 8] / 2u8.pow((s % 8) as u32) % 2 == 1).count();
+    refuse(1, WIDTHS.iter().all(|&width| a.bytes.len() != width as usize))?;
+    let drawn = (0..8 * a.bytes.len()).filter(|s| a.bytes[s / 8] / 2u8.pow((s % 8) as u32) % 2 == 1).count();
     Ok(drawn as u32)
 }
 
 fn read(a: &mut Arguments) -> Outcome {
-    refuse(1, volume_misfits(a) || a.out.len() != WIDTH)?;
+    refuse(1, volume_misfits(a) || a.out.len() != a.width as usize)?;
     refuse(2, !table_sound(a.pages, a.words))?;
     refuse(5, !state_sound(a.pages, a.state))?;
     refuse(6, a.page >= a.pages)?;
     let k = lowest_slot(a.words, a.page, entry(a.state, a.page).committed).ok_or(14u32)?;
-    a.out.copy_from_slice(&a.contents[WIDTH * k as usize..][..WIDTH]);
+    a.out.copy_from_slice(&a.contents[slot_bytes(a.width, k)]);
     Ok(0)
 }

@@ -1,8 +1,8 @@
-//! Document 01's script program over the calls: one call a line, decimal numbers, what each prints.
+//! Document 01's script program over the calls, with document 02's widths: one call a line, decimal numbers, what each prints.
 
-use crate::interface::{Arguments, Calls, Name, NONE, WIDTH};
+use crate::interface::{Arguments, Calls, Name, NONE};
 use crate::rules::{entry, lowest_slot};
-use crate::volume::{Call, Volume};
+use crate::volume::{Call, Sizes, Volume};
 use std::io::{BufRead, Read, Write};
 
 /// "Lines have at most 512 bytes", the LF not counted.
@@ -14,7 +14,7 @@ const LIST_ENTRIES: usize = 64;
 /// A line of a script.
 #[derive(Debug, PartialEq, Eq)]
 enum Line {
-    Format { pages: u32, slots: u32 },
+    Format(Sizes),
     Launch(Vec<u32>),
     Write { page: u32, slot: u32, fill: u8 },
     Withdraw(u32),
@@ -40,6 +40,15 @@ fn list(text: &str) -> Option<Vec<u32>> {
     entries.into_iter().map(number).collect()
 }
 
+/// "The script's format line may end in width=64, then with at most 512 slots (more prints answer=line); without it the width is 32."
+fn sizes(pages: u32, slots: u32, ending: Option<&&str>) -> Option<Sizes> {
+    match ending {
+        None => Some(Sizes::new(pages, slots, 32)),
+        Some(&"width=64") if slots <= 512 => Some(Sizes::new(pages, slots, 64)),
+        Some(_) => None,
+    }
+}
+
 /// The line's meaning, if it has one: fields as shown, one space between, nothing after the last.
 fn parse(line: &[u8]) -> Option<Line> {
     if line.len() > LINE_BYTES {
@@ -50,7 +59,7 @@ fn parse(line: &[u8]) -> Option<Line> {
     let one = |i: usize, name: &str| number(value(i, name)?);
     let many = |i: usize, name: &str| list(value(i, name)?);
     match (value(0, "op")?, fields.len()) {
-        ("format", 3) => Some(Line::Format { pages: one(1, "pages")?, slots: one(2, "slots")? }),
+        ("format", 3 | 4) => Some(Line::Format(sizes(one(1, "pages")?, one(2, "slots")?, fields.get(3))?)),
         ("launch", 2) => Some(Line::Launch(many(1, "pages")?)),
         ("write", 4) => Some(Line::Write { page: one(1, "page")?, slot: one(2, "slot")?, fill: u8::try_from(one(3, "fill")?).ok()? }),
         ("withdraw", 2) => Some(Line::Withdraw(one(1, "page")?)),
@@ -82,17 +91,17 @@ pub fn run_through(calls: &dyn Calls, mut input: impl BufRead, mut output: impl 
             line.pop();
         }
         match (parse(&line), &mut volume) {
-            (Some(Line::Format { pages, slots }), volume) => output.write_all(format(calls, pages, slots, volume).as_bytes())?,
+            (Some(Line::Format(sizes)), volume) => output.write_all(format(calls, sizes, volume).as_bytes())?,
             (Some(line), Some(volume)) => output.write_all(step(calls, volume, line).as_bytes())?,
             _ => return output.write_all(b"answer=line\n"),
         }
     }
 }
 
-/// "A refused later format leaves the volume as it was."
-fn format(calls: &dyn Calls, pages: u32, slots: u32, volume: &mut Option<Volume>) -> String {
+/// "A refused later format leaves the volume as it was", its width too.
+fn format(calls: &dyn Calls, sizes: Sizes, volume: &mut Option<Volume>) -> String {
     // Memory for the largest sizes at most: format refuses what is above.
-    let mut new = Volume { pages, slots, ..Volume::zeroed(pages.min(256), slots.min(1024)) };
+    let mut new = Volume { sizes, ..Volume::zeroed(Sizes::new(sizes.pages.min(256), sizes.slots.min(1024), sizes.width)) };
     let answer = new.format(calls).answer;
     if answer == 0 {
         *volume = Some(new);
@@ -105,7 +114,8 @@ fn step(calls: &dyn Calls, volume: &mut Volume, line: Line) -> String {
     let call = match line {
         Line::Launch(pages) => Call::Launch(pages),
         Line::Write { page, slot, fill } => {
-            let reply = volume.call(calls, &Call::Write { page, slot, bytes: vec![fill; WIDTH] });
+            let bytes = vec![fill; volume.sizes.width as usize];
+            let reply = volume.call(calls, &Call::Write { page, slot, bytes });
             return format!("answer={} done={}\n", reply.answer, reply.second);
         }
         Line::Withdraw(page) => Call::Withdraw(page),
@@ -116,7 +126,7 @@ fn step(calls: &dyn Calls, volume: &mut Volume, line: Line) -> String {
             return String::from("answer=0\n");
         }
         Line::List => return listing(calls, volume).unwrap_or_else(|answer| format!("answer={answer}\n")),
-        Line::Format { .. } => unreachable!("format makes the volume"),
+        Line::Format(_) => unreachable!("format makes the volume"),
     };
     format!("answer={}\n", volume.call(calls, &call).answer)
 }
@@ -124,8 +134,8 @@ fn step(calls: &dyn Calls, volume: &mut Volume, line: Line) -> String {
 /// One line for each page, or the number of the first read that is refused.
 fn listing(calls: &dyn Calls, volume: &mut Volume) -> Result<String, u32> {
     let mut lines = String::new();
-    for page in 0..volume.pages {
-        let mut bytes = [0; WIDTH];
+    for page in 0..volume.sizes.pages {
+        let mut bytes = vec![0; volume.sizes.width as usize];
         let reply = volume.read(calls, page, &mut bytes);
         if reply.answer != 0 {
             return Err(reply.answer);

@@ -3,9 +3,9 @@
 use crate::harness::said;
 use crate::implementations::compared::Compared;
 use crate::inputs;
-use crate::interface::{Arguments, Calls, Name, Reply, WIDTH};
+use crate::interface::{Arguments, Calls, Name, Reply, WIDTHS};
 use crate::random::Random;
-use crate::volume::{Call, Volume};
+use crate::volume::{Call, Sizes, Volume};
 use std::panic::{catch_unwind, AssertUnwindSafe};
 
 /// Document 01's table of which call gives which number.
@@ -26,19 +26,20 @@ pub fn answers(call: Name) -> &'static [u32] {
 /// How often each answer of each call is to be seen.
 pub const SEEN: u64 = 100;
 
-/// Compares every call on `rounds` volumes.
-pub fn compare(compared: &Compared, rounds: u32, seed: u64) {
+/// Compares every call on `rounds` volumes of a width.
+pub fn compare(compared: &Compared, width: u32, rounds: u32, seed: u64) {
     let mut random = Random::new(seed);
     for _ in 0..rounds {
-        let mut volume = inputs::volume(&mut random);
+        let mut volume = inputs::volume(&mut random, width);
         // Arguments that fit the volume are chosen before its sizes are made wrong.
-        let choices = Choices::new(&mut random, &volume);
+        let mut choices = Choices::new(&mut random, &volume);
         if random.one_in(10) {
             inputs::resize(&mut random, &mut volume);
+            choices.resize(&mut random, volume.sizes.width);
         }
         let round = catch_unwind(AssertUnwindSafe(|| one_round(compared, &volume, &choices)));
         if let Err(panic) = round {
-            let input = if volume.slots <= 64 { format!("{volume:?} {choices:?}") } else { String::from("a large volume") };
+            let input = if volume.sizes.slots <= 64 { format!("{volume:?} {choices:?}") } else { String::from("a large volume") };
             panic!("{} on {input}", said(&*panic));
         }
     }
@@ -72,7 +73,14 @@ struct Choices {
 
 impl Choices {
     fn new(random: &mut Random, v: &Volume) -> Choices {
-        let mut length = || if random.one_in(30) { random.pick(&[0, 1, 31, 33, 64, 1000]) } else { WIDTH };
+        let width = v.sizes.width;
+        let mut length = || {
+            if random.one_in(30) {
+                random.pick(&[0, 1, width - 1, width + 1, WIDTHS[0], WIDTHS[1], 1000])
+            } else {
+                width
+            }
+        };
         let (bytes, out) = (length(), length());
         Choices {
             launch: inputs::pages_to_launch(random, v),
@@ -82,6 +90,13 @@ impl Choices {
             read: inputs::page_to_take(random, v),
             bytes: random.bytes(bytes),
             out: random.bytes(out),
+        }
+    }
+
+    /// Most often gives the bytes and the place for bytes read the length of a width.
+    fn resize(&mut self, random: &mut Random, width: u32) {
+        if inputs::is_short(width) && !random.one_in(4) {
+            (self.bytes, self.out) = (random.bytes(width), random.bytes(width));
         }
     }
 
@@ -110,43 +125,24 @@ fn one_round(compared: &Compared, volume: &Volume, choices: &Choices) {
 }
 
 /// Format at every pair of sizes near a limit, with the lengths that the sizes ask for.
-pub fn compare_sizes(compared: &Compared) {
+pub fn compare_sizes(compared: &Compared, width: u32) {
     for pages in [0, 1, 2, 3, 127, 255, 256, 257, 1024] {
-        for slots in [0, 1, 2, 3, 126, 254, 255, 256, 257, 1023, 1024, 1025] {
-            Volume::zeroed(pages, slots).format(compared);
+        for slots in [0, 1, 2, 3, 126, 254, 255, 256, 257, 511, 512, 513, 1023, 1024, 1025] {
+            Volume::zeroed(Sizes { pages, slots, width }).format(compared);
         }
     }
-}
-
-/// Count on every single bit, every byte value at every place, and at other lengths.
-pub fn compare_counts(compared: &Compared) {
-    let count = |bytes: &[u8]| compared.call(Name::Count, &mut Arguments { bytes, ..Arguments::default() });
-    for bit in 0..256 {
-        let mut bytes = [0; WIDTH];
-        bytes[bit / 8] = 1 << (bit % 8);
-        assert_eq!(count(&bytes), Reply::done(1), "bit {bit}");
-    }
-    for value in 0..=255u8 {
-        for at in 0..WIDTH {
-            let mut bytes = [0; WIDTH];
-            bytes[at] = value;
-            count(&bytes);
-            assert_eq!(count(&[value; WIDTH]), Reply::done(WIDTH as u32 * value.count_ones()), "all bytes {value}");
-        }
-    }
-    (0..200).filter(|&n| n != WIDTH).for_each(|n| assert_eq!(count(&vec![1; n]), Reply::refused(1), "{n} bytes"));
 }
 
 /// Volumes of the largest size, all calls, one transaction over all pages.
-pub fn compare_largest(compared: &Compared) {
+pub fn compare_largest(compared: &Compared, width: u32) {
     let (pages, slots) = (256, 1024);
-    let mut v = Volume::formatted(compared, pages, slots);
+    let mut v = Volume::formatted(compared, Sizes { pages, slots, width });
     for round in 0..2 {
         let list: Vec<u32> = (0..pages).map(|i| (i * 7 + round) % pages).collect();
         assert_eq!(v.call(compared, &Call::Launch(list.clone())).answer, 0);
         for (i, &page) in list.iter().enumerate() {
             let slot = pages * (round + 1) + i as u32;
-            let reply = v.call(compared, &Call::Write { page, slot, bytes: vec![page as u8; WIDTH] });
+            let reply = v.call(compared, &Call::Write { page, slot, bytes: vec![page as u8; width as usize] });
             assert_eq!(reply, Reply::done(u32::from(i + 1 == list.len())));
         }
         assert_eq!(v.suggest(compared).answer, 0);
@@ -156,15 +152,15 @@ pub fn compare_largest(compared: &Compared) {
     assert_eq!(v.call(compared, &Call::Erase(obsolete)).answer, 0);
     let all: Vec<u32> = (0..slots).collect();
     assert_eq!(v.call(compared, &Call::Erase(all)).answer, 12);
-    let mut out = [0; WIDTH];
+    let mut out = vec![0; width as usize];
     assert_eq!(v.read(compared, 255, &mut out).answer, 0);
-    assert_eq!(out, [255; WIDTH]);
+    assert_eq!(out, vec![255; width as usize]);
 }
 
 /// Lists far longer than any that fits: the last entry out of range, or all in range with repeats.
-pub fn compare_long_lists(compared: &Compared) {
+pub fn compare_long_lists(compared: &Compared, width: u32) {
     let (pages, slots) = (256, 1024);
-    let mut v = Volume::formatted(compared, pages, slots);
+    let mut v = Volume::formatted(compared, Sizes { pages, slots, width });
     for last in [0, pages, slots] {
         let mut list: Vec<u32> = (0..100_000).map(|i| i % pages).collect();
         list.push(last);

@@ -1,9 +1,9 @@
 //! The paper's models walked whole (section 4.3, appendix B): every state that its actions reach, breadth first, each action
 //! done by the calls, each invariant checked, each permission compared with the listing's own operators.
 
-use crate::interface::{Calls, Reply, NONE, PAGE_WORDS, WIDTH};
+use crate::interface::{Calls, Reply, NONE, PAGE_WORDS};
 use crate::rules::{entry, records, set_slot, slot, Record};
-use crate::volume::{Call, Volume};
+use crate::volume::{Call, Sizes, Volume};
 use std::collections::HashSet;
 
 /// Which obsolete records the walk erases besides the exposed ones: by the rule, or by one of the paper's two faults.
@@ -40,37 +40,32 @@ struct Model<'a> {
 
 type Key = Vec<u8>;
 
-pub fn walk(calls: &dyn Calls, pages: u32, max_version: u32, rule: Rule) -> Walk {
+pub fn walk(calls: &dyn Calls, width: u32, pages: u32, max_version: u32, rule: Rule) -> Walk {
     let slots = pages * (max_version + 2);
     let all: Vec<u32> = (0..pages).collect();
     let model = Model { calls, pages, slots, max_version, rule, renamings: arrangements(&all) };
-    let first = Volume::formatted(calls, pages, slots);
-    let mut seen: HashSet<Key> = HashSet::new();
-    let mut beyond: HashSet<Key> = HashSet::new();
-    seen.insert(model.key(&first));
+    let first = Volume::formatted(calls, Sizes { pages, slots, width });
+    let mut met: HashSet<Key> = HashSet::from([model.key(&first)]);
     let mut level = vec![first];
-    let mut depth = 1;
+    let (mut states, mut depth) = (1, 1);
     loop {
         let mut next_level = Vec::new();
         for s in &level {
             for t in model.successors(s) {
-                let key = model.key(&t);
-                if seen.contains(&key) || beyond.contains(&key) {
+                if !met.insert(model.key(&t)) {
                     continue;
                 }
                 if let Err(broken) = model.check(&t) {
-                    return Walk { states: seen.len() + 1, depth: depth + 1, fault: Some((depth + 1, broken)) };
+                    return Walk { states: states + 1, depth: depth + 1, fault: Some((depth + 1, broken)) };
                 }
                 if model.within(&t) {
-                    seen.insert(key);
+                    states += 1;
                     next_level.push(t);
-                } else {
-                    beyond.insert(key);
                 }
             }
         }
         if next_level.is_empty() {
-            return Walk { states: seen.len(), depth, fault: None };
+            return Walk { states, depth, fault: None };
         }
         level = next_level;
         depth += 1;
@@ -102,14 +97,13 @@ fn subsets(list: &[u32]) -> Vec<Vec<u32>> {
 impl Model<'_> {
     /// The state's records, sorted, and its words, under the renaming of pages that gives the least.
     fn key(&self, s: &Volume) -> Key {
-        self.renamings.iter().map(|to| self.renamed(s, to)).min().unwrap()
+        let table = records(&s.words);
+        self.renamings.iter().map(|to| self.renamed(s, &table, to)).min().unwrap()
     }
 
-    fn renamed(&self, s: &Volume, to: &[u32]) -> Key {
-        let mut held: Vec<[u8; 5]> = records(&s.words)
-            .iter()
-            .map(|(_, r)| [to[r.p as usize] as u8, r.v as u8, r.c as u8, to[r.np as usize] as u8, r.nv as u8])
-            .collect();
+    fn renamed(&self, s: &Volume, table: &[(u32, Record)], to: &[u32]) -> Key {
+        let mut held: Vec<[u8; 5]> =
+            table.iter().map(|(_, r)| [to[r.p as usize] as u8, r.v as u8, r.c as u8, to[r.np as usize] as u8, r.nv as u8]).collect();
         held.sort_unstable();
         let mut key: Key = held.concat();
         let at = key.len();
@@ -218,7 +212,7 @@ impl Model<'_> {
         for record in self.planned(s) {
             let last = crate::rules::cycle(&s.state, record.p).iter().all(|&p| p == record.p || entry(&s.state, p).written == 1);
             let mut t = s.clone();
-            let reply = t.call(self.calls, &Call::Write { page: record.p, slot: blank, bytes: vec![7; WIDTH] });
+            let reply = t.call(self.calls, &Call::Write { page: record.p, slot: blank, bytes: vec![7; s.sizes.width as usize] });
             assert_eq!((reply.answer, reply.second), (0, u32::from(last)), "write of a planned record");
             assert_eq!(slot(&t.words, blank), Some(record), "the planned record is stored");
             next.push(t);
@@ -255,7 +249,7 @@ impl Model<'_> {
                 let reply = t.call(self.calls, &Call::Erase(list));
                 assert_eq!(reply.answer, 0, "erase of collectable records");
             } else {
-                list.iter().for_each(|&k| set_slot(&mut t.words, &mut t.contents, k, None));
+                list.iter().for_each(|&k| set_slot(t.sizes.width, &mut t.words, &mut t.contents, k, None));
             }
             next.push(t);
         }

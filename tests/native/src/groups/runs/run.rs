@@ -2,11 +2,11 @@
 //! each call every crash that it may meet.
 
 use crate::harness::said;
-use crate::interface::{Calls, NONE, WIDTH};
+use crate::interface::{other_width, Calls, NONE};
 use crate::ledger::Ledger;
 use crate::random::Random;
 use crate::rules::{entry, may_erase, slot};
-use crate::volume::{Call, Volume};
+use crate::volume::{Call, Sizes, Volume};
 use std::panic::{catch_unwind, AssertUnwindSafe};
 
 /// What a run met, summed over runs.
@@ -45,12 +45,12 @@ struct Run<'a> {
 }
 
 /// Runs a list of `events` calls and crashes, and checks one prefix in `every`.
-pub fn run(calls: &dyn Calls, pages: u32, slots: u32, events: u32, every: u32, seed: u64) -> Tally {
-    let volume = Volume::formatted(calls, pages, slots);
+pub fn run(calls: &dyn Calls, sizes: Sizes, events: u32, every: u32, seed: u64) -> Tally {
+    let volume = Volume::formatted(calls, sizes);
     let mut random = Random::new(seed);
     let calm = random.pick(&[6, 25, 100]);
     let weights = [8, 24, 6, 2, 1].map(|w| w * random.pick(&[1, 2, 4]));
-    let mut run = Run { calls, random, volume, ledger: Ledger::new(pages), lost: false, calm, weights, tally: Tally::default() };
+    let mut run = Run { calls, random, volume, ledger: Ledger::new(sizes), lost: false, calm, weights, tally: Tally::default() };
     for i in 0..events {
         let check = i % every == 0 || i + 1 == events;
         let event = AssertUnwindSafe(|| {
@@ -61,7 +61,7 @@ pub fn run(calls: &dyn Calls, pages: u32, slots: u32, events: u32, every: u32, s
             }
         });
         if let Err(panic) = catch_unwind(event) {
-            panic!("P = {pages}, S = {slots}, seed {seed}, event {i}: {}", said(&*panic));
+            panic!("P = {}, S = {}, seed {seed}, event {i}: {}", sizes.pages, sizes.slots, said(&*panic));
         }
     }
     run.tally
@@ -177,11 +177,12 @@ impl Run<'_> {
         self.scramble(&mut volume.state);
         let answer = volume.call(self.calls, &Call::Recover).answer;
         assert_eq!(answer, 0, "recover {when}: {:?}", volume.words);
-        for page in 0..volume.pages {
-            let mut out = [0xA5; WIDTH];
+        let mut out = vec![0; volume.sizes.width as usize];
+        for page in 0..volume.sizes.pages {
+            out.fill(0xA5);
             let reply = volume.read(self.calls, page, &mut out);
             assert_eq!(reply.answer, 0, "read of page {page} {when}");
-            assert_eq!(&out, ledger.kept(page), "contents of page {page} {when}");
+            assert_eq!(out, ledger.kept(page), "contents of page {page} {when}");
         }
     }
 
@@ -212,19 +213,20 @@ impl Run<'_> {
 
     fn fitting(&mut self, kind: usize) -> Option<Call> {
         let v = &self.volume;
+        let Sizes { pages, width, .. } = v.sizes;
         let waits = |p: u32| entry(&v.state, p).in_flight() && entry(&v.state, p).written == 0;
         match kind {
             0 => {
-                let free = (0..v.pages).filter(|&p| !entry(&v.state, p).in_flight()).collect();
+                let free = (0..pages).filter(|&p| !entry(&v.state, p).in_flight()).collect();
                 let few = self.random.one_in(2);
                 some_of(&mut self.random, free, if few { 3 } else { u32::MAX }).map(Call::Launch)
             }
             1 => {
-                let page = some_of(&mut self.random, (0..v.pages).filter(|&p| waits(p)).collect(), 1)?[0];
+                let page = some_of(&mut self.random, (0..pages).filter(|&p| waits(p)).collect(), 1)?[0];
                 let slot = some_of(&mut self.random, v.blank_slots(), 1)?[0];
-                Some(Call::Write { page, slot, bytes: self.random.bytes(WIDTH) })
+                Some(Call::Write { page, slot, bytes: self.random.bytes(width) })
             }
-            2 => some_of(&mut self.random, (0..v.pages).filter(|&p| waits(p)).collect(), 1).map(|list| Call::Withdraw(list[0])),
+            2 => some_of(&mut self.random, (0..pages).filter(|&p| waits(p)).collect(), 1).map(|list| Call::Withdraw(list[0])),
             3 => {
                 let few = self.random.one_in(2);
                 let may = self.old_or_exposed().into_iter().filter(|&k| may_erase(&self.volume.words, &self.volume.state, k)).collect();
@@ -240,7 +242,9 @@ impl Run<'_> {
         match kind {
             0 => Call::Launch((0..length).map(|_| self.any_page()).collect()),
             1 => {
-                let length = if self.random.one_in(8) { self.random.pick(&[0, 1, 31, 33, 64]) } else { WIDTH };
+                let width = self.volume.sizes.width;
+                let wrong = [0, 1, width - 1, width + 1, other_width(width)];
+                let length = if self.random.one_in(8) { self.random.pick(&wrong) } else { width };
                 Call::Write { page: self.any_page(), slot: self.any_slot(), bytes: self.random.bytes(length) }
             }
             2 => Call::Withdraw(self.any_page()),
@@ -262,15 +266,15 @@ impl Run<'_> {
     fn old_or_exposed(&mut self) -> Vec<u32> {
         let v = &self.volume;
         let goes = |k: u32| slot(&v.words, k).is_some_and(|r| r.v < entry(&v.state, r.p).committed || may_erase(&v.words, &v.state, k));
-        (0..v.slots).filter(|&k| (v.slots <= 64 || self.random.one_in(25)) && goes(k)).collect()
+        (0..v.sizes.slots).filter(|&k| (v.sizes.slots <= 64 || self.random.one_in(25)) && goes(k)).collect()
     }
 
     fn any_page(&mut self) -> u32 {
-        self.any_below(self.volume.pages)
+        self.any_below(self.volume.sizes.pages)
     }
 
     fn any_slot(&mut self) -> u32 {
-        self.any_below(self.volume.slots)
+        self.any_below(self.volume.sizes.slots)
     }
 
     /// A number below n, or now and then one out of range.

@@ -1,13 +1,14 @@
 //! Generated scripts.
 
+use super::template::ending;
 use crate::implementations::reference::Reference;
 use crate::inputs;
-use crate::interface::WIDTH;
+use crate::interface::WIDTHS;
 use crate::random::Random;
-use crate::volume::{Call, Volume};
+use crate::volume::{Call, Sizes, Volume};
 
-/// A generated script of some lines, most of them accepted, sometimes with a spoiled one at the end.
-pub fn script(random: &mut Random, lines: u32) -> Vec<u8> {
+/// A generated script of some lines on volumes most of which have the width, most lines accepted, sometimes with a spoiled one at the end.
+pub fn script(random: &mut Random, width: u32, lines: u32) -> Vec<u8> {
     let mut text = String::new();
     let mut volume: Option<Volume> = None;
     let most_pages = if random.one_in(20) { 256 } else { 6 };
@@ -17,9 +18,10 @@ pub fn script(random: &mut Random, lines: u32) -> Vec<u8> {
             _ => {
                 let pages = 1 + random.below(most_pages);
                 let slots = pages.saturating_add(random.below(12)).saturating_sub(random.below(6) / 5);
-                let mut new = Volume::zeroed(pages, slots);
+                let width = if random.one_in(4) { random.pick(&WIDTHS) } else { width };
+                let mut new = Volume::zeroed(Sizes { pages, slots, width });
                 volume = if new.format(&Reference).answer == 0 { Some(new) } else { volume };
-                format!("op=format pages={pages} slots={slots}")
+                format!("op=format pages={pages} slots={slots}{}", ending(width))
             }
         };
         text += &line;
@@ -33,10 +35,10 @@ pub fn script(random: &mut Random, lines: u32) -> Vec<u8> {
 }
 
 /// A script of many short lines on a small volume: transactions, each read and then replaced.
-pub fn repeated(lines: usize) -> Vec<u8> {
+pub fn repeated(width: u32, lines: usize) -> Vec<u8> {
     let round = "op=launch pages=0,1\nop=write page=0 slot=2 fill=7\nop=write page=1 slot=3 fill=1\nop=erase slots=0,1\nop=launch pages=1,0\nop=write page=0 slot=0 fill=0\nop=write page=1 slot=1 fill=9\nop=erase slots=2,3\nop=cut\nop=recover\n";
     let rounds = lines / round.lines().count();
-    format!("op=format pages=2 slots=4\n{}op=list\n", round.repeat(rounds)).into_bytes()
+    format!("op=format pages=2 slots=4{}\n{}op=list\n", ending(width), round.repeat(rounds)).into_bytes()
 }
 
 /// Chooses a line for the volume as it is, and does it there.
@@ -56,7 +58,7 @@ fn next_line(random: &mut Random, v: &mut Volume) -> String {
         7..=11 => Call::Erase(shortened(inputs::slots_to_erase(random, v))),
         _ => {
             let (page, slot) = inputs::page_and_slot_to_write(random, v);
-            Call::Write { page, slot, bytes: vec![random.number() as u8; WIDTH] }
+            Call::Write { page, slot, bytes: vec![random.number() as u8; v.sizes.width as usize] }
         }
     };
     v.call(&Reference, &call);
