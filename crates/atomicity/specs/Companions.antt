@@ -47,7 +47,7 @@ MayFollow widths sizes v events e = Premises widths sizes v (events ++ e ∷ [])
 abbrev pub StateKnown : Widths → Sizes → Volume → List Event → Type 0
 StateKnown widths sizes v events = after widths sizes (started widths sizes v) events .lost ≡ false
 
--- The premises are met: by every volume whose P, S and lengths are right, before any event; by every list of calls that return; and a list that meets them
+-- The premises are met: by every volume whose P, S, width and lengths are right, before any event; by every list of calls that return; and a list that meets them
 -- still does with a crash behind it, with a recover, returned or crashed, and, where the state is known, with any call, returned or crashed.
 pub record PremisesMet : Type 0 where
   pub at-first : (widths : Widths) (sizes : Sizes) (v : Volume) → Fits widths sizes v → Premises widths sizes v []

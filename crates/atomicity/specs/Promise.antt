@@ -46,7 +46,7 @@ pub record Recovers (widths : Widths) (sizes : Sizes) (f : Flash) (kept : ℕ �
       → readOutcome widths sizes (record { flash = f; state = recoverOutcome widths sizes (f .words) state .left }) page out
       ≡ record { answer = 0; second = 0; left = kept page }
 
--- What a list of events is held to: these are all the premises of promise 3. (That the volume's size stays, that every call is lent this volume's
+-- What a list of events is held to: these are all the premises of promise 3. (That the volume's sizes stay, the width too, that every call is lent this volume's
 -- own flash and state as the last call or crash left them, that only these calls alter them, and what a crash may leave, is how `after` runs a list.)
 pub record Premises (widths : Widths) (sizes : Sizes) (v : Volume) (events : List Event) : Type 0 where
   -- "The list starts from the flash and sheet that an accepted format leaves", whatever the lent buffers held.
@@ -63,7 +63,8 @@ PromiseAt widths =
     → length state ≡ 4 * sizes .pages
     → Recovers widths sizes (after widths sizes (started widths sizes v) events .volume .flash) (modelAfter widths sizes (started widths sizes v) (freshModel (sizes .width)) events .kept) state
 
--- Promise 3. Document 02: "Show … the power-cut guarantee once for any width".
+-- Promise 3. Document 02: "Show recovery, cleaning and the power-cut guarantee once for any width": that recovery answers 0 is in it, and that it finds
+-- the state's versions is `StatesAgree` of Companions.antt.
 abbrev pub Promise3 : Type 0
 Promise3 = (widths : Widths) → PromiseAt widths
 

@@ -4,6 +4,7 @@ use mathlib.Core.Path.{refl}
 use mathlib.Core.List.{List, [], _∷_, _++_, map}
 use lib.ListN.{replicate}
 use Rattle.bounded.specs.Limits.{twoWidths}
+use Rattle.bounded.specs.Parts.{joinParts}
 use Rattle.bounded.specs.Computing.{computing as bounded-computing}
 use Rattle.outcome.specs.Computing.{computing as outcome-computing}
 use Rattle.outcome.specs.Row.{Row, row, RowsHold}
@@ -17,15 +18,17 @@ counted bytes = countOutcome twoWidths bytes .answer ∷ countOutcome twoWidths 
 unfoldable pub answered : ℕ → ℕ
 answered n = countOutcome twoWidths (replicate n 255) .answer
 
--- All drawn, of either length; the last stop alone; stops 0 and 9; and the lengths beside the two.
+-- All drawn, of either length; document 01's fill 3; bytes 0 to 63, each once; one bit of the last byte; and other lengths.
 unfoldable pub countRows : List Row
 countRows =
     row 10 (counted (replicate 32 255)) (0 ∷ 256 ∷ [])
     ∷ row 10 (counted (replicate 64 255)) (0 ∷ 512 ∷ [])
     ∷ row 10 (counted (replicate 63 0 ++ 128 ∷ [])) (0 ∷ 1 ∷ [])
-    ∷ row 10 (counted (1 ∷ 2 ∷ replicate 30 0)) (0 ∷ 2 ∷ [])
+    ∷ row 10 (counted (replicate 32 3)) (0 ∷ 64 ∷ [])
+    ∷ row 10 (counted (replicate 64 3)) (0 ∷ 128 ∷ [])
+    ∷ row 10 (counted (joinParts 64 (λ i. i ∷ []))) (0 ∷ 192 ∷ [])
     ∷ row 10 (counted (replicate 33 255)) (1 ∷ 0 ∷ [])
-    ∷ row 10 (map answered (0 ∷ 31 ∷ 33 ∷ 63 ∷ 65 ∷ 96 ∷ [])) (replicate 6 1)
+    ∷ row 10 (map answered (0 ∷ 16 ∷ 31 ∷ 33 ∷ 63 ∷ 65 ∷ 96 ∷ 128 ∷ 256 ∷ 512 ∷ [])) (replicate 10 1)
     ∷ []
 
 pub count-rows : RowsHold countRows

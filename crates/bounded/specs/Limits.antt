@@ -11,8 +11,8 @@ maxPages = 256
 abbrev pub maxSlots : ℕ
 maxSlots = 1024
 
--- Which widths are allowed: the width is the number of bytes of contents that a slot has. What a call answers, gives and leaves takes them as a
--- parameter, and so does all that is shown of it.
+-- Which widths are allowed: the width is the number of bytes of contents that a slot has, and of the slice that count takes. What a call answers, gives
+-- and leaves takes them as a parameter, and so do the theorems on it.
 abbrev pub Widths : Type 0
 Widths = ℕ → Bool
 

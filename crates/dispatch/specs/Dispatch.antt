@@ -18,7 +18,7 @@ lost state = replicate (length state) 4294967295
 unfoldable pub accepted : Volume → Outcome Volume
 accepted v = record { answer = 0; second = 0; left = v }
 
--- What a line's call gives and leaves of a volume of these sizes. "fill is the value of all 32 bytes", or of as many as the width says; "cut sets every
+-- What a line's call gives and leaves of a volume of these sizes, which are a format line's own (`sizesFor` of crate script). "fill is the value of all 32 bytes", or of as many as the width says; "cut sets every
 -- sheet word to 4,294,967,295".
 unfoldable pub lineOutcome : Widths → Sizes → Volume → Said → Outcome Volume
 lineOutcome widths sizes v (Said.Format own) = formatOutcome widths sizes v

@@ -1,2 +1,3 @@
 pub mod Dispatch
 pub mod DispatchLaws
+pub mod Computing

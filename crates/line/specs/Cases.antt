@@ -3,8 +3,9 @@ use Prim.Native.String.{String}
 use mathlib.Core.Path.{_≡_, refl}
 use mathlib.Core.List.{List, [], _∷_, map}
 use Rattle.sizes.specs.Sizes.{sizesOf}
-use Rattle.text.specs.Scan.{bytes, behind, maxNumber, isDigit, endNumber, numberFrom, number}
-use Rattle.line.specs.Line.{Said, numberThen, onNumber, onText, onNumbers, atEnd, listBehind, listFrom, numbers, sizesMeans, formatMeans, fillMeans, writeMeans, withdrawMeans, launchMeans, eraseMeans, plainMeans, callMeans, lineMeans}
+use Rattle.text.specs.Scan.{bytes}
+use Rattle.line.specs.Line.{Said, lineMeans}
+use Rattle.line.specs.Computing.{computing}
 
 pub record Case : Type 0 where
   pub line : String
@@ -30,8 +31,16 @@ cases =
     ∷ case "op=format pages=256 slots=512 width=64" (Said.Format (sizesOf 256 512 64))
     ∷ case "op=format pages=256 slots=513 width=64" Said.Malformed
     ∷ case "op=format pages=256 slots=513" (Said.Format (sizesOf 256 513 32))
+    ∷ case "op=format pages=0 slots=4 width=64" (Said.Format (sizesOf 0 4 64))
+    ∷ case "op=format pages=2 slots=1025" (Said.Format (sizesOf 2 1025 32))
+    ∷ case "op=format pages=2 slots=1025 width=64" Said.Malformed
+    ∷ case "op=format pages=2 slots=4294967295 width=64" Said.Malformed
     ∷ case "op=format pages=2 slots=4 width=32" Said.Malformed
     ∷ case "op=format pages=2 slots=4 width=640" Said.Malformed
+    ∷ case "op=format pages=2 slots=4 width=064" Said.Malformed
+    ∷ case "op=format pages=2 slots=4 width=64 width=64" Said.Malformed
+    ∷ case "op=format pages=2 width=64 slots=4" Said.Malformed
+    ∷ case "op=list width=64" Said.Malformed
     ∷ case "op=format pages=2 slots=4 width=64 " Said.Malformed
     ∷ case "op=format pages=2 slots=4  width=64" Said.Malformed
     ∷ case "op=format pages=2 slots=4 width=" Said.Malformed
@@ -49,5 +58,5 @@ cases =
     ∷ []
 
 pub cases-hold : map (λ (c : Case). lineMeans 64 (bytes (c .line))) cases ≡ map (λ (c : Case). c .says) cases
-unfolding cases bytes behind maxNumber isDigit endNumber numberFrom number numberThen onNumber onText onNumbers atEnd listBehind listFrom numbers sizesMeans formatMeans fillMeans writeMeans withdrawMeans launchMeans eraseMeans plainMeans callMeans lineMeans
+unfolding cases computing
 cases-hold = refl

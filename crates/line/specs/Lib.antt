@@ -1,3 +1,4 @@
 pub mod Line
 pub mod LineLaws
+pub mod Computing
 pub mod Cases

@@ -8,16 +8,14 @@ use Rattle.outcome.specs.Outcome.{Outcome}
 use Rattle.sizes.specs.declared.Sizes.{Sizes}
 use Rattle.sizes.specs.Sizes.{sizesOf}
 use Rattle.text.specs.Scan.{bytes}
-use Rattle.text.specs.Print.{decimalIn, decimal}
-use Rattle.bits.specs.Bits.{bitAt, setBits, countAnswer, countOutcome}
 use Rattle.rules.specs.Volume.{Volume}
 use Rattle.rules.specs.Format.{formatted}
 use Rattle.rules.specs.Launch.{launchOutcome}
 use Rattle.rules.specs.Write.{writeOutcome}
 use Rattle.rules.specs.Withdraw.{withdrawOutcome}
 use Rattle.rules.specs.Recover.{recoverOutcome}
-use Rattle.rules.specs.cases.Computing.{computing}
-use Rattle.listing.specs.Listing.{answerText, pageRead, drawnOf, stateText, fieldsText, pageText, firstRefusal, listAnswer, listText}
+use Rattle.listing.specs.Listing.{listText}
+use Rattle.listing.specs.Computing.{computing}
 
 -- 2 pages and 4 slots, with w bytes a slot
 abbrev twoPages : ℕ → Sizes
@@ -43,15 +41,15 @@ silenceRecovered w = record { flash = silence w .flash; state = recoverOutcome t
 abbrev silenceText : List ℕ
 silenceText = bytes "page=0 version=1 slot=2 drawn=0 state=set\npage=1 version=0 slot=1 drawn=0 state=empty\nanswer=0\n"
 
-pub silence-listed : listText twoWidths (twoPages 32) (silence 32) ≡ silenceText
-unfolding launched0 stored0 silence computing bytes decimalIn decimal bitAt setBits countAnswer countOutcome answerText pageRead drawnOf stateText fieldsText pageText firstRefusal listAnswer listText
-silence-listed = refl
+pub silence-listed : (listText twoWidths (twoPages 32) (silence 32) ≡ silenceText) × (listText twoWidths (twoPages 64) (silence 64) ≡ silenceText)
+unfolding launched0 stored0 silence computing
+silence-listed = (refl, refl)
 
-pub silence-recovered : listText twoWidths (twoPages 32) (silenceRecovered 32) ≡ silenceText
-unfolding launched0 stored0 silence silenceRecovered computing bytes decimalIn decimal bitAt setBits countAnswer countOutcome answerText pageRead drawnOf stateText fieldsText pageText firstRefusal listAnswer listText
-silence-recovered = refl
+pub silence-recovered : (listText twoWidths (twoPages 32) (silenceRecovered 32) ≡ silenceText) × (listText twoWidths (twoPages 64) (silenceRecovered 64) ≡ silenceText)
+unfolding launched0 stored0 silence silenceRecovered computing
+silence-recovered = (refl, refl)
 
 -- "drawn may reach 512"
 pub all-drawn : listText twoWidths (twoPages 64) (stored0 64 255 .left) ≡ bytes "page=0 version=1 slot=2 drawn=512 state=set\npage=1 version=0 slot=1 drawn=0 state=empty\nanswer=0\n"
-unfolding launched0 stored0 computing bytes decimalIn decimal bitAt setBits countAnswer countOutcome answerText pageRead drawnOf stateText fieldsText pageText firstRefusal listAnswer listText
+unfolding launched0 stored0 computing
 all-drawn = refl

@@ -1,4 +1,4 @@
--- A row of a table of worked cases: its number, what the definitions give, and what the document states.
+-- A row of a table of worked cases: the number of the case or request, what the definitions give, and what the document states or asks for.
 use Prim.Native.Nat.{ℕ}
 use mathlib.Core.Path.{_≡_, refl, sym, ap, ap₂, _∙_}
 use mathlib.Core.List.{List, [], _∷_, _++_, map}

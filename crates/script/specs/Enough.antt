@@ -1,4 +1,4 @@
--- The program's memory has room for every volume that a format line can name: so the line is answered by its numbers alone.
+-- Memory with room for every volume that a format line can name, as script_main has it: so the line is answered by its numbers alone.
 use Prim.Native.Nat.{ℕ, _*_, _≤_}
 use native.Mathlib.Omega.{arith}
 use mathlib.Core.Path.{_≡_, refl, subst}
@@ -21,7 +21,7 @@ use Rattle.rules.specs.Format.{formatAnswer}
 use Rattle.rules.specs.laws.Volume.{fits-facts, fits-test}
 use Rattle.script.specs.Memory.{inUse}
 
--- the program's buffers: 1,024 slots of 32 bytes or 512 of 64, and 256 pages
+-- room for 1,024 slots of 32 bytes or, where document 02 stops, 512 of 64, and for 256 pages
 pub record Room (memory : Volume) : Type 0 where
   pub words-room : length (memory .flash .words) ≡ 5120
   pub contents-room : length (memory .flash .contents) ≡ 32768

@@ -1,5 +1,4 @@
--- A volume at the front of buffers that have room for a larger one: a line works on the part in use and leaves what is behind it. The program's buffers
--- have room for every volume that a format line can make: 32,768 bytes of contents hold 1,024 slots of 32 bytes, and 512 of 64, where document 02 stops.
+-- A volume at the front of buffers that have room for a larger one: a line works on the part in use and leaves what is behind it.
 use Prim.Native.Nat.{_*_}
 use mathlib.Core.List.{_++_}
 use lib.ListN.{take, drop}
