@@ -265,7 +265,7 @@ LAYERS = [
      [("believed", "only these calls alter them; each call is lent them", "as the last call or power-up left them")]),
     (464, 56, "Flash driver", ["yours; programs slots from the images"],
      [("believed", "a slot is stored, or blanked, wholly or not at all,", "before the next call; nothing else alters what one reads as")]),
-    (562, 56, "Chip", ["S slots: 5 words, 32 bytes, checksum"],
+    (562, 56, "Chip", ["S slots: 5 words, the bytes, checksum"],
      [("believed", "a power cut in one slot leaves every other as it", "was; what is stored stays")])]
 KNOWN = {"proved": (BLUE, PAPER, BLUE), "tested": (SKY, BLUE, BLUE), "believed": (SAND, ORANGE, ORANGE)}
 
