@@ -17,7 +17,7 @@
 #include <string.h>
 #include <time.h>
 
-enum { SLOTS = BPCC_MAX_SLOTS, ROUNDS = 201 };
+enum { SLOTS = BPCC_MAX_SLOTS, ROUNDS = 501 };
 
 #ifdef BESIDE
 uint64_t before_bpcc_erase(uint32_t, uint32_t, uint32_t, uint32_t *, size_t, uint8_t *, size_t, const uint32_t *, size_t,

@@ -11,22 +11,22 @@ use run::{run, Tally};
 
 pub fn tests(group: &mut Group, width: u32) {
     for pages in 1..=6 {
-        group.test(&format!("200 runs of 400 calls and crashes, P = {pages}, S up to 24"), || {
-            told(small_runs(TESTED, width, pages, 200, 400))
+        group.test(&format!("400 runs of 400 calls and crashes, P = {pages}, S up to 24"), || {
+            told(small_runs(TESTED, width, pages, 400, 400))
         });
     }
-    group.test("2 runs of 20,000 calls and crashes, P = 6, S = 24", || {
+    group.test("4 runs of 20,000 calls and crashes, P = 6, S = 24", || {
         let mut all = Tally::default();
-        (1..=2).for_each(|seed| all.add(run(TESTED, Sizes::new(6, 24, width), 20_000, 1, seed)));
+        (1..=4).for_each(|seed| all.add(run(TESTED, Sizes::new(6, 24, width), 20_000, 1, seed)));
         told(all)
     });
-    for seed in 1..=2 {
-        group.test(&format!("2,500 calls and crashes, P = 256, S = 1,024, seed {seed}"), || {
-            told(run(TESTED, Sizes::new(256, 1024, width), 2500, 100, seed))
+    for seed in 1..=3 {
+        group.test(&format!("3,000 calls and crashes, P = 256, S = 1,024, seed {seed}"), || {
+            told(run(TESTED, Sizes::new(256, 1024, width), 3000, 100, seed))
         });
     }
-    group.test("25 runs of 400 calls and crashes, P = 3, every call compared", || {
-        told(small_runs(&Compared::new(TESTED), width, 3, 25, 400))
+    group.test("50 runs of 400 calls and crashes, P = 3, every call compared", || {
+        told(small_runs(&Compared::new(TESTED), width, 3, 50, 400))
     });
     group.test("a volume with no slot to spare", || told(run(TESTED, Sizes::new(4, 4, width), 2000, 1, 1)));
 }

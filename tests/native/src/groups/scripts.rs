@@ -24,7 +24,7 @@ pub fn tests(group: &mut Group, width: u32) {
         });
     }
     println!("ok      {} scripts written by hand", group.passed - passed);
-    for seed in [1, 2].map(|n| n + u64::from(width)) {
+    for seed in [1, 2, 3, 4].map(|n| n + u64::from(width)) {
         group.test(&format!("150 generated scripts, seed {seed}"), || {
             let mut random = Random::new(seed);
             let mut lines = 0;
@@ -36,12 +36,12 @@ pub fn tests(group: &mut Group, width: u32) {
             format!("{lines} lines")
         });
     }
-    group.test("a script of 100,000 lines", || {
-        let input = generated::repeated(width, 100_000);
+    group.test("a script of 200,000 lines", || {
+        let input = generated::repeated(width, 200_000);
         compare(&None, &input);
         let start = Instant::now();
         compare(&program, &input);
-        let rate = 100_000.0 / start.elapsed().as_secs_f32();
+        let rate = 200_000.0 / start.elapsed().as_secs_f32();
         assert!(rate > 100_000.0, "only {rate:.0} lines a second");
         format!("at least {rate:.0} lines a second")
     });
