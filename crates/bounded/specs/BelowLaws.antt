@@ -1,5 +1,6 @@
--- allBelow is exactly "each", someBelow exactly "there is", maxBelow the highest, firstBelow the first; and the laws of counting loops.
-use Prim.Native.Nat.{ℕ, zero, suc, _+_, _≤_, _<_}
+-- allBelow is exactly "each", someBelow exactly "there is", maxBelow the highest, firstBelow the first; what bounds a sum; and the laws of counting loops.
+use Prim.Native.Nat.{ℕ, zero, suc, _+_, _*_, _≤_, _<_}
+use native.Mathlib.Nat.{mul-suc, mul-zero}
 use native.Mathlib.Omega.{arith}
 use native.Mathlib.Numerals.{add-one}
 use mathlib.Core.Path.{_≡_, refl, sym, ap, ap₂, _∙_, subst}
@@ -177,6 +178,25 @@ pub sum-cong : (n : ℕ) {f g : ℕ → ℕ} → ((k : ℕ) → k < n → f k �
 unfolding sumBelow
 sum-cong zero h = refl
 sum-cong (suc n) h = ap₂ _+_ (sum-cong n (λ k l. h k (omega arith))) (h n (omega arith))
+
+-- a sum of n numbers, each at most b; and each b
+pub sum-most : (n b : ℕ) {f : ℕ → ℕ} → ((k : ℕ) → k < n → f k ≤ b) → sumBelow n f ≤ b * n
+unfolding sumBelow
+sum-most zero b h = omega arith
+sum-most (suc n) b h =
+    let i = sum-most n b (λ k l. h k (omega arith)) in
+    let j = h n (omega arith) in
+    let m = mul-suc b n in
+    omega arith
+
+pub sum-same : (n b : ℕ) {f : ℕ → ℕ} → ((k : ℕ) → k < n → f k ≡ b) → sumBelow n f ≡ b * n
+unfolding sumBelow
+sum-same zero b h = sym (mul-zero b)
+sum-same (suc n) b h =
+    let i = sum-same n b (λ k l. h k (omega arith)) in
+    let j = h n (omega arith) in
+    let m = mul-suc b n in
+    omega arith
 
 pub sum-zero : (f : ℕ → ℕ) → sumBelow 0 f ≡ 0
 unfolding sumBelow

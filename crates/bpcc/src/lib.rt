@@ -1,4 +1,4 @@
-// The C interface: every call, exported. The functions `star_cases`, `exposed_found`, `promise_3` and `two_widths` pin theorems in their contracts.
+// The C interface: every call, exported. The functions `star_cases`, `exposed_found`, `promise_3`, `two_widths` and `slowest_start` pin theorems in their contracts.
 ghost use mathlib.Core.Path.{_≡_};
 ghost use Rattle.bounded.specs.Limits.{twoWidths};
 ghost use Rattle.outcome.specs.Outcome.{returned};
@@ -19,8 +19,10 @@ ghost use Rattle.rules.specs.Withdraw.{withdrawOutcome};
 ghost use Rattle.rules.specs.Erase.{eraseOutcome};
 ghost use Rattle.rules.specs.Suggest.{suggestOutcome};
 ghost use Rattle.rules.specs.Recover.{recoverOutcome};
+ghost use Rattle.rules.specs.Links.{LinksAtMost, OneRingReaches, LinksAreSteps, LinksApart};
 ghost use Rattle.rules.specs.cases.Star.{starTable};
 ghost use Rattle.rules.specs.cases.Found.{foundRows};
+ghost use Rattle.rules.specs.cases.Links.{linkRows};
 ghost use Rattle.rules.specs.cases.Width.{widthRows};
 ghost use Rattle.rules.specs.laws.Found.{FoundExactly, JudgedByFound};
 ghost use Rattle.atomicity.specs.Promise.{PromiseAt, Promise3, OwnState};
@@ -177,7 +179,7 @@ pub extern "C" fn bpcc_suggest(
     )
 }
 
-// Recover the state from the slot table.
+// Recover the state from the slot table, and count the links followed.
 #[no_mangle]
 pub extern "C" fn bpcc_recover(
     pages: u32,
@@ -260,4 +262,14 @@ pub fn two_widths()
     ensures promise { λ _. ⌜ PromiseAt twoWidths ⌝ }
     ensures widths { λ _. ⌜ RowsHold widthRows ⌝ }
     ensures counts { λ _. ⌜ RowsHold countRows ⌝ }
+{}
+
+// Document 02, wish 6: "no sound table with P pages exceeds P×P"; "the one-ring table that reaches it", for each P; that the number of links "must equal the
+// definition's steps"; that nothing else that recover gives or leaves depends on it; and the links of some tables, computed.
+pub fn slowest_start()
+    ensures most { λ _. ⌜ LinksAtMost ⌝ }
+    ensures reached { λ _. ⌜ OneRingReaches ⌝ }
+    ensures steps { λ _. ⌜ LinksAreSteps ⌝ }
+    ensures apart { λ _. ⌜ LinksApart ⌝ }
+    ensures links { λ _. ⌜ RowsHold linkRows ⌝ }
 {}

@@ -8,7 +8,8 @@ use Rattle.follow.specs.declared.Verdict.{Verdict}
 use Rattle.follow.specs.declared.End.{End}
 use Rattle.follow.specs.declared.End.the-variants as ends
 use Rattle.follow.specs.Follow.{followFrom, follow, StaysInside}
-use Rattle.follow.specs.Course.{Leads, EndsAt, committed, uncommitted, back, Course, ended, astray, walk-ends, walk-astray, course, as-many, same-way-on, pages-led, led-inside}
+use Rattle.follow.specs.Steps.{Leads, EndsAt, committed, uncommitted, back}
+use Rattle.follow.specs.Course.{Course, ended, astray, walk-ends, walk-astray, course, as-many, same-way-on, pages-led, led-inside}
 
 module _ (v : ℕ → Verdict) (start : ℕ) where
   -- "the links run into a ring that lacks the start": after i links and again after d more they are at the same page, and never back at the start

@@ -12,7 +12,8 @@ use Rattle.follow.specs.declared.Verdict.{Verdict}
 use Rattle.follow.specs.declared.Verdict.the-variants.{Committed, Uncommitted, On}
 use Rattle.follow.specs.declared.End.{End}
 use Rattle.follow.specs.Follow.{follow, StaysInside}
-use Rattle.follow.specs.Course.{Leads, here, onward, EndsAt, committed, uncommitted, back, ended, astray, walk-ends, walk-astray, course, led-inside}
+use Rattle.follow.specs.Steps.{Leads, here, onward, EndsAt, committed, uncommitted, back}
+use Rattle.follow.specs.Course.{ended, astray, walk-ends, walk-astray, course, led-inside}
 
 unfoldable pub codeOf : Verdict → ℕ
 codeOf (On page) = page

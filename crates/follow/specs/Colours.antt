@@ -9,7 +9,8 @@ use Rattle.follow.specs.declared.Verdict.the-variants as says
 use Rattle.follow.specs.declared.End.{End}
 use Rattle.follow.specs.declared.End.the-variants as ends
 use Rattle.follow.specs.Follow.{follow}
-use Rattle.follow.specs.Course.{Leads, here, onward, EndsAt, committed, uncommitted, back, ended, astray, walk-ends, course}
+use Rattle.follow.specs.Steps.{Leads, here, onward, EndsAt, committed, uncommitted, back}
+use Rattle.follow.specs.Course.{ended, astray, walk-ends, course}
 use Rattle.follow.specs.Astray.{RunsIntoRing, never-ends, ring-of}
 
 -- Green pages: a green page's verdict is committed, or on to a green page, and no two green pages go on to one.

@@ -13,17 +13,7 @@ use Rattle.follow.specs.declared.Verdict.the-variants as says
 use Rattle.follow.specs.declared.End.{End}
 use Rattle.follow.specs.declared.End.the-variants as ends
 use Rattle.follow.specs.Follow.{endsHere, oneMore, link, followFrom, StaysInside}
-
--- k links lead from the start to page q, each going on, and none back at the start
-pub data Leads (v : ℕ → Verdict) (start : ℕ) : ℕ → ℕ → Type 0 where
-  here : Leads v start 0 start
-  onward : {k q r : ℕ} → Leads v start k q → v q ≡ says.On r → ¬ (r ≡ start) → Leads v start (suc k) r
-
--- the link at page q ends the walk: its verdict is committed or uncommitted, or it is back at the start
-pub data EndsAt (v : ℕ → Verdict) (start q : ℕ) : End → Type 0 where
-  committed : v q ≡ says.Committed → EndsAt v start q ends.Committed
-  uncommitted : v q ≡ says.Uncommitted → EndsAt v start q ends.Uncommitted
-  back : v q ≡ says.On start → EndsAt v start q ends.Committed
+use Rattle.follow.specs.Steps.{Leads, here, onward, EndsAt, committed, uncommitted, back}
 
 -- a walk of n links at the most: fewer lead to a link that ends it, or all n lead on
 pub data Course (v : ℕ → Verdict) (start n : ℕ) : Type 0 where

@@ -3,6 +3,7 @@ use Prim.Native.Nat.{ℕ, zero, suc, _+_, _<_}
 use mathlib.Core.Path.{_≡_}
 use mathlib.Core.Bool.{Bool, true, false, cond}
 use lib.Dec.{eqb}
+use Rattle.bounded.specs.Below.{sumBelow}
 use Rattle.follow.specs.declared.Verdict.{Verdict}
 use Rattle.follow.specs.declared.Verdict.the-variants as says
 use Rattle.follow.specs.declared.End.{End}
@@ -32,6 +33,11 @@ followFrom v start (suc n) q = link start (v q) (λ r. followFrom v start n r)
 -- the whole walk from `start`, among P pages: P links are enough
 unfoldable pub follow : ℕ → (ℕ → Verdict) → ℕ → Walk
 follow P v start = followFrom v start P start
+
+-- Document 02: "the number of links followed, summed over pages, one for each record whose link is compared, the deciding link and the return to the
+-- start included"
+unfoldable pub linksFollowed : ℕ → (ℕ → Verdict) → ℕ
+linksFollowed P v = sumBelow P (λ p. follow P v p .links)
 
 -- "the links run into a ring that lacks the start"
 unfoldable pub isAstray : End → Bool

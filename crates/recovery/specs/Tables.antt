@@ -8,9 +8,9 @@ use lib.Dec.{ltb}
 use lib.ListN.{length, getD}
 use borrow.Author.Tests.{lt-ltb, le-ltb}
 use Rattle.bounded.specs.Limits.{Widths}
-use Rattle.bounded.specs.Below.{allBelow, someBelow}
+use Rattle.bounded.specs.Below.{allBelow, someBelow, sumBelow}
 use Rattle.bounded.specs.Choice.{on-test, both-left, both-right}
-use Rattle.bounded.specs.BelowLaws.{all-cong}
+use Rattle.bounded.specs.BelowLaws.{all-cong, sum-most}
 use Rattle.bounded.specs.Tabulate.{tabulate, tabulate-at}
 use Rattle.outcome.specs.Outcome.{_⇒_otherwise_}
 use Rattle.sizes.specs.declared.Sizes.{Sizes}
@@ -31,6 +31,7 @@ use Rattle.follow.specs.declared.Verdict.the-variants.{Committed, Uncommitted, 
 use Rattle.follow.specs.declared.End.{End}
 use Rattle.follow.specs.declared.End.the-variants as ends
 use Rattle.follow.specs.Follow.{follow, isAstray, StaysInside}
+use Rattle.follow.specs.Links.{links-most}
 use Rattle.follow.specs.Codes.{codeOf, coded, coded-back, follow-same}
 use Rattle.rules.specs.Verdict.{isStraddled, linkVerdict, slotVerdict, verdict}
 use Rattle.rules.specs.Recover.{walkOf, backPointer, committedBy, committedOf, recovered, recoverAnswer}
@@ -42,6 +43,11 @@ unfolding committedBy versionIn backPointer
 committed-blank ends.Committed = refl
 committed-blank ends.Uncommitted = refl
 committed-blank ends.Astray = refl
+
+-- the links from the first n pages, at most 256 from each
+pub links-most-below : (P S : ℕ) (t : ℕ → Slot) → P ≤ 256 → (n : ℕ) → sumBelow n (λ p. walkOf P S t p .links) ≤ 256 * n
+unfolding walkOf follow
+links-most-below P S t m n = sum-most n 256 (λ p h. let l = links-most (verdict S t) p P in omega arith)
 
 -- a sound table of S slots, P pages, and each page's highest slot
 pub record Surveyed (P S : ℕ) (words top : List ℕ) : Type 0 where
@@ -107,6 +113,19 @@ linksAnswer P S t =
     not (allBelow P (λ p. hasVersion S t p (committedOf P S t p))) ⇒ 14 otherwise
     0
 
+module _ (P S : ℕ) (t : ℕ → Slot) where
+  pub links-astray : someBelow P (λ p. isAstray (walkOf P S t p .end)) ≡ true → 4 ≡ linksAnswer P S t
+  unfolding linksAnswer
+  links-astray a = rw a
+
+  pub version-missing : someBelow P (λ p. isAstray (walkOf P S t p .end)) ≡ false → allBelow P (λ p. hasVersion S t p (committedOf P S t p)) ≡ false → 14 ≡ linksAnswer P S t
+  unfolding linksAnswer
+  version-missing a b = rw (a, b)
+
+  pub versions-there : someBelow P (λ p. isAstray (walkOf P S t p .end)) ≡ false → allBelow P (λ p. hasVersion S t p (committedOf P S t p)) ≡ true → 0 ≡ linksAnswer P S t
+  unfolding linksAnswer
+  versions-there a b = rw (a, b)
+
 -- the answer by the slot table, where the sizes are right
 unfoldable pub tableAnswer : (P S : ℕ) → (ℕ → Slot) → ℕ
 unfolding linksAnswer
@@ -115,9 +134,22 @@ tableAnswer P S t =
     (someClash S t || not (allBelow P (hasRecord S t))) ⇒ 3 otherwise
     linksAnswer P S t
 
-pub answer-by-links : (P S : ℕ) (t : ℕ → Slot) → tableSound P S t ≡ true → someClash S t ≡ false → allBelow P (hasRecord S t) ≡ true → linksAnswer P S t ≡ tableAnswer P S t
-unfolding tableAnswer
-answer-by-links P S t a b c = rw (a, b, c)
+module _ (P S : ℕ) (t : ℕ → Slot) where
+  pub slot-unsound : tableSound P S t ≡ false → 2 ≡ tableAnswer P S t
+  unfolding tableAnswer
+  slot-unsound a = rw a
+
+  pub records-clash : tableSound P S t ≡ true → someClash S t ≡ true → 3 ≡ tableAnswer P S t
+  unfolding tableAnswer
+  records-clash a b = rw (a, b)
+
+  pub record-missing : tableSound P S t ≡ true → someClash S t ≡ false → allBelow P (hasRecord S t) ≡ false → 3 ≡ tableAnswer P S t
+  unfolding tableAnswer
+  record-missing a b c = rw (a, b, c)
+
+  pub answer-by-links : tableSound P S t ≡ true → someClash S t ≡ false → allBelow P (hasRecord S t) ≡ true → linksAnswer P S t ≡ tableAnswer P S t
+  unfolding tableAnswer
+  answer-by-links a b c = rw (a, b, c)
 
 pub answer-by-table : (widths : Widths) (sizes : Sizes) (words state : List ℕ) → (sizesOk widths sizes && (wordsFit (sizes .slots) words && stateFits (sizes .pages) state)) ≡ true → tableAnswer (sizes .pages) (sizes .slots) (slotAt words) ≡ recoverAnswer widths sizes words state
 unfolding linksAnswer tableAnswer recoverAnswer

@@ -5,15 +5,16 @@ mod committed; // committed.rt: following verdicts, committed versions
 mod fill; // fill.rt: the state filled in
 
 ghost use mathlib.Core.Path.{_≡_};
-ghost use Prim.Native.Nat.{_*_, _≤_};
+ghost use Prim.Native.Nat.{_*_, _^_, _%_, _≤_};
 ghost use lib.Dec.{ltb};
 ghost use lib.ListN.{length, getD};
 ghost use Rattle.bounded.specs.Limits.{twoWidths};
 ghost use Rattle.bounded.specs.Below.{allBelow};
 ghost use Rattle.bounded.specs.Tabulate.{tabulate};
 ghost use Rattle.outcome.specs.Outcome.{returned};
+ghost use Rattle.outcome.specs.Reply.{Settles};
 ghost use Rattle.record.specs.Slot.{slotAt};
-ghost use Rattle.rules.specs.Recover.{committedOf, recoverOutcome};
+ghost use Rattle.rules.specs.Recover.{linksOf, committedOf, recoverOutcome};
 ghost use Rattle.recovery.specs.Tables.{tableAnswer};
 use sizes::Sizes;
 
@@ -32,28 +33,28 @@ fn records_present(sizes: Sizes, top: &[u32; 256]) -> bool
     true
 }
 
-// The answer by the slot table, 2 to 14, where the sizes are right. An accepted table's committed versions are filled in.
-fn table_answer(sizes: Sizes, words: &[u32], committed: &mut [u32; 256]) -> u32
+// The answer by the slot table, 2 to 14, where the sizes are right; of an accepted table the links followed, and its committed versions are filled in.
+fn table_answer(sizes: Sizes, words: &[u32], committed: &mut [u32; 256]) -> u64
     requires { ⌜ 5 * sizes .slots ≤ length (now words) ⌝ }
     requires { ⌜ sizes .pages ≤ 256 ⌝ }
-    ensures { λ r. ⌜ r ≡ tableAnswer (sizes .pages) (sizes .slots) (slotAt (now (words .entry))) ⌝ }
-    ensures { λ r. ⌜ (r ≡ 0 → now (committed .exit) ≡ tabulate 256 (committedOf (sizes .pages) (sizes .slots) (slotAt (now (words .entry))))) ⌝ }
+    ensures { λ r. ⌜ Settles r (tableAnswer (sizes .pages) (sizes .slots) (slotAt (now (words .entry)))) 0 (linksOf (sizes .pages) (sizes .slots) (slotAt (now (words .entry)))) ⌝ }
+    ensures { λ r. ⌜ (r % 2 ^ 32 ≡ 0 → now (committed .exit) ≡ tabulate 256 (committedOf (sizes .pages) (sizes .slots) (slotAt (now (words .entry))))) ⌝ }
 {
     if !table::table_sound(sizes, words) {
-        return 2;
+        return outcome::reply(2, 0);
     }
     let mut top = [0; 256];
     table::highest_slots(sizes, words, &mut top);
     if table::some_clash(sizes.slots, words) {
-        return 3;
+        return outcome::reply(3, 0);
     }
     if !records_present(sizes, &top) {
-        return 3;
+        return outcome::reply(3, 0);
     }
     committed::links_answer(sizes, words, &top, committed)
 }
 
-// "Recover: fills the sheet from the slot table; the old sheet may hold anything." Nothing is stored before every refusal is tried.
+// "Recover: fills the sheet from the slot table; the old sheet may hold anything", and the links followed are counted. Nothing is stored before every refusal is tried.
 pub fn recover(sizes: Sizes, words: &[u32], state: &mut [u32]) -> u64
     ensures { λ r. ⌜ returned r (now (state .exit)) ≡ recoverOutcome twoWidths sizes (now (words .entry)) (now (state .entry)) ⌝ }
 {
@@ -61,10 +62,10 @@ pub fn recover(sizes: Sizes, words: &[u32], state: &mut [u32]) -> u64
         return outcome::reply(1, 0);
     }
     let mut committed = [0; 256];
-    let answer = table_answer(sizes, words, &mut committed);
-    if answer != 0 {
-        return outcome::reply(answer, 0);
+    let reply = table_answer(sizes, words, &mut committed);
+    if outcome::answer_of(reply) != 0 {
+        return reply;
     }
     fill::fill_state(sizes, words, &committed, state);
-    outcome::reply(0, 0)
+    reply
 }

@@ -8,14 +8,15 @@ use Rattle.bounded.specs.Limits.{Widths}
 use Rattle.bounded.specs.Parts.{joinParts}
 use Rattle.outcome.specs.Outcome.{_⇒_otherwise_, Outcome, settled}
 use Rattle.sizes.specs.declared.Sizes.{Sizes}
-use Rattle.record.specs.Slot.{wordsOf, formattedRecord, blankRecord}
+use Rattle.record.specs.Slot.{formattedRecord}
 use Rattle.state.specs.State.{stateWords}
 use Rattle.state.specs.Change.{freshState}
+use Rattle.table.specs.Given.{oneEach}
 use Rattle.rules.specs.Volume.{Volume, volumeFits}
 
 -- "slot i below P holds (i, 0, 0, i, 0) …; all other slots are blank"
 unfoldable pub formattedWords : Sizes → List ℕ
-formattedWords sizes = joinParts (sizes .slots) (λ k. wordsOf (cond (ltb k (sizes .pages)) (formattedRecord k) blankRecord))
+formattedWords sizes = oneEach (sizes .pages) (sizes .slots) formattedRecord
 
 -- "… with 32 zero bytes; all other slots are … with bytes 255", as many as the width says
 unfoldable pub formattedContents : Sizes → List ℕ

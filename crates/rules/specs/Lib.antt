@@ -9,6 +9,7 @@ pub mod Erase
 pub mod Suggest
 pub mod Verdict
 pub mod Recover
+pub mod Links
 pub mod Read
 pub mod laws
 pub mod cases

@@ -17,12 +17,16 @@ use Rattle.table.specs.Table.{tableSound, someClash, hasRecord, hasVersion, hig
 use Rattle.follow.specs.declared.End.{End}
 use Rattle.follow.specs.declared.End.the-variants as ends
 use Rattle.follow.specs.declared.Walk.{Walk}
-use Rattle.follow.specs.Follow.{follow, isAstray}
+use Rattle.follow.specs.Follow.{follow, linksFollowed, isAstray}
 use Rattle.rules.specs.Verdict.{verdict}
 
 -- the walk from page p's highest record
 unfoldable pub walkOf : (P S : ℕ) → (ℕ → Slot) → ℕ → Walk
 walkOf P S t p = follow P (verdict S t) p
+
+-- "the number of links followed, summed over pages"
+unfoldable pub linksOf : (P S : ℕ) → (ℕ → Slot) → ℕ
+linksOf P S t = linksFollowed P (verdict S t)
 
 -- the back pointer in a slot; 0 where it is blank
 unfoldable pub backPointer : Slot → ℕ
@@ -53,6 +57,9 @@ recoverAnswer widths sizes words state =
     not (allBelow (sizes .pages) (λ p. hasVersion (sizes .slots) (slotAt words) p (committedOf (sizes .pages) (sizes .slots) (slotAt words) p))) ⇒ 14 otherwise
     0
 
--- "Recover: fills the sheet from the slot table". It alters the state alone.
+-- "Recover: fills the sheet from the slot table". It alters the state alone. Document 02: "Recovery … shall also return the number of links followed …; on
+-- refusal 0."
 unfoldable pub recoverOutcome : Widths → Sizes → (words state : List ℕ) → Outcome (List ℕ)
-recoverOutcome widths sizes words state = settled (recoverAnswer widths sizes words state) 0 0 state (stateWords (sizes .pages) (recovered (sizes .pages) (sizes .slots) (slotAt words)))
+recoverOutcome widths sizes words state =
+    settled (recoverAnswer widths sizes words state) 0 (linksOf (sizes .pages) (sizes .slots) (slotAt words))
+    state (stateWords (sizes .pages) (recovered (sizes .pages) (sizes .slots) (slotAt words)))

@@ -7,5 +7,6 @@ pub mod Erase
 pub mod Found
 pub mod Suggest
 pub mod Recover
+pub mod Links
 pub mod Star
 pub mod Width

@@ -6,3 +6,4 @@ pub mod Chains
 pub mod Permission
 pub mod Found
 pub mod Recover
+pub mod Links

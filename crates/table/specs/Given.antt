@@ -1,6 +1,8 @@
--- Tables given by their records, as document 01's cases give them.
+-- Tables given by their records: as document 01's cases give them, and with one record for each page.
 use Prim.Native.Nat.{ℕ}
 use mathlib.Core.List.{List, [], _∷_}
+use mathlib.Core.Bool.{cond}
+use lib.Dec.{ltb}
 use lib.ListN.{getD}
 use Rattle.bounded.specs.Parts.{joinParts}
 use Rattle.record.specs.declared.Record.{Record}
@@ -17,3 +19,7 @@ formattedRecords P = joinParts P (λ p. formattedRecord p ∷ [])
 -- the slot words of S slots that hold these records from slot 0 on; the other slots are blank
 unfoldable pub tableOf : ℕ → List Record → List ℕ
 tableOf S records = joinParts S (λ k. wordsOf (getD records k blankRecord))
+
+-- the slot words of S slots of which slot k below P holds record k, and the others are blank
+unfoldable pub oneEach : (P S : ℕ) → (ℕ → Record) → List ℕ
+oneEach P S records = joinParts S (λ k. wordsOf (cond (ltb k P) (records k) blankRecord))

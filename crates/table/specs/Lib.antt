@@ -4,3 +4,4 @@ pub mod Given
 pub mod Computing
 pub mod HighestSlot
 pub mod Used
+pub mod OneEach

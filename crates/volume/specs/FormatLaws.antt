@@ -13,6 +13,7 @@ use Rattle.record.specs.SlotLaws.{words-length}
 use Rattle.state.specs.declared.PageState.{PageState}
 use Rattle.state.specs.State.{pageWords, stateWords}
 use Rattle.state.specs.StateLaws.{length-pageWords}
+use Rattle.table.specs.Given.{oneEach}
 use Rattle.rules.specs.Format.{formattedWords, formattedContents}
 
 -- "slot i below P holds (i, 0, 0, i, 0) …; all other slots are blank": the words of slot k
@@ -52,7 +53,7 @@ module _ (P k : ℕ) where
 
 -- all slots written
 pub words-formatted : (sizes : Sizes) (words : List ℕ) → length words ≡ 5 * sizes .slots → filled 5 (freshWords (sizes .pages)) (sizes .slots) words ≡ formattedWords sizes
-unfolding formattedWords freshWords
+unfolding formattedWords oneEach freshWords
 words-formatted sizes words e = filled-all 5 (freshWords (sizes .pages)) words (sizes .slots) e (length-freshWords (sizes .pages))
 
 pub contents-formatted : (sizes : Sizes) (contents : List ℕ) → length contents ≡ sizes .width * sizes .slots → filled (sizes .width) (freshBytes (sizes .width) (sizes .pages)) (sizes .slots) contents ≡ formattedContents sizes

@@ -1,5 +1,5 @@
 -- A formatted volume has the invariant, with the zeros kept.
-use Prim.Native.Nat.{ℕ, _≤_, _<_}
+use Prim.Native.Nat.{ℕ, _<_}
 use native.Mathlib.Omega.{arith}
 use mathlib.Core.Path.{_≡_, refl, sym, ap, _∙_}
 use mathlib.Core.List.{List, []}
@@ -7,22 +7,21 @@ use mathlib.Core.Logic.{inr}
 use mathlib.Core.Bool.{Bool, true, false, cond}
 use lib.Dec.{ltb}
 use lib.ListN.{replicate, length-replicate}
-use borrow.Author.Tests.{lt-ltb, le-ltb}
+use borrow.Author.Tests.{lt-ltb}
 use Rattle.bounded.specs.Limits.{Widths}
-use Rattle.bounded.specs.Choice.{on-lt, never}
+use Rattle.bounded.specs.Choice.{never}
 use Rattle.bounded.specs.PartsLaws.{part-joinParts, length-joinParts}
 use Rattle.sizes.specs.declared.Sizes.{Sizes}
 use Rattle.sizes.specs.SizesLaws.{SizesFacts}
 use Rattle.record.specs.declared.Record.{Record}
-use Rattle.record.specs.declared.Slot.the-variants.{Blank, Holds}
-use Rattle.record.specs.Slot.{wordsOf, slotOf, slotAt, bytesAt, formattedRecord, blankRecord, recordSound}
-use Rattle.record.specs.SlotLaws.{words-length, slot-of-words, slot-of-blank, sound-test}
+use Rattle.record.specs.Slot.{slotAt, bytesAt, formattedRecord, recordSound}
+use Rattle.record.specs.SlotLaws.{sound-test}
 use Rattle.record.specs.Flash.{Flash}
 use Rattle.record.specs.FlashLaws.{Sized}
 use Rattle.state.specs.State.{stateAt, inFlight}
 use Rattle.state.specs.StateLaws.{StateFacts, length-stateWords}
 use Rattle.state.specs.Change.{atRest, freshState}
-use Rattle.table.specs.TableLaws.{blank-holds}
+use Rattle.table.specs.OneEach.{length-oneEach, OneEach, words-one-each, held-is, held-page}
 use Rattle.rules.specs.laws.Volume.{Fits}
 use Rattle.rules.specs.Format.{formattedWords, formattedContents, formatted}
 use Rattle.protocol.specs.View.{NoTwins, recordView}
@@ -41,21 +40,10 @@ module _ (sizes : Sizes) (bounds : SizesFacts (sizes .pages) (sizes .slots)) whe
   abbrev contents : List ℕ
   contents = formattedContents sizes
 
-  -- what slot k is given
-  recordFor : ℕ → Record
-  recordFor k = cond (ltb k (sizes .pages)) (formattedRecord k) blankRecord
-
-  slot-is : (k : ℕ) → k < (sizes .slots) → slotAt words k ≡ slotOf (wordsOf (recordFor k))
-  unfolding slotAt formattedWords recordFor
-  slot-is k h = ap slotOf (part-joinParts 5 (sizes .slots) k (λ k. wordsOf (recordFor k)) (λ j. words-length (recordFor j)) h)
-
-  slot-of-page : (k : ℕ) → k < (sizes .slots) → k < (sizes .pages) → slotAt words k ≡ Holds (formattedRecord k)
-  unfolding recordFor formattedRecord
-  slot-of-page k h l = slot-is k h ∙ rw (lt-ltb k (sizes .pages) l) (slot-of-words (formattedRecord k) (omega arith))
-
-  slot-beyond : (k : ℕ) → k < (sizes .slots) → (sizes .pages) ≤ k → slotAt words k ≡ Blank
-  unfolding recordFor
-  slot-beyond k h l = slot-is k h ∙ rw (le-ltb k (sizes .pages) l) slot-of-blank
+  -- a record stands in the slot of its page, and is the formatted one
+  each-page : OneEach (sizes .pages) (sizes .slots) (slotAt words) formattedRecord
+  unfolding formattedWords formattedRecord
+  each-page = words-one-each (sizes .pages) (sizes .slots) formattedRecord (bounds .slots-least) (λ k h. refl) (λ k h. omega arith)
 
   bytes-of-page : (k : ℕ) → k < (sizes .slots) → k < (sizes .pages) → bytesAt (sizes .width) contents k ≡ replicate (sizes .width) 0
   unfolding bytesAt formattedContents
@@ -63,28 +51,11 @@ module _ (sizes : Sizes) (bounds : SizesFacts (sizes .pages) (sizes .slots)) whe
       part-joinParts (sizes .width) (sizes .slots) k (λ k. replicate (sizes .width) (cond (ltb k (sizes .pages)) 0 255)) (λ j. length-replicate (sizes .width) (cond (ltb j (sizes .pages)) 0 255)) h
       ∙ ap (λ (b : Bool). replicate (sizes .width) (cond b 0 255)) (lt-ltb k (sizes .pages) l)
 
-  -- a record stands in the slot of its page, and is the formatted one
-  record Given (k : ℕ) (r : Record) : Type 0 where
-    below : k < (sizes .pages)
-    is : r ≡ formattedRecord k
-
-  given : (k : ℕ) (r : Record) → k < (sizes .slots) → slotAt words k ≡ Holds r → Given k r
-  given k r h e =
-      on-lt k (sizes .pages)
-      (λ l. record { below = l; is = (let f = slot-of-page k h l in cc) })
-      (λ l. absurd (blank-holds (slot-beyond k h l) e))
-
-  page-is : (k : ℕ) (r : Record) → Given k r → (r .p ≡ k) × (r .v ≡ 0) × (r .c ≡ 0) × (r .np ≡ k) × (r .nv ≡ 0)
-  unfolding formattedRecord
-  page-is k r g =
-      let e = g .is in
-      (ap (λ (x : Record). x .p) e, ap (λ (x : Record). x .v) e, ap (λ (x : Record). x .c) e, ap (λ (x : Record). x .np) e, ap (λ (x : Record). x .nv) e)
-
   formatted-sized : Sized (sizes .width) (sizes .slots) (formatted sizes .flash)
   unfolding formatted formattedWords formattedContents
   formatted-sized =
       record {
-        words-sized = length-joinParts 5 (sizes .slots) (λ k. wordsOf (cond (ltb k (sizes .pages)) (formattedRecord k) blankRecord)) (λ j. words-length (cond (ltb j (sizes .pages)) (formattedRecord j) blankRecord));
+        words-sized = length-oneEach (sizes .pages) (sizes .slots) formattedRecord;
         contents-sized = length-joinParts (sizes .width) (sizes .slots) (λ k. replicate (sizes .width) (cond (ltb k (sizes .pages)) 0 255)) (λ j. length-replicate (sizes .width) (cond (ltb j (sizes .pages)) 0 255));
       }
 
@@ -94,12 +65,13 @@ module _ (sizes : Sizes) (bounds : SizesFacts (sizes .pages) (sizes .slots)) whe
 
   -- every record's version and link version is 0
   versions : (r : Record) (b : List ℕ) → Held (sizes .width) (sizes .slots) (record { words = words; contents = contents }) r b → (r .p < (sizes .pages)) × (r .v ≡ 0) × (r .c ≡ 0) × (r .np ≡ r .p) × (r .nv ≡ 0)
+  unfolding formattedRecord
   versions r b h =
-      let g = given (h .0) r (h .1) (h .2) in
-      let i = page-is (h .0) r g in
-      let l = g .below in
-      let e = i .0 in
-      (omega arith, i .1, i .2, i .3 ∙ sym (i .0), i .4)
+      let w = held-is each-page (h .0) r (h .1) (h .2) in
+      let l = w .0 in
+      let e = w .1 in
+      let p = ap (λ (x : Record). x .p) e in
+      (omega arith, ap (λ (x : Record). x .v) e, ap (λ (x : Record). x .c) e, ap (λ (x : Record). x .np) e ∙ sym p, ap (λ (x : Record). x .nv) e)
 
   fresh-rests : (p : ℕ) → inFlight (freshState p) ≡ false
   unfolding freshState atRest inFlight
@@ -129,8 +101,7 @@ module _ (sizes : Sizes) (bounds : SizesFacts (sizes .pages) (sizes .slots)) whe
   flash = record { words = words; contents = contents }
 
   start-apart : NoTwins (sizes .slots) (slotAt words)
-  start-apart =
-      λ j k a b lj lk ea eb p v. let i = page-is j a (given j a lj ea) .0 in let u = page-is k b (given k b lk eb) .0 in omega arith
+  start-apart = λ j k a b lj lk ea eb p v. let i = held-page each-page j a lj ea in let u = held-page each-page k b lk eb in omega arith
 
   start-core : Core (Held (sizes .width) (sizes .slots) flash) (commOf freshState) (sizes .pages) (freshModel (sizes .width) .kept)
   unfolding freshModel recordSound formattedRecord
@@ -147,12 +118,12 @@ module _ (sizes : Sizes) (bounds : SizesFacts (sizes .pages) (sizes .slots)) whe
             own-link = λ q. v .4 ∙ sym (v .1);
           });
           one-record = λ r s b d h i p e.
-              let g = given (h .0) r (h .1) (h .2) in
-              let u = given (i .0) s (i .1) (i .2) in
-              let k : h .0 ≡ i .0 = sym (page-is (h .0) r g .0) ∙ p ∙ page-is (i .0) s u .0 in
-              (g .is ∙ ap formattedRecord k ∙ sym (u .is), sym (h .3) ∙ ap (bytesAt (sizes .width) contents) k ∙ i .3);
+              let k : h .0 ≡ i .0 = sym (held-page each-page (h .0) r (h .1) (h .2)) ∙ p ∙ held-page each-page (i .0) s (i .1) (i .2) in (
+                held-is each-page (h .0) r (h .1) (h .2) .1 ∙ ap formattedRecord k ∙ sym (held-is each-page (i .0) s (i .1) (i .2) .1),
+                sym (h .3) ∙ ap (bytesAt (sizes .width) contents) k ∙ i .3,
+              );
           committed-kept = λ p l. let s = bounds .slots-least in
-              (formattedRecord p, (p, omega arith, slot-of-page p (omega arith) l, bytes-of-page p (omega arith) l), (refl, sym (fresh-versions p .0)));
+              (formattedRecord p, (p, omega arith, each-page .each p l, bytes-of-page p (omega arith) l), (refl, sym (fresh-versions p .0)));
           committed-link = λ r b h e. let v = versions r b h .4 in omega arith;
           links-apart = λ r s b d h i e g p n. let v = versions r b h .3 in let u = versions s d i .3 in omega arith;
           exposed-open = λ r b h x. absurd (let v = versions r b h .1 in omega arith);

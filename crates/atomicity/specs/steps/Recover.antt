@@ -21,7 +21,7 @@ use Rattle.table.specs.Table.{usedOf}
 use Rattle.rules.specs.Volume.{Volume}
 use Rattle.rules.specs.laws.Volume.{Fits, fits-test}
 use Rattle.rules.specs.Read.{readOutcome}
-use Rattle.rules.specs.Recover.{recovered, recoverAnswer, recoverOutcome}
+use Rattle.rules.specs.Recover.{linksOf, recovered, recoverAnswer, recoverOutcome}
 use Rattle.rules.specs.laws.Recover.{recover-fills}
 use Rattle.protocol.specs.View.{NoTwins, recordView}
 use Rattle.protocol.specs.Shared.{SharedLive, commOf}
@@ -45,7 +45,7 @@ module _ (widths : Widths) (sizes : Sizes) (f : Flash) (bounds : SizesFacts (siz
   abbrev filled : List ℕ
   filled = stateWords (sizes .pages) (recovered (sizes .pages) (sizes .slots) (slotAt (f .words)))
 
-  fills : recoverOutcome widths sizes (f .words) state ≡ record { answer = 0; second = 0; left = filled }
+  fills : recoverOutcome widths sizes (f .words) state ≡ record { answer = 0; second = linksOf (sizes .pages) (sizes .slots) (slotAt (f .words)); left = filled }
   fills = recover-fills widths sizes (f .words) state accepts
 
   -- the volume with the state so filled

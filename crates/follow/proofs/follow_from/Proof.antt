@@ -4,7 +4,8 @@ use Prim.Native.Nat.{_≤_, _<_, _-_}
 use mathlib.Core.Path.{_≡_, sym, ap, _∙_}
 use Rattle.follow.specs.declared.Verdict.the-variants as says
 use Rattle.follow.specs.Follow.{follow}
-use Rattle.follow.specs.Course.{Leads, here, onward, committed, uncommitted, back, walk-ends, walk-astray, as-many}
+use Rattle.follow.specs.Steps.{Leads, here, onward, committed, uncommitted, back}
+use Rattle.follow.specs.Course.{walk-ends, walk-astray, as-many}
 use Rattle.follow.specs.Codes.{coded}
 use Rattle.follow.proofs.follow_from.Statement.{statement}
 use Rattle.follow.proofs.follow_from.Tie as tie

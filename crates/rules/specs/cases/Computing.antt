@@ -4,7 +4,7 @@ use Rattle.outcome.specs.Computing.{computing as outcome-computing}
 use Rattle.sizes.specs.Sizes.{sizesOk, wordsFit, contentsFit, stateFits, noRepeats, inRange, listOk}
 use Rattle.state.specs.Computing.{computing as state-computing}
 use Rattle.table.specs.Computing.{computing as table-computing}
-use Rattle.follow.specs.Follow.{endsHere, oneMore, link, followFrom, follow, isAstray}
+use Rattle.follow.specs.Follow.{endsHere, oneMore, link, followFrom, follow, linksFollowed, isAstray}
 use Rattle.rules.specs.Format.{formattedWords, formattedContents, formatted, formatAnswer, formatOutcome}
 use Rattle.rules.specs.Read.{readSlot, readAnswer, readOutcome}
 use Rattle.rules.specs.Volume.{volumeFits}
@@ -14,9 +14,9 @@ use Rattle.rules.specs.Write.{planOf, writeAnswer, writeStep, writeDone,
 use Rattle.rules.specs.Erase.{eraseAnswer, eraseSteps, eraseOutcome}
 use Rattle.rules.specs.Permission.{isObsolete, isExposed, outdoneBy, supports, isNeeded, isCurrent, mayEraseRecord, mayErase, mayEraseAll}
 use Rattle.rules.specs.Suggest.{suggestAnswer, suggestedSlot, suggestOutcome}
-use Rattle.rules.specs.Recover.{walkOf, backPointer, committedBy, committedOf, recovered, recoverAnswer, recoverOutcome}
+use Rattle.rules.specs.Recover.{walkOf, linksOf, backPointer, committedBy, committedOf, recovered, recoverAnswer, recoverOutcome}
 use Rattle.rules.specs.Verdict.{isStraddled, linkVerdict, slotVerdict, verdict}
 
 unfoldable pub computing : Unit {0}
-unfolding table-computing state-computing outcome-computing formattedWords formattedContents formatted formatAnswer formatOutcome readSlot readAnswer readOutcome twoWidths sizesOk wordsFit contentsFit stateFits volumeFits noRepeats inRange listOk somePage usedUp launchAnswer launchOutcome withdrawAnswer withdrawOutcome planOf writeAnswer writeStep writeDone writeChange writeOutcome eraseAnswer eraseSteps eraseOutcome isObsolete isExposed outdoneBy supports isNeeded isCurrent mayEraseRecord mayErase mayEraseAll suggestAnswer suggestedSlot suggestOutcome endsHere oneMore link followFrom follow walkOf isAstray backPointer committedBy committedOf recovered recoverAnswer recoverOutcome isStraddled linkVerdict slotVerdict verdict
+unfolding table-computing state-computing outcome-computing formattedWords formattedContents formatted formatAnswer formatOutcome readSlot readAnswer readOutcome twoWidths sizesOk wordsFit contentsFit stateFits volumeFits noRepeats inRange listOk somePage usedUp launchAnswer launchOutcome withdrawAnswer withdrawOutcome planOf writeAnswer writeStep writeDone writeChange writeOutcome eraseAnswer eraseSteps eraseOutcome isObsolete isExposed outdoneBy supports isNeeded isCurrent mayEraseRecord mayErase mayEraseAll suggestAnswer suggestedSlot suggestOutcome endsHere oneMore link followFrom follow linksFollowed walkOf linksOf isAstray backPointer committedBy committedOf recovered recoverAnswer recoverOutcome isStraddled linkVerdict slotVerdict verdict
 computing = tt

@@ -46,7 +46,7 @@ starTable = recoveryRows ++ (rows6 recovered4 launched6 written6 ++ launchRows)
 
 -- ---- the volume that the calls of case 6 leave
 
-recovered4-is : recovered4 ≡ record { answer = 0; second = 0; left = 0 ∷ 1 ∷ noNumber ∷ 0 ∷ 2 ∷ 2 ∷ noNumber ∷ 0 ∷ 1 ∷ 1 ∷ noNumber ∷ 0 ∷ [] }
+recovered4-is : recovered4 ≡ record { answer = 0; second = 5; left = 0 ∷ 1 ∷ noNumber ∷ 0 ∷ 2 ∷ 2 ∷ noNumber ∷ 0 ∷ 1 ∷ 1 ∷ noNumber ∷ 0 ∷ [] }
 unfolding recovered4 recoverOn table4 computing
 recovered4-is = refl
 

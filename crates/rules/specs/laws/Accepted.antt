@@ -2,21 +2,23 @@
 use Prim.Native.Nat.{ℕ, _*_, _<_}
 use mathlib.Core.Path.{_≡_}
 use mathlib.Core.List.{List}
-use mathlib.Core.Bool.{true, false, _&&_}
+use mathlib.Core.Bool.{true, false, not, _&&_, _||_}
 use lib.Dec.{ltb, eqb}
 use lib.ListN.{length}
 use borrow.Author.Tests.{ltb-true, eqb-true}
 use Rattle.bounded.specs.Limits.{Widths}
-use Rattle.bounded.specs.Choice.{both-left, both-right}
-use Rattle.bounded.specs.Below.{someBelow}
+use Rattle.bounded.specs.Choice.{both-left, both-right, neither-left}
+use Rattle.bounded.specs.Below.{allBelow, someBelow}
 use Rattle.bounded.specs.BelowLaws.{first-found, first-passes, first-none-before}
 use Rattle.outcome.specs.OutcomeLaws.{passed, held}
 use Rattle.sizes.specs.declared.Sizes.{Sizes}
 use Rattle.sizes.specs.Sizes.{sizesOk, wordsFit, stateFits, listOk}
 use Rattle.sizes.specs.SizesLaws.{state-fits-exactly}
+use Rattle.record.specs.declared.Slot.{Slot}
 use Rattle.record.specs.Slot.{slotAt, isBlank}
 use Rattle.state.specs.State.{stateAt, stateSound, inFlight, isWritten}
-use Rattle.table.specs.Table.{tableSound}
+use Rattle.table.specs.Table.{tableSound, someClash, hasRecord}
+use Rattle.follow.specs.Follow.{isAstray}
 use Rattle.rules.specs.Volume.{Volume, volumeFits}
 use Rattle.rules.specs.laws.Volume.{Fits, fits-facts}
 use Rattle.rules.specs.Launch.{somePage, usedUp, launchAnswer}
@@ -25,6 +27,7 @@ use Rattle.rules.specs.Withdraw.{withdrawAnswer}
 use Rattle.rules.specs.Permission.{mayErase, mayEraseAll}
 use Rattle.rules.specs.Erase.{eraseAnswer}
 use Rattle.rules.specs.Suggest.{suggestAnswer, suggestedSlot, suggestOutcome}
+use Rattle.rules.specs.Recover.{walkOf, recoverAnswer}
 use Rattle.rules.specs.laws.Outcomes.{suggest-done}
 
 pub record LaunchTests (P : ℕ) (state pages : List ℕ) : Type 0 where
@@ -50,6 +53,11 @@ pub record WriteTests (widths : Widths) (sizes : Sizes) (v : Volume) (page slot 
   pub unwritten : isWritten (stateAt (v .state) page) ≡ false
   pub free : isBlank (slotAt (v .flash .words) slot) ≡ true
 
+pub record RecoverTests (P S : ℕ) (t : ℕ → Slot) : Type 0 where
+  pub sound : tableSound P S t ≡ true
+  pub none-clash : someClash S t ≡ false
+  pub none-astray : someBelow P (λ p. isAstray (walkOf P S t p .end)) ≡ false
+
 module _ (widths : Widths) (sizes : Sizes) (state : List ℕ) where
   -- the state's words are four for each of P pages
   sized : (sizesOk widths sizes && stateFits (sizes .pages) state) ≡ true → length state ≡ 4 * (sizes .pages)
@@ -64,6 +72,18 @@ module _ (widths : Widths) (sizes : Sizes) (state : List ℕ) where
       let d = passed (somePage pages (stateAt state) inFlight) _ _ (c .1) in
       let f = passed (somePage pages (stateAt state) usedUp) _ _ (d .1) in
       record { state-sized = sized (a .0); sound = b .0; listed = c .0; none-flying = d .0; none-used-up = f .0 }
+
+  pub recover-tests : (words : List ℕ) → recoverAnswer widths sizes words state ≡ 0 → RecoverTests (sizes .pages) (sizes .slots) (slotAt words)
+  unfolding recoverAnswer
+  recover-tests words z =
+      let P = sizes .pages in
+      let S = sizes .slots in
+      let t = slotAt words in
+      let a = held (sizesOk widths sizes && (wordsFit S words && stateFits P state)) _ _ z in
+      let b = held (tableSound P S t) _ _ (a .1) in
+      let c = passed (someClash S t || not (allBelow P (hasRecord S t))) _ _ (b .1) in
+      let d = passed (someBelow P (λ p. isAstray (walkOf P S t p .end))) _ _ (c .1) in
+      record { sound = b .0; none-clash = neither-left (someClash S t) (not (allBelow P (hasRecord S t))) (c .0); none-astray = d .0 }
 
   pub withdraw-tests : (page : ℕ) → withdrawAnswer widths sizes state page ≡ 0 → WithdrawTests (sizes .pages) state page
   unfolding withdrawAnswer

@@ -28,7 +28,7 @@ use Rattle.follow.specs.declared.End.the-variants as ends
 use Rattle.follow.specs.Astray.{RunsIntoRing, astray-exactly}
 use Rattle.follow.specs.Follow.{isAstray}
 use Rattle.rules.specs.Verdict.{isStraddled, linkVerdict, slotVerdict, verdict}
-use Rattle.rules.specs.Recover.{walkOf, recovered, recoverAnswer, recoverOutcome}
+use Rattle.rules.specs.Recover.{walkOf, linksOf, recovered, recoverAnswer, recoverOutcome}
 
 -- ---- straddlers
 
@@ -68,7 +68,7 @@ module _ (S : ℕ) (t : ℕ → Slot) where
 
 -- ---- answer 4
 
-isAstray-exactly : (e : End) → (isAstray e ≡ true) ↔ (e ≡ ends.Astray)
+pub isAstray-exactly : (e : End) → (isAstray e ≡ true) ↔ (e ≡ ends.Astray)
 unfolding isAstray
 isAstray-exactly ends.Committed = (λ h. absurd (never refl (sym h)), λ h. let z : _≡_ {A = ℕ} 0 1 = cc in absurd (omega arith))
 isAstray-exactly ends.Uncommitted = (λ h. absurd (never refl (sym h)), λ h. let z : _≡_ {A = ℕ} 0 1 = cc in absurd (omega arith))
@@ -94,15 +94,18 @@ pub recover-answer-reads : (widths : Widths) (sizes : Sizes) (words a b : List �
 unfolding recoverAnswer stateFits
 recover-answer-reads widths sizes words a b e = rw (recoverAnswer, stateFits, e)
 
--- and so do the words that an accepted recover fills.
+-- and so do the words that an accepted recover fills, and the number of links that it returns.
 pub recover-fills :
     (widths : Widths) (sizes : Sizes) (words a : List ℕ)
     → recoverAnswer widths sizes words a ≡ 0
-    → recoverOutcome widths sizes words a ≡ record { answer = 0; second = 0; left = stateWords (sizes .pages) (recovered (sizes .pages) (sizes .slots) (slotAt words)) }
+    → recoverOutcome widths sizes words a
+    ≡ record { answer = 0; second = linksOf (sizes .pages) (sizes .slots) (slotAt words); left = stateWords (sizes .pages) (recovered (sizes .pages) (sizes .slots) (slotAt words)) }
 unfolding recoverOutcome
-recover-fills widths sizes words a e = settled-done (recoverAnswer widths sizes words a) 0 0 a (stateWords (sizes .pages) (recovered (sizes .pages) (sizes .slots) (slotAt words))) e
+recover-fills widths sizes words a e =
+    settled-done (recoverAnswer widths sizes words a) 0 (linksOf (sizes .pages) (sizes .slots) (slotAt words)) a (stateWords (sizes .pages) (recovered (sizes .pages) (sizes .slots) (slotAt words))) e
 
 -- A refused recover leaves the state as it was, and its second number is 0.
 pub recover-refused : (widths : Widths) (sizes : Sizes) (words a : List ℕ) → ¬ (recoverAnswer widths sizes words a ≡ 0) → recoverOutcome widths sizes words a ≡ record { answer = recoverAnswer widths sizes words a; second = 0; left = a }
 unfolding recoverOutcome
-recover-refused widths sizes words a h = settled-refused (recoverAnswer widths sizes words a) 0 0 a (stateWords (sizes .pages) (recovered (sizes .pages) (sizes .slots) (slotAt words))) h
+recover-refused widths sizes words a h =
+    settled-refused (recoverAnswer widths sizes words a) 0 (linksOf (sizes .pages) (sizes .slots) (slotAt words)) a (stateWords (sizes .pages) (recovered (sizes .pages) (sizes .slots) (slotAt words))) h

@@ -3,7 +3,6 @@ use mathlib.Core.Path.{_≡_, sym, ap, ap₂, _∙_}
 use lib.ListN.{set}
 use Rattle.record.specs.Slot.{slotAt}
 use Rattle.follow.specs.declared.Walk.{Walk}
-use Rattle.follow.specs.Follow.{isAstray}
 use Rattle.rules.specs.Recover.{walkOf, committedBy, committedOf}
 use Rattle.recovery.specs.Tables.{codes-inside, codes-walk}
 use Rattle.recovery.proofs.committed.commit_page.Statement.{statement}
@@ -26,20 +25,16 @@ mul-committed c = search needs
 element-write-committed : tie.Need-element-write-committed
 element-write-committed c = search needs
 
-is-astray-requires : tie.Need-is-astray-requires
-is-astray-requires c κs = search needs
-
 returns : tie.Need-returns
 unfolding committedOf
 returns c =
-    let f = c .before .before .before in
+    let f = c .before .before in
     let pre = f .before .before .pre in
     let a = f .before .before .args in
     let walked : f .follow-from .result ≡ walkOf (a .sizes .pages) (a .sizes .slots) (slotAt (a .words .now)) (a .page) =
-    f .follow-from .ensures ∙ sym (codes-walk _ _ _ _ (pre .0) _ (pre .1 .1) _ (pre .1 .0)) in
-    let ended = ap (λ (w : Walk). w .end) walked in (
-      c .is-astray .ensures ∙ ap isAstray ended,
-      ap (set (a .committed .now) (a .page)) (c .before .committed-by .ensures ∙ ap₂ committedBy ended (c .before .before .highest-of .ensures)),
+    f .follow-from .ensures ∙ sym (codes-walk _ _ _ _ (pre .0) _ (pre .1 .1) _ (pre .1 .0)) in (
+      walked,
+      ap (set (a .committed .now) (a .page)) (c .committed-by .ensures ∙ ap₂ committedBy (ap (λ (w : Walk). w .end) walked) (c .before .highest-of .ensures)),
     )
 
 pub commit-page-spec : {M : Type 1} → statement M
@@ -51,5 +46,4 @@ commit-page-spec =
     committed-by-requires
     mul-committed
     element-write-committed
-    is-astray-requires
     returns)
