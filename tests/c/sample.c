@@ -1,6 +1,7 @@
 /*
- * Document 01's sample sequence over include/bpcc.h at both widths, every answer and every buffer checked, every call with
- * NULL, 0 for every choice of its buffers, and every call with widths that there are not. C99 and C++.
+ * Document 01's sample sequence over include/bpcc.h at both widths, every answer and every buffer checked, the links that
+ * recover follows and those of one that is refused, every call with NULL, 0 for every choice of its buffers, and every call with
+ * widths that there are not. C99 and C++.
  * The last line of its output is 'N passed, M failed'.
  */
 #include "bpcc.h"
@@ -150,7 +151,7 @@ static void sample(void) {
     expect_slot(2, 0, 1, 0, 1, 1, "the planned record of page 0");
     expect_state(0, 0, 1, 1, 1, "page 0 written");
     crash();
-    expect(recover(), BPCC_DONE, 0, "recover");
+    expect(recover(), BPCC_DONE, 1 + 1, "recover, a link from each page");
     expect_state(0, 0, 1, BPCC_NONE, 0, "page 0 recovered");
     expect_state(1, 0, 1, BPCC_NONE, 0, "page 1 recovered");
     expect(launch(one, 1), BPCC_DONE, 0, "launch page 1");
@@ -191,9 +192,43 @@ static void erasing(void) {
     expect(suggest(), BPCC_NOTHING_TO_ERASE, BPCC_NONE, "suggest with nothing to erase");
     crash();
     expect(suggest(), BPCC_STATE_UNSOUND, BPCC_NONE, "suggest with the state lost");
-    expect(recover(), BPCC_DONE, 0, "recover again");
+    expect(recover(), BPCC_DONE, 1 + 1, "recover again, a link from each page");
     expect_page(0, 0, 0, "page 0 stays");
     expect_page(1, 3, 2, "page 1 stays");
+}
+
+/* Recover refuses what is in the table now, has no links, and leaves every buffer. */
+static void expect_no_links(uint32_t answer, const char *name) {
+    crash();
+    keep();
+    expect(recover(), answer, 0, name);
+    expect_kept(name);
+}
+
+/* Both pages in one ring, slot 2 to slot 3 and back, two links from each; then tables that recover refuses. */
+static void links(void) {
+    const uint32_t both[] = {0, 1};
+    uint32_t *first, *last;
+    lend(0);
+    format(SLOTS);
+    launch(both, 2);
+    write(0, 2, 3);
+    expect(write(1, 3, 3), BPCC_DONE, 1, "write both pages of a ring");
+    crash();
+    expect(recover(), BPCC_DONE, 2 + 2, "recover a ring, two links from each page");
+    expect_state(0, 1, 1, BPCC_NONE, 0, "page 0 of the ring");
+    expect_state(1, 1, 1, BPCC_NONE, 0, "page 1 of the ring");
+    first = words;
+    last = words + BPCC_SLOT_WORDS * 3;
+    last[3] = PAGES;
+    expect_no_links(BPCC_SLOT_UNSOUND, "no links where a slot is unsound");
+    last[3] = 1;
+    expect_no_links(BPCC_LINKS_ASTRAY, "no links where they run astray");
+    memcpy(last, first, BPCC_SLOT_WORDS * sizeof *last);
+    expect_no_links(BPCC_RECORDS_CLASH, "no links where records clash");
+    memset(last, 0xFF, BPCC_SLOT_WORDS * sizeof *last);
+    memset(first, 0xFF, BPCC_SLOT_WORDS * sizeof *first);
+    expect_no_links(BPCC_NO_COMMITTED_RECORD, "no links where a committed record is missing");
 }
 
 /* The nine calls, and the buffers that each takes. */
@@ -315,6 +350,7 @@ static void at_width(uint32_t w) {
     sample();
     refusals();
     erasing();
+    links();
     for (i = 0; i < CALLS; i++) {
         nulls(&calls[i]);
         widths(&calls[i]);

@@ -1,12 +1,13 @@
 /*
  * The longest time of each call over S, the number of slots, at both widths. A call is made on kinds of volume that keep it busy,
- * at five sizes: a line for each kind says what it is and has its times, and a table behind the kinds of each width has the
- * longest of each call, in milliseconds. No time is a failure; the last line is 'N passed, M failed', and a kind at a size passes
- * if it could be made and each call on it gave the answer expected.
+ * at five sizes: a line for each kind says what it is and has its times, for recover also the links that it follows, and a table
+ * behind the kinds of each width has the longest of each call, in milliseconds. No time is a failure; the last line is
+ * 'N passed, M failed', and a kind at a size passes if it could be made and each call on it gave the answer, and recover the links,
+ * expected.
  *
  * A time is the shortest of ROUNDS calls, each on the volume as it was made, less what reading the clock takes: what else the
- * machine does is left out. The calls themselves make the volumes, but for two made by hand, to which no list of calls leads:
- * erase and suggest accept any sound records, and search longest on these.
+ * machine does is left out. The calls themselves make the volumes, but for three made by hand, to which no list of calls leads:
+ * erase, suggest and recover accept any sound records, and search or follow longest on these.
  */
 #define _POSIX_C_SOURCE 200809L
 
@@ -23,9 +24,10 @@ enum call { FORMAT, LAUNCH, WRITE, WITHDRAW, ERASE, SUGGEST, RECOVER, COUNT, REA
 static const char *const names[CALLS] = {"format", "launch", "write", "withdraw", "erase", "suggest", "recover", "count", "read"};
 static const uint32_t sizes[SIZES] = {64, 128, 256, 512, 1024};
 
-/* A volume. Calls on it are given its last page, its last slot, and the list of the `listed` pages or slots from `first` up. */
+/* A volume. Calls on it are given its last page, its last slot, and the list of the `listed` pages or slots from `first` up;
+ * `links` has how many recover follows, where it is the call timed. */
 static struct volume {
-    uint32_t pages, slots, first, listed;
+    uint32_t pages, slots, first, listed, links;
     uint32_t words[BPCC_SLOT_WORDS * BPCC_MAX_SLOTS];
     uint8_t contents[BPCC_MAX_WIDTH * BPCC_MAX_SLOTS];
     uint32_t state[BPCC_PAGE_WORDS * BPCC_MAX_PAGES];
@@ -160,9 +162,21 @@ static void ring_but_one(uint32_t slots) {
 static void ring(uint32_t slots) {
     ring_but_one(slots);
     expect(BPCC_DONE, reply_of(WRITE));
+    v.links = v.pages * v.pages;
 }
 
-/* Page 0 or 1 is stored with each other page, so that all links but those of the last two sets are to older versions. */
+/* By hand: as many pages as there may be, in one ring, and no other record. */
+static void one_ring(uint32_t slots) {
+    uint32_t p;
+    format(slots, slots);
+    for (p = 0; p < v.pages; p++) {
+        set(p, p, 1, 0, (p + 1) % v.pages, 1);
+    }
+    v.links = v.pages * v.pages;
+}
+
+/* Page 0 or 1 is stored with each other page, so that all links but those of the last two sets are to older versions: from the four
+ * pages of these sets two links are followed, from any other one. */
 static void old_links(uint32_t slots) {
     uint32_t i, hub;
     format(slots, slots - 2);
@@ -175,6 +189,7 @@ static void old_links(uint32_t slots) {
         put(i, blank_slot());
         put(hub, blank_slot());
     }
+    v.links = v.pages + 4;
 }
 
 /* Versions of page 0, from the last slot but two down, all but the last abandoned; each straddles the link behind them, and is outdone by those before it. */
@@ -259,6 +274,7 @@ static const struct kind {
     {SUGGEST, BPCC_DONE, needed, "P = 2, S/2-2 needed records before their links"},
     {SUGGEST, BPCC_NOTHING_TO_ERASE, chain_needed, "P = S, by hand, S-1 needed records of one chain"},
     {RECOVER, BPCC_DONE, ring, "P = S/2, a ring of all, no slot blank"},
+    {RECOVER, BPCC_DONE, one_ring, "P = S, by hand, a ring of all, no other record"},
     {RECOVER, BPCC_DONE, old_links, "P = S-2, links to older versions"},
     {COUNT, BPCC_DONE, at_rest, "the bytes of a page"},
     {READ, BPCC_DONE, in_flight, "P = S, all in flight"},
@@ -292,12 +308,21 @@ static void print_times(const double *times) {
     for (s = 0; s < SIZES; s++) {
         printf(" %.5f", times[s]);
     }
-    printf("\n");
+}
+
+/* The links that recover follows on the volume made. */
+static uint32_t followed(void) {
+    uint32_t links;
+    v = made;
+    links = bpcc_second(reply_of(RECOVER));
+    wrong += links != made.links;
+    return links;
 }
 
 /* Times a kind at each size, counts it, and raises the longest times of its call. */
 static void measure(const struct kind *kind, double clock_time, double *longest) {
     double times[SIZES];
+    uint32_t links[SIZES];
     unsigned right = 0;
     int s;
     for (s = 0; s < SIZES; s++) {
@@ -306,12 +331,17 @@ static void measure(const struct kind *kind, double clock_time, double *longest)
         made = v;
         times[s] = shortest(kind->call, kind->answer) - clock_time;
         longest[s] = times[s] > longest[s] ? times[s] : longest[s];
+        links[s] = kind->call == RECOVER ? followed() : 0;
         right += wrong == 0;
     }
     passed += right;
     failed += SIZES - right;
     printf("%s  %s, %s:", right == SIZES ? "ok    " : "FAILED", names[kind->call], kind->what);
     print_times(times);
+    for (s = 0; kind->call == RECOVER && s < SIZES; s++) {
+        printf("%s %lu", s == 0 ? "; links" : "", (unsigned long)links[s]);
+    }
+    printf("\n");
 }
 
 /* Times every kind at a width, and prints the table of the longest. */
@@ -330,6 +360,7 @@ static void measure_all(uint32_t at, double clock_time) {
     for (i = 0; i < CALLS; i++) {
         printf("%s", names[i]);
         print_times(longest[i]);
+        printf("\n");
     }
 }
 

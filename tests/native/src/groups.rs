@@ -3,6 +3,7 @@
 pub mod calls;
 pub mod cases;
 pub mod impostors;
+pub mod links;
 pub mod models;
 pub mod runs;
 pub mod scripts;
@@ -13,9 +14,10 @@ use crate::harness::Group;
 pub type Tests = fn(&mut Group, u32);
 
 /// Every group by its name, in the order in which they run.
-pub const GROUPS: [(&str, Tests); 6] = [
+pub const GROUPS: [(&str, Tests); 7] = [
     ("cases", cases::tests),
     ("calls", calls::tests),
+    ("links", links::tests),
     ("runs", runs::tests),
     ("models", models::tests),
     ("scripts", scripts::tests),

@@ -185,6 +185,11 @@ pub fn lowest_slot(words: &[u32], page: u32, version: u32) -> Option<u32> {
     records(words).iter().find(|(_, r)| r.p == page && r.v == version).map(|&(k, _)| k)
 }
 
+/// Each page's highest record, or nothing where a page has no record.
+pub fn highest_records(pages: u32, table: &[(u32, Record)]) -> Option<Vec<Record>> {
+    (0..pages).map(|p| table.iter().map(|&(_, r)| r).filter(|r| r.p == p).max_by_key(|r| r.v)).collect()
+}
+
 /// How following the links from a page's highest record ends.
 pub enum End {
     Committed,
@@ -192,27 +197,34 @@ pub enum End {
     Astray,
 }
 
+/// The links followed from one start: the pages whose record's link is compared, in order, and how that ends.
+pub struct Walk {
+    pub compared: Vec<u32>,
+    pub end: End,
+}
+
 /// The three cases of recovery from one start; `highest` has each page's highest record.
-pub fn follow(table: &[(u32, Record)], highest: &[Record], start: u32) -> End {
-    let mut visited = vec![false; highest.len()];
+pub fn follow(table: &[(u32, Record)], highest: &[Record], start: u32) -> Walk {
+    let mut compared = Vec::new();
     let mut at = start;
-    loop {
-        visited[at as usize] = true;
+    let end = loop {
+        compared.push(at);
         let j = highest[at as usize];
         let hv = highest[j.np as usize].v;
         if j.nv < hv {
             let straddled = table.iter().any(|&(_, k)| k.straddles(j));
-            return if straddled { End::Uncommitted } else { End::Committed };
+            break if straddled { End::Uncommitted } else { End::Committed };
         }
         if j.nv > hv {
-            return End::Uncommitted;
+            break End::Uncommitted;
         }
         if j.np == start {
-            return End::Committed;
+            break End::Committed;
         }
-        if visited[j.np as usize] {
-            return End::Astray;
+        if compared.contains(&j.np) {
+            break End::Astray;
         }
         at = j.np;
-    }
+    };
+    Walk { compared, end }
 }

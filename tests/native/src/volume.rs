@@ -17,6 +17,11 @@ impl Sizes {
     }
 }
 
+/// The records of a ring: the listed pages at version 1, each linked to the next of the list, the last to the first.
+pub fn ring(list: &[u32]) -> Vec<[u32; SLOT_WORDS]> {
+    list.iter().zip(list.iter().cycle().skip(1)).map(|(&p, &np)| [p, 1, 0, np, 1]).collect()
+}
+
 /// A call of a run, with its arguments.
 #[derive(Clone, Debug)]
 pub enum Call {
@@ -66,6 +71,13 @@ impl Volume {
             v.contents[slot_bytes(sizes.width, k)].fill(k as u8);
         }
         v
+    }
+
+    /// The one-ring table, on which recovery follows P×P links, the most of all tables with P pages: slot p below P holds
+    /// (p, 1, 0, p + 1, 1), of the last page (p, 1, 0, 0, 1), the other slots are blank, and the state is lost.
+    pub fn one_ring(sizes: Sizes) -> Volume {
+        let pages: Vec<u32> = (0..sizes.pages).collect();
+        Volume::with_records(sizes, &ring(&pages))
     }
 
     /// The volume lent to a call, the call's own arguments left out.

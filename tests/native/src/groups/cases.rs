@@ -30,12 +30,12 @@ fn formatted_and(pages: u32, more: &[Five]) -> Vec<Five> {
     (0..pages).map(|i| [i, 0, 0, i, 0]).chain(more.iter().copied()).collect()
 }
 
-/// Recovers a table and gives the answer, the committed and the used versions.
-fn recovered(calls: &dyn Calls, width: u32, pages: u32, held: &[Five]) -> (u32, Vec<u32>, Vec<u32>) {
+/// Recovers a table and gives the reply, the committed and the used versions.
+fn recovered(calls: &dyn Calls, width: u32, pages: u32, held: &[Five]) -> (Reply, Vec<u32>, Vec<u32>) {
     let mut v = Volume::with_records(Sizes::new(pages, held.len() as u32 + 1, width), held);
-    let answer = v.call(calls, &Call::Recover).answer;
+    let reply = v.call(calls, &Call::Recover);
     let of = |field: &dyn Fn(Entry) -> u32| (0..pages).map(|p| field(entry(&v.state, p))).collect();
-    (answer, of(&|e| e.committed), of(&|e| e.used))
+    (reply, of(&|e| e.committed), of(&|e| e.used))
 }
 
 /// Case 4's table.
@@ -43,20 +43,20 @@ fn case_4() -> Vec<Five> {
     formatted_and(3, &[[0, 1, 0, 1, 1], [1, 2, 0, 2, 1], [2, 1, 0, 1, 2]])
 }
 
-/// Cases 1 to 5 and 11: what recovery finds.
+/// Cases 1 to 5 and 11: what recovery finds, and the links that it follows from page 0, from page 1 and so on.
 fn recoveries(calls: &dyn Calls, width: u32) {
     let found = |pages: u32, held: &[Five]| recovered(calls, width, pages, held);
     let two = [[0, 1, 0, 1, 1]];
     let three = [two[0], [1, 1, 0, 0, 1]];
     let five = [[0, 1, 0, 1, 1], [1, 2, 1, 2, 1], [2, 1, 0, 1, 2]];
     let eleven = [two[0], [1, 1, 0, 0, 2]];
-    assert_eq!(found(1, &formatted_and(1, &[])), (0, vec![0], vec![0]), "case 1");
-    assert_eq!(found(2, &formatted_and(2, &two)), (0, vec![0, 0], vec![1, 1]), "case 2");
-    assert_eq!(found(2, &formatted_and(2, &three)), (0, vec![1, 1], vec![1, 1]), "case 3");
-    assert_eq!(found(3, &case_4()), (0, vec![0, 2, 1], vec![1, 2, 1]), "case 4");
-    assert_eq!(found(3, &five), (0, vec![1, 2, 1], vec![1, 2, 1]), "case 5");
-    assert_eq!(found(3, &formatted_and(3, &five)), (0, vec![1, 2, 1], vec![1, 2, 1]), "case 5 with F");
-    assert_eq!(found(2, &formatted_and(2, &eleven)), (0, vec![0, 0], vec![2, 1]), "case 11");
+    assert_eq!(found(1, &formatted_and(1, &[])), (Reply::done(1), vec![0], vec![0]), "case 1");
+    assert_eq!(found(2, &formatted_and(2, &two)), (Reply::done(1 + 1), vec![0, 0], vec![1, 1]), "case 2");
+    assert_eq!(found(2, &formatted_and(2, &three)), (Reply::done(2 + 2), vec![1, 1], vec![1, 1]), "case 3");
+    assert_eq!(found(3, &case_4()), (Reply::done(1 + 2 + 2), vec![0, 2, 1], vec![1, 2, 1]), "case 4");
+    assert_eq!(found(3, &five), (Reply::done(1 + 2 + 2), vec![1, 2, 1], vec![1, 2, 1]), "case 5");
+    assert_eq!(found(3, &formatted_and(3, &five)), (Reply::done(1 + 2 + 2), vec![1, 2, 1], vec![1, 2, 1]), "case 5 with F");
+    assert_eq!(found(2, &formatted_and(2, &eleven)), (Reply::done(2 + 1), vec![0, 0], vec![2, 1]), "case 11");
 }
 
 /// Cases 9 and 10: what recovery refuses, its state untouched.

@@ -2,7 +2,10 @@
 
 use super::reference::{at_any_width, refusal, Reference};
 use crate::interface::{Arguments, Calls, Name, Reply, NONE};
-use crate::rules::{cycle, entry, lowest_slot, may_erase, planned, records, set_entry, set_slot, slot, slot_bytes, Entry, Record};
+use crate::rules::{
+    cycle, entry, follow, highest_records, lowest_slot, may_erase, planned, records, set_entry, set_slot, slot, slot_bytes, End, Entry,
+    Record, Walk,
+};
 use crate::volume::Volume;
 
 macro_rules! faults {
@@ -48,6 +51,10 @@ faults! {
     RecoverCallsABrokenRingUncommitted,
     RecoverStopsAtTheStartsPage,
     RecoverLooksAtTheLowestLaterVersion,
+    RecoverCountsNoReturn,
+    RecoverCountsNoUncommittedEnd,
+    RecoverCountsEachPageOnce,
+    RecoverCountsLinksWhereItRefuses,
     CountGivesZero,
     CountLooksAtOneBitOfEachByte,
     CountStopsAt256,
@@ -230,6 +237,24 @@ impl Impostor {
         }
     }
 
+    /// The links of all walks, less those that the fault leaves out.
+    fn links(&self, a: &Arguments) -> u32 {
+        let table = records(a.words);
+        let highest = highest_records(a.pages, &table).unwrap();
+        let last = |walk: &Walk| highest[walk.compared[walk.compared.len() - 1] as usize];
+        let returned = |walk: &Walk, start: u32| last(walk).np == start && last(walk).nv == highest[start as usize].v;
+        let counted = |start: u32| {
+            let walk = follow(&table, &highest, start);
+            let left_out = match self.0 {
+                Fault::RecoverCountsNoReturn => returned(&walk, start),
+                Fault::RecoverCountsNoUncommittedEnd => matches!(walk.end, End::Uncommitted),
+                _ => false,
+            };
+            walk.compared.len() as u32 - u32::from(left_out)
+        };
+        (0..a.pages).map(counted).sum()
+    }
+
     /// What the call says.
     fn reply(&self, name: Name, a: &Arguments, right: Reply) -> Reply {
         match (name, self.0) {
@@ -248,6 +273,8 @@ impl Impostor {
                 let later = (1..a.slots).find(|&k| may_erase(a.words, a.state, k));
                 later.map_or(Reply { answer: 13, second: NONE }, Reply::done)
             }
+            (Name::Recover, Fault::RecoverCountsNoReturn | Fault::RecoverCountsNoUncommittedEnd) => Reply::done(self.links(a)),
+            (Name::Recover, Fault::RecoverCountsEachPageOnce) => Reply::done(a.pages),
             (Name::Count, Fault::CountGivesZero) => Reply::done(0),
             (Name::Count, Fault::CountStopsAt256) => Reply::done(a.bytes[..32].iter().map(|b| b.count_ones()).sum()),
             (Name::Count, Fault::CountLooksAtOneBitOfEachByte) => Reply::done(a.bytes.iter().filter(|&&b| b & 1 == 1).count() as u32),
@@ -266,6 +293,7 @@ impl Impostor {
                 a.state[3] = 0;
                 right
             }
+            (Name::Recover, 4 | 14, Fault::RecoverCountsLinksWhereItRefuses) => Reply { second: self.links(a), ..right },
             _ => right,
         }
     }

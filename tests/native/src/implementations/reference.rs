@@ -2,8 +2,8 @@
 
 use crate::interface::{Arguments, Calls, Name, Reply, NONE, WIDTHS};
 use crate::rules::{
-    contents_fit, cycle, entry, follow, list_wrong, lowest_slot, may_erase, planned, records, set_entry, set_slot, sizes_fit, slot,
-    slot_bytes, state_fits, state_sound, table_sound, words_fit, End, Entry, Record, LAST_VERSION,
+    contents_fit, cycle, entry, follow, highest_records, list_wrong, lowest_slot, may_erase, planned, records, set_entry, set_slot,
+    sizes_fit, slot, slot_bytes, state_fits, state_sound, table_sound, words_fit, End, Entry, Record, Walk, LAST_VERSION,
 };
 
 /// The second implementation.
@@ -152,25 +152,25 @@ fn suggest(a: &mut Arguments) -> Outcome {
     (0..a.slots).find(|&k| may_erase(a.words, a.state, k)).ok_or(13)
 }
 
+/// Gives "the number of links followed, summed over pages, one for each record whose link is compared".
 fn recover(a: &mut Arguments) -> Outcome {
     refuse(1, table_misfits(a))?;
     refuse(2, !table_sound(a.pages, a.words))?;
     let table = records(a.words);
     let twice = table.iter().any(|&(k, r)| table.iter().any(|&(l, q)| k < l && r.p == q.p && r.v == q.v));
-    let of_page = |p: u32| table.iter().map(|&(_, r)| r).filter(move |r| r.p == p);
-    refuse(3, twice || (0..a.pages).any(|p| of_page(p).next().is_none()))?;
-    let highest: Vec<Record> = (0..a.pages).map(|p| of_page(p).max_by_key(|r| r.v).unwrap()).collect();
-    let ends: Vec<End> = (0..a.pages).map(|p| follow(&table, &highest, p)).collect();
-    refuse(4, ends.iter().any(|end| matches!(end, End::Astray)))?;
-    let committed: Vec<u32> = ends.iter().zip(&highest).map(|(end, h)| if matches!(end, End::Committed) { h.v } else { h.c }).collect();
+    refuse(3, twice)?;
+    let highest = highest_records(a.pages, &table).ok_or(3u32)?;
+    let walks: Vec<Walk> = (0..a.pages).map(|p| follow(&table, &highest, p)).collect();
+    refuse(4, walks.iter().any(|w| matches!(w.end, End::Astray)))?;
+    let committed: Vec<u32> = walks.iter().zip(&highest).map(|(w, h)| if matches!(w.end, End::Committed) { h.v } else { h.c }).collect();
     refuse(14, (0..a.pages).any(|p| lowest_slot(a.words, p, committed[p as usize]).is_none()))?;
     for p in 0..a.pages {
-        let own = of_page(p).map(|r| r.v);
+        let own = table.iter().filter(|(_, r)| r.p == p).map(|(_, r)| r.v);
         let linked = table.iter().filter(|(_, r)| r.np == p).map(|(_, r)| r.nv);
         let used = own.chain(linked).max().unwrap();
         set_entry(a.state, p, Entry { committed: committed[p as usize], used, next: NONE, written: 0 });
     }
-    Ok(0)
+    Ok(walks.iter().map(|w| w.compared.len() as u32).sum())
 }
 
 /// Of 32 or 64 bytes: "stop s … is bit s mod 8 of byte s div 8, lowest bit first; 1 means drawn."

@@ -146,7 +146,7 @@ pub fn compare_largest(compared: &Compared, width: u32) {
             assert_eq!(reply, Reply::done(u32::from(i + 1 == list.len())));
         }
         assert_eq!(v.suggest(compared).answer, 0);
-        assert_eq!(v.clone().call(compared, &Call::Recover).answer, 0);
+        assert_eq!(v.clone().call(compared, &Call::Recover), Reply::done(pages * pages));
     }
     let obsolete: Vec<u32> = (0..2 * pages).collect();
     assert_eq!(v.call(compared, &Call::Erase(obsolete)).answer, 0);

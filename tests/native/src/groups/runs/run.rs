@@ -90,7 +90,7 @@ impl Run<'_> {
             self.ledger.called(&call, reply.answer);
             if reply.answer == 0 {
                 self.tally.accepted += 1;
-                self.tally.completed += u64::from(reply.second == 1);
+                self.tally.completed += u64::from(matches!(call, Call::Write { .. }) && reply.second == 1);
                 self.lost &= !matches!(call, Call::Recover);
             } else {
                 self.tally.refused += 1;
