@@ -36,7 +36,7 @@ extern "C" {
 /* The interface's version: the major number rises where a caller must change, the minor where something is added, made
  * stricter, or costs otherwise (docs/CHANGES.md). */
 #define BPCC_VERSION_MAJOR 2
-#define BPCC_VERSION_MINOR 0
+#define BPCC_VERSION_MINOR 1
 
 /* The two widths: bytes of contents for each slot, and the length of what is written and read. */
 #define BPCC_WIDTH_32 32
@@ -105,7 +105,7 @@ static inline const char *bpcc_answer_text(uint32_t answer) {
     }
 }
 
-/* The second number: done of a write, the slot of a suggest, the set bits of a count; else 0. */
+/* The second number: done of a write, the slot of a suggest, the links of a recover, the set bits of a count; else 0. */
 static inline uint32_t bpcc_second(uint64_t reply) {
     return (uint32_t)(reply >> 32);
 }
@@ -173,7 +173,9 @@ uint64_t bpcc_suggest(uint32_t pages, uint32_t slots, uint32_t width,
 /*
  * Fills the state from the slot table alone; the old state may hold anything. Each page gets the version last committed, the
  * highest version that any record gives it or links to as used, not in flight, written 0. The first call after power-up.
- * Refuses: 1, 2, 3, 4, 14.
+ * The second number is the number of links followed, summed over the pages as starts: one for each record whose link is compared,
+ * the link that decides and the return to the start included. It is at most P*P, which one set of all pages reaches.
+ * Refuses: 1, 2, 3, 4, 14. Uses less than 3.2 KB of stack.
  */
 uint64_t bpcc_recover(uint32_t pages, uint32_t slots, uint32_t width,
                       const uint32_t *words, size_t words_length,

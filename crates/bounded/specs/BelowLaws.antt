@@ -179,12 +179,21 @@ unfolding sumBelow
 sum-cong zero h = refl
 sum-cong (suc n) h = ap₂ _+_ (sum-cong n (λ k l. h k (omega arith))) (h n (omega arith))
 
--- a sum of n numbers, each at most b; and each b
+-- a sum of n numbers, each at most b; each at least b; and each b
 pub sum-most : (n b : ℕ) {f : ℕ → ℕ} → ((k : ℕ) → k < n → f k ≤ b) → sumBelow n f ≤ b * n
 unfolding sumBelow
 sum-most zero b h = omega arith
 sum-most (suc n) b h =
     let i = sum-most n b (λ k l. h k (omega arith)) in
+    let j = h n (omega arith) in
+    let m = mul-suc b n in
+    omega arith
+
+pub sum-least : (n b : ℕ) (f : ℕ → ℕ) → ((k : ℕ) → k < n → b ≤ f k) → b * n ≤ sumBelow n f
+unfolding sumBelow
+sum-least zero b f h = let m = mul-zero b in omega arith
+sum-least (suc n) b f h =
+    let i = sum-least n b f (λ k l. h k (omega arith)) in
     let j = h n (omega arith) in
     let m = mul-suc b n in
     omega arith

@@ -56,13 +56,13 @@ module _ (v : ℕ → Verdict) (start : ℕ) where
       }
 
   -- a walk that has ended is not astray
-  not-astray : {q : ℕ} {e : End} → EndsAt v start q e → ¬ (e ≡ ends.Astray)
+  pub not-astray : {q : ℕ} {e : End} → EndsAt v start q e → ¬ (e ≡ ends.Astray)
   not-astray (committed f) a = let z : _≡_ {A = ℕ} 0 1 = cc in omega arith
   not-astray (uncommitted f) a = let z : _≡_ {A = ℕ} 0 1 = cc in omega arith
   not-astray (back f) a = let z : _≡_ {A = ℕ} 0 1 = cc in omega arith
 
   module _ (P : ℕ) (inside : start < P) (closed : StaysInside P v) where
-    led-into-ring : {q : ℕ} → Leads v start P q → RunsIntoRing
+    pub led-into-ring : {q : ℕ} → Leads v start P q → RunsIntoRing
     led-into-ring {q} l = ring-of P (λ k r m. led-inside inside closed m) q l
 
     -- Answer 4's condition is exactly document 01's sentence.

@@ -1,4 +1,5 @@
--- The links that are followed: at most P from each of P pages; each step of a walk is one; a ring of k pages gives k from each of its pages.
+-- The links that are followed: at most P from each of P pages; each step of a walk is one, and no walk that ends has more; a ring of k pages gives k from each
+-- of its pages; a walk's end does not depend on the count.
 -- Over any table of verdicts: it serves every family of records.
 use Prim.Native.Nat.{ℕ, zero, suc, _+_, _*_, _-_, _≤_, _<_}
 use native.Mathlib.Omega.{arith}
@@ -7,17 +8,18 @@ use mathlib.Core.Bool.{cond}
 use lib.Dec.{eqb}
 use borrow.Author.Tests.{eq-eqb, ne-eqb}
 use Rattle.bounded.specs.Below.{sumBelow}
-use Rattle.bounded.specs.BelowLaws.{sum-cong, sum-most, sum-same}
-use Rattle.bounded.specs.Choice.{on-lt}
+use Rattle.bounded.specs.BelowLaws.{sum-cong, sum-most, sum-least, sum-same}
+use Rattle.bounded.specs.Choice.{on-lt, on-test}
 use Rattle.bounded.specs.Pigeonhole.{pigeonhole}
 use Rattle.follow.specs.declared.Verdict.{Verdict}
 use Rattle.follow.specs.declared.Verdict.the-variants as says
+use Rattle.follow.specs.declared.End.{End}
 use Rattle.follow.specs.declared.End.the-variants as ends
 use Rattle.follow.specs.declared.Walk.{Walk}
-use Rattle.follow.specs.Follow.{followFrom, follow, linksFollowed, StaysInside}
-use Rattle.follow.specs.Steps.{Leads, here, onward, back, Walked, Ring, nextInRing}
+use Rattle.follow.specs.Follow.{endsHere, oneMore, link, followFrom, follow, linksFollowed, StaysInside}
+use Rattle.follow.specs.Steps.{Leads, here, onward, back, Walked, Ring, nextInRing, linkEnd, endFrom}
 use Rattle.follow.specs.Course.{ended, astray, walk-ends, walk-astray, course, as-many}
-use Rattle.follow.specs.Astray.{enough-links-counted}
+use Rattle.follow.specs.Astray.{ring-astray, not-astray, led-into-ring}
 
 -- ---- the bound
 
@@ -35,34 +37,64 @@ followed-most P v = sum-most P P (λ p h. links-most v p P)
 
 -- ---- each step is one
 
-module _ (P : ℕ) (v : ℕ → Verdict) (start : ℕ) (sure : ¬ (follow P v start .end ≡ ends.Astray)) where
-  -- a walk that is not astray has so many links as it says,
-  pub links-walked : Walked v start (follow P v start .links)
-  unfolding follow
-  links-walked =
-      elim (course v start P) [
-        | ended {k = k} {q = q} {e = e} l h x ↦
-            record { before = k; page = q; end = e; leads = l; decides = x; counted = ap (λ (w : Walk). w .links) (walk-ends l h x) }
-        | astray l ↦ absurd (sure (rw (walk-astray l)))
-      ]
+-- a walk that is not astray has its end and so many links as it says,
+pub links-walked : (P : ℕ) (v : ℕ → Verdict) (start : ℕ) → ¬ (follow P v start .end ≡ ends.Astray) → Walked v start (follow P v start .end) (follow P v start .links)
+unfolding follow
+links-walked P v start sure =
+    elim (course v start P) [
+      | ended {k = k} {q = q} l h x ↦
+          subst (λ (w : Walk). Walked v start (w .end) (w .links)) (sym (walk-ends l h x)) (record { before = k; page = q; leads = l; decides = x; counted = refl })
+      | astray l ↦ absurd (sure (rw (walk-astray l)))
+    ]
 
-  -- and no other number
-  pub walked-links : start < P → StaysInside P v → (n : ℕ) → Walked v start n → follow P v start .links ≡ n
-  walked-links inside closed n w =
-      let N : ℕ = P + n in
-      let c = w .counted in
-      ap (λ (x : Walk). x .links) (sym (enough-links-counted v start P inside closed N (omega arith) sure) ∙ walk-ends (w .leads) (omega arith) (w .decides)) ∙ sym c
+-- and no other: a walk that ends is the one that is computed, so P links are enough for it.
+pub walked-exactly : (P : ℕ) (v : ℕ → Verdict) (start : ℕ) → start < P → StaysInside P v → (e : End) (n : ℕ) → Walked v start e n → follow P v start ≡ record { end = e; links = n }
+unfolding follow
+walked-exactly P v start inside closed e n w =
+    elim (course v start P) [
+      | ended l h x ↦ walk-ends l h x ∙ sym (walk-ends {n = P + n} l (omega arith) x) ∙ far
+      | astray {q} l ↦ absurd (not-astray v start (w .decides) (sym (ap (λ (x : Walk). x .end) far) ∙ ring-astray v start (led-into-ring v start P inside closed l) (P + n)))
+    ]
+  where
+    far : followFrom v start (P + n) start ≡ record { end = e; links = n }
+    far = let c = w .counted in walk-ends (w .leads) (omega arith) (w .decides) ∙ ap (λ (m : ℕ). record { end = e; links = m }) (sym c)
 
--- The number of links is the sum of any numbers that walks from the pages have.
+pub walked-most : (P : ℕ) (v : ℕ → Verdict) (start : ℕ) → start < P → StaysInside P v → (e : End) (n : ℕ) → Walked v start e n → n ≤ P
+unfolding follow
+walked-most P v start inside closed e n w =
+    let m = links-most v start P in
+    let i = ap (λ (x : Walk). x .links) (walked-exactly P v start inside closed e n w) in
+    omega arith
+
+-- From each of P pages at least one is followed.
+pub followed-least : (P : ℕ) (v : ℕ → Verdict) → ((p : ℕ) → p < P → ¬ (follow P v p .end ≡ ends.Astray)) → P ≤ linksFollowed P v
+unfolding linksFollowed
+followed-least P v sure =
+    let l = sum-least P 1 (λ p. follow P v p .links) (λ p h. let c = links-walked P v p (sure p h) .counted in omega arith) in
+    omega arith
+
+-- The number of links is the sum of those of any walks from the pages.
 pub followed-sum :
     (P : ℕ) (v : ℕ → Verdict)
     → StaysInside P v
-    → ((p : ℕ) → p < P → ¬ (follow P v p .end ≡ ends.Astray))
-    → (steps : ℕ → ℕ)
-    → ((p : ℕ) → p < P → Walked v p (steps p))
-    → linksFollowed P v ≡ sumBelow P steps
+    → (end : ℕ → End) (links : ℕ → ℕ)
+    → ((p : ℕ) → p < P → Walked v p (end p) (links p))
+    → linksFollowed P v ≡ sumBelow P links
 unfolding linksFollowed
-followed-sum P v closed sure steps walked = sum-cong P (λ p h. walked-links P v p (sure p h) h closed (steps p) (walked p h))
+followed-sum P v closed end links walked =
+    sum-cong P (λ p h. ap (λ (w : Walk). w .links) (walked-exactly P v p h closed (end p) (links p) (walked p h)))
+
+-- ---- the end, not counted
+
+pub end-alone : (v : ℕ → Verdict) (start n q : ℕ) → followFrom v start n q .end ≡ endFrom v start n q
+unfolding followFrom endFrom link linkEnd endsHere oneMore
+end-alone v start zero q = refl
+end-alone v start (suc n) q = by (v q) (λ r. end-alone v start n r)
+  where
+    by : (x : Verdict) → ((r : ℕ) → followFrom v start n r .end ≡ endFrom v start n r) → link start x (λ r. followFrom v start n r) .end ≡ linkEnd start x (λ r. endFrom v start n r)
+    by says.Committed rest = refl
+    by says.Uncommitted rest = refl
+    by (says.On r) rest = on-test (eqb r start) (λ e. rw e) (λ e. rw e (rest r))
 
 -- ---- rings
 

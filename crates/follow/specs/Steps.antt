@@ -1,6 +1,6 @@
--- A walk as its steps, apart from how it is computed: which page k links lead to, which link ends it, how many are followed; and pages in a ring.
--- Over any table of verdicts: no record is mentioned.
-use Prim.Native.Nat.{ℕ, suc, _+_, _<_}
+-- A walk as its steps, apart from how it is computed: which page k links lead to, which link ends it, how many are followed; pages in a ring; and the end of a
+-- walk, not counted. Over any table of verdicts: no record is mentioned.
+use Prim.Native.Nat.{ℕ, zero, suc, _+_, _<_}
 use mathlib.Core.Path.{_≡_}
 use mathlib.Core.Bool.{cond}
 use lib.Dec.{eqb}
@@ -20,11 +20,11 @@ pub data EndsAt (v : ℕ → Verdict) (start q : ℕ) : End → Type 0 where
   uncommitted : v q ≡ says.Uncommitted → EndsAt v start q ends.Uncommitted
   back : v q ≡ says.On start → EndsAt v start q ends.Committed
 
--- So many links are followed from the start: each before the last leads on past the start, and the last decides or is back at the start.
-pub record Walked (v : ℕ → Verdict) (start links : ℕ) : Type 0 where
+-- So many links are followed from the start, and this is the end: each before the last leads on to a page other than the start, and the last decides or is
+-- back at the start.
+pub record Walked (v : ℕ → Verdict) (start : ℕ) (end : End) (links : ℕ) : Type 0 where
   pub before : ℕ
   pub page : ℕ
-  pub end : End
   pub leads : Leads v start before page
   pub decides : EndsAt v start page end
   pub counted : links ≡ before + 1
@@ -35,6 +35,16 @@ pub record Ring (v : ℕ → Verdict) (k : ℕ) (page : ℕ → ℕ) : Type 0 wh
   pub closed : page k ≡ page 0
   pub apart : (i j : ℕ) → i < j → j < k → ¬ (page i ≡ page j)
 
--- the page behind page p where all P pages are in one ring: the next number, 0 behind the last
+-- the page after page p where all P pages are in one ring: the next number, 0 after the last
 unfoldable pub nextInRing : (P p : ℕ) → ℕ
 nextInRing P p = cond (eqb (suc p) P) 0 (suc p)
+
+-- where one link of a walk from `start` ends it, by its verdict, or where the walk goes on; and the whole walk, with n links at the most: nothing is counted
+unfoldable pub linkEnd : ℕ → Verdict → (ℕ → End) → End
+linkEnd start says.Committed rest = ends.Committed
+linkEnd start says.Uncommitted rest = ends.Uncommitted
+linkEnd start (says.On q) rest = cond (eqb q start) ends.Committed (rest q)
+
+unfoldable pub endFrom : (ℕ → Verdict) → (start n q : ℕ) → End
+endFrom v start zero q = ends.Astray
+endFrom v start (suc n) q = linkEnd start (v q) (λ r. endFrom v start n r)

@@ -1,43 +1,36 @@
 -- The links that recover returns: at most P×P, which the one-ring table reaches; the steps of the walks; apart from all else.
-use Prim.Native.Nat.{ℕ, suc, _*_, _≤_, _<_, max}
+use Prim.Native.Nat.{ℕ, suc, _≤_, _<_, max}
 use native.Mathlib.Omega.{arith}
 use native.Mathlib.Decide.{ℕ-discrete}
-use mathlib.Core.Path.{_≡_, refl, sym, ap, ap₂, _∙_}
+use mathlib.Core.Path.{_≡_, refl, ap, ap₂, _∙_}
 use mathlib.Core.Logic.{inl}
 use mathlib.Core.List.{List}
-use mathlib.Core.Bool.{Bool, true, false, cond, not, _&&_, _||_}
+use mathlib.Core.Bool.{Bool, true, false, cond}
 use lib.Dec.{eqb}
-use lib.ListN.{length}
 use borrow.Author.Tests.{eq-eqb, ne-eqb}
-use Rattle.bounded.specs.Limits.{Widths}
 use Rattle.bounded.specs.Below.{allBelow, someBelow}
-use Rattle.bounded.specs.BelowLaws.{all-of, some-none, some-not-at, max-bound}
+use Rattle.bounded.specs.BelowLaws.{all-of, some-none, some-not-at, sum-most, max-bound}
 use Rattle.bounded.specs.Choice.{on-eq, on-lt, never}
 use Rattle.outcome.specs.Outcome.{Outcome}
 use Rattle.outcome.specs.OutcomeLaws.{settled-answer}
-use Rattle.sizes.specs.declared.Sizes.{Sizes}
-use Rattle.sizes.specs.Sizes.{sizesOk, wordsFit, stateFits}
 use Rattle.sizes.specs.SizesLaws.{sizes-facts, words-fit-exactly, state-fits-exactly}
-use Rattle.record.specs.declared.Record.{Record}
 use Rattle.record.specs.declared.Slot.{Slot}
-use Rattle.record.specs.declared.Slot.the-variants.{Blank, Holds}
-use Rattle.record.specs.Slot.{slotAt, recordSound}
+use Rattle.record.specs.Slot.{slotAt}
 use Rattle.record.specs.SlotLaws.{sound-test}
-use Rattle.state.specs.State.{stateWords}
 use Rattle.state.specs.StateLaws.{stateWords-cong}
 use Rattle.state.specs.Change.{atRest}
-use Rattle.table.specs.Table.{tableSound, someClash, hasRecord, hasVersion, highest, versionIn, highestVersionOf, mentioned, usedOf}
+use Rattle.table.specs.Table.{tableSound, hasVersion, versionIn, highestVersionOf, mentioned, usedOf}
 use Rattle.table.specs.TableLaws.{has-version}
 use Rattle.table.specs.Used.{used-above-version}
 use Rattle.table.specs.OneEach.{length-oneEach, OneEach, words-one-each, each-sound, none-clash, all-have, highest-own}
 use Rattle.follow.specs.declared.Verdict.the-variants as says
 use Rattle.follow.specs.declared.End.the-variants as ends
 use Rattle.follow.specs.declared.Walk.{Walk}
-use Rattle.follow.specs.Follow.{follow, linksFollowed, isAstray}
+use Rattle.follow.specs.Follow.{follow, isAstray}
 use Rattle.follow.specs.Steps.{nextInRing}
-use Rattle.follow.specs.Links.{followed-most, links-walked, followed-sum, ring-most, ring-walk, one-ring-walk, one-ring-followed}
+use Rattle.follow.specs.Links.{followed-most, links-walked, walked-exactly, walked-most, followed-least, followed-sum, end-alone, ring-most, ring-walk, one-ring-walk, one-ring-followed}
 use Rattle.rules.specs.Verdict.{linkVerdict, slotVerdict, verdict}
-use Rattle.rules.specs.Recover.{walkOf, linksOf, backPointer, committedBy, committedOf, recovered, recoverAnswer, recoverOutcome}
+use Rattle.rules.specs.Recover.{walkOf, linksOf, committedBy, committedOf, recovered, recoverAnswer, recoverOutcome}
 use Rattle.rules.specs.Links.{ringRecord, oneRing, LinksAtMost, OneRingReaches, LinksAreSteps, LinksApart}
 use Rattle.rules.specs.laws.Accepted.{RecoverTests, recover-tests}
 use Rattle.rules.specs.laws.Recover.{verdict-inside, isAstray-exactly, recover-fills, recover-refused}
@@ -55,11 +48,14 @@ pub links-are-steps : LinksAreSteps
 unfolding walkOf linksOf follow
 links-are-steps =
     record {
-      walked = λ widths sizes words state e p h. links-walked (sizes .pages) (verdict (sizes .slots) (slotAt words)) p (not-astray (recover-tests widths sizes state words e) p h);
-      summed = λ widths sizes words state e steps walks.
-          let tests = recover-tests widths sizes state words e in
+      walked = λ P S t p sure. links-walked P (verdict S t) p sure;
+      exactly = λ P S t sound p n e h w. walked-exactly P (verdict S t) p h (verdict-inside S t P sound) e n w;
+      all-end = λ widths sizes words state e. not-astray (recover-tests widths sizes state words e);
+      summed = λ widths sizes words state e end links walks.
           ap (λ (o : Outcome (List ℕ)). o .second) (recover-fills widths sizes words state e)
-          ∙ followed-sum (sizes .pages) (verdict (sizes .slots) (slotAt words)) (verdict-inside (sizes .slots) (slotAt words) (sizes .pages) (tests .sound)) (not-astray tests) steps walks;
+          ∙ followed-sum (sizes .pages) (verdict (sizes .slots) (slotAt words)) (verdict-inside (sizes .slots) (slotAt words) (sizes .pages) (recover-tests widths sizes state words e .sound)) end links walks;
+      least = λ widths sizes words state e.
+          rw (recover-fills widths sizes words state e) (followed-least (sizes .pages) (verdict (sizes .slots) (slotAt words)) (not-astray (recover-tests widths sizes state words e)));
       refused = λ widths sizes words state n. ap (λ (o : Outcome (List ℕ)). o .second) (recover-refused widths sizes words state n);
       ring = λ P S t k page r inside i h. ring-walk r P i (ring-most r P inside) h;
     }
@@ -68,18 +64,24 @@ links-are-steps =
 
 pub links-at-most : LinksAtMost
 unfolding linksOf
-links-at-most widths sizes words state =
-    elim (ℕ-discrete (recoverAnswer widths sizes words state) 0) [
-      | yes e ↦ rw (recover-fills widths sizes words state e) (followed-most (sizes .pages) (verdict (sizes .slots) (slotAt words)))
-      | no n ↦ rw (recover-refused widths sizes words state n) (omega arith)
-    ]
+links-at-most =
+    record {
+      walks = λ P S t sound p n e h w. walked-most P (verdict S t) p h (verdict-inside S t P sound) e n w;
+      sums = λ P S t sound end links walks. sum-most P P (λ p h. walked-most P (verdict S t) p h (verdict-inside S t P sound) (end p) (links p) (walks p h));
+      returned = λ widths sizes words state.
+          elim (ℕ-discrete (recoverAnswer widths sizes words state) 0) [
+            | yes e ↦ rw (recover-fills widths sizes words state e) (followed-most (sizes .pages) (verdict (sizes .slots) (slotAt words)))
+            | no n ↦ rw (recover-refused widths sizes words state n) (omega arith)
+          ];
+    }
 
 -- ---- all else
 
 pub links-apart : LinksApart
-unfolding recoverOutcome
+unfolding recoverOutcome walkOf follow
 links-apart =
     record {
+      ends-alone = λ P S t p. end-alone (verdict S t) p P p;
       answer = λ widths sizes words state. settled-answer (recoverAnswer widths sizes words state) _ _ _ _;
       filled = λ widths sizes words state e. ap (λ (o : Outcome (List ℕ)). o .left) (recover-fills widths sizes words state e);
       unaltered = λ widths sizes words state n. ap (λ (o : Outcome (List ℕ)). o .left) (recover-refused widths sizes words state n);
