@@ -36,7 +36,7 @@ extern "C" {
 /* The interface's version: the major number rises where a caller must change, the minor where something is added, made
  * stricter, or costs otherwise (docs/CHANGES.md). */
 #define BPCC_VERSION_MAJOR 2
-#define BPCC_VERSION_MINOR 1
+#define BPCC_VERSION_MINOR 2
 
 /* The two widths: bytes of contents for each slot, and the length of what is written and read. */
 #define BPCC_WIDTH_32 32
@@ -101,6 +101,7 @@ static inline const char *bpcc_answer_text(uint32_t answer) {
     case BPCC_MAY_NOT_ERASE: return "slot may not be erased";
     case BPCC_NOTHING_TO_ERASE: return "nothing to erase";
     case BPCC_NO_COMMITTED_RECORD: return "no committed record";
+    case 16: return "a record would be buried";
     default: return "no answer of this library";
     }
 }

@@ -6,71 +6,8 @@
  */
 #include "bpcc.h"
 
-#include <stdio.h>
-#include <string.h>
-
-enum { PAGES = 2, SLOTS = 4 };
-
-/* The buffers that calls are lent, each a bit. */
-enum { WORDS = 1, CONTENTS = 2, STATE = 4, LIST = 8, BYTES = 16, OUT = 32 };
-
-/* The memory of every buffer, and a copy. */
-static struct {
-    uint32_t words[BPCC_SLOT_WORDS * SLOTS], state[BPCC_PAGE_WORDS * PAGES], list[1];
-    uint8_t contents[BPCC_MAX_WIDTH * SLOTS], bytes[BPCC_MAX_WIDTH], out[BPCC_MAX_WIDTH + 1];
-} memory, before;
-
-/* The width of the volume, and the width that calls are told. */
-static uint32_t width, told;
-
-/* The buffers as they are lent. */
-static uint32_t *words, *state, *list;
-static uint8_t *contents, *bytes, *out;
-static size_t words_length, state_length, list_length, contents_length, bytes_length, out_length;
-
-static unsigned passed, failed;
-
-/* Counts a check and names it where it fails. */
-static void check(int holds, const char *name) {
-    if (holds) {
-        passed++;
-    } else {
-        failed++;
-        printf("FAILED  %s\n", name);
-    }
-}
-
-/* A reply has this answer and this second number. */
-static void expect(uint64_t reply, uint32_t answer, uint32_t second, const char *name) {
-    check(bpcc_answer(reply) == answer, name);
-    check(bpcc_second(reply) == second, name);
-}
-
-/* Lends every buffer, the absent ones as NULL, 0. */
-static void lend(unsigned absent) {
-    words = absent & WORDS ? NULL : memory.words;
-    words_length = absent & WORDS ? 0 : BPCC_TABLE_WORDS(SLOTS);
-    contents = absent & CONTENTS ? NULL : memory.contents;
-    contents_length = absent & CONTENTS ? 0 : BPCC_CONTENTS_BYTES(SLOTS, width);
-    state = absent & STATE ? NULL : memory.state;
-    state_length = absent & STATE ? 0 : BPCC_STATE_WORDS(PAGES);
-    list = absent & LIST ? NULL : memory.list;
-    list_length = absent & LIST ? 0 : 1;
-    bytes = absent & BYTES ? NULL : memory.bytes;
-    bytes_length = absent & BYTES ? 0 : width;
-    out = absent & OUT ? NULL : memory.out;
-    out_length = absent & OUT ? 0 : width;
-}
-
-/* Copies the memory. */
-static void keep(void) {
-    memcpy(&before, &memory, sizeof memory);
-}
-
-/* The memory is as it was copied. */
-static void expect_kept(const char *name) {
-    check(memcmp(&memory, &before, sizeof memory) == 0, name);
-}
+#define TABLE_WORDS BPCC_TABLE_WORDS
+#include "sample.h"
 
 static uint64_t format(uint32_t slots) {
     return bpcc_format(PAGES, slots, told, words, words_length, contents, contents_length, state, state_length);
@@ -106,21 +43,10 @@ static uint64_t read(uint32_t page, size_t length) {
     return bpcc_read(PAGES, SLOTS, told, words, words_length, contents, contents_length, state, state_length, page, out, length);
 }
 
-/* A cut: the state is lost. */
-static void crash(void) {
-    memset(memory.state, 0xFF, sizeof memory.state);
-}
-
 /* A slot's five words. */
 static void expect_slot(uint32_t slot, uint32_t p, uint32_t v, uint32_t c, uint32_t np, uint32_t nv, const char *name) {
     const uint32_t *at = words + BPCC_SLOT_WORDS * slot;
     check(at[0] == p && at[1] == v && at[2] == c && at[3] == np && at[4] == nv, name);
-}
-
-/* A page's four words of the state. */
-static void expect_state(uint32_t page, uint32_t committed, uint32_t used, uint32_t next, uint32_t written, const char *name) {
-    const uint32_t *at = state + BPCC_PAGE_WORDS * page;
-    check(at[0] == committed && at[1] == used && at[2] == next && at[3] == written, name);
 }
 
 /* A page reads as bytes of one value, with so many set bits in each. */
@@ -232,13 +158,7 @@ static void links(void) {
 }
 
 /* The nine calls, and the buffers that each takes. */
-enum call { FORMAT, LAUNCH, WRITE, WITHDRAW, ERASE, SUGGEST, RECOVER, COUNT, READ };
-
-static const struct taking {
-    enum call call;
-    unsigned buffers;
-    const char *name;
-} calls[] = {
+static const struct taking calls[] = {
     {FORMAT, WORDS | CONTENTS | STATE, "format with NULL, 0 or another width"},
     {LAUNCH, STATE | LIST, "launch with NULL, 0 or another width"},
     {WRITE, WORDS | CONTENTS | STATE | BYTES, "write with NULL, 0 or another width"},
@@ -252,7 +172,6 @@ static const struct taking {
 
 enum { CALLS = sizeof calls / sizeof *calls };
 
-/* Makes a call that is done on the ready volume, where every buffer is there. */
 static uint64_t make(enum call call) {
     switch (call) {
     case FORMAT: return format(SLOTS);
@@ -280,44 +199,6 @@ static void ready(void) {
     keep();
 }
 
-/* A call refuses, leaving every buffer. */
-static void expect_refused(enum call call, uint32_t answer, const char *name) {
-    expect(make(call), answer, call == SUGGEST ? BPCC_NONE : 0, name);
-    expect_kept(name);
-}
-
-/* A call refuses NULL, 0 for every choice of the buffers that it takes, and is done where all are there. */
-static void nulls(const struct taking *t) {
-    unsigned absent;
-    ready();
-    for (absent = 1; absent <= t->buffers; absent++) {
-        if ((absent & t->buffers) == absent) {
-            lend(absent);
-            expect_refused(t->call, absent == LIST ? BPCC_WRONG_LIST : BPCC_WRONG_SIZE, t->name);
-        }
-    }
-    lend(0);
-    check(bpcc_answer(make(t->call)) == BPCC_DONE, t->name);
-}
-
-/* A call refuses every wrong width, and the other one exactly where it takes the contents. Count takes none. */
-static void widths(const struct taking *t) {
-    const uint32_t wrong[] = {0, 31, 33, 63, 65, 96, BPCC_NONE};
-    size_t i;
-    ready();
-    for (i = 0; t->call != COUNT && i < sizeof wrong / sizeof *wrong; i++) {
-        told = wrong[i];
-        expect_refused(t->call, BPCC_WRONG_SIZE, t->name);
-    }
-    told = BPCC_WIDTH_32 + BPCC_WIDTH_64 - width;
-    if (t->buffers & CONTENTS) {
-        expect_refused(t->call, BPCC_WRONG_SIZE, t->name);
-    } else {
-        check(bpcc_answer(make(t->call)) == BPCC_DONE, t->name);
-    }
-    told = width;
-}
-
 /* Count takes 32 and 64 bytes and no other number; all bits set are 256 and 512. */
 static void counts(void) {
     uint8_t all[96];
@@ -329,17 +210,21 @@ static void counts(void) {
     }
 }
 
-/* Every answer has a text of its own, and no other number has one. */
+/* Every answer, scc.h's 16 among them, has a text of its own, and no other number has one. */
 static void texts(void) {
-    const char *none = bpcc_answer_text(BPCC_NO_COMMITTED_RECORD + 1);
+    const uint32_t last = 16, no_answer[] = {BPCC_NO_COMMITTED_RECORD + 1, last + 1, BPCC_NONE};
+    const char *none = bpcc_answer_text(BPCC_NONE);
     uint32_t answer, other;
-    check(strcmp(none, bpcc_answer_text(BPCC_NONE)) == 0, "one text for numbers that are no answer");
-    for (answer = BPCC_DONE; answer <= BPCC_NO_COMMITTED_RECORD; answer++) {
+    size_t i;
+    for (i = 0; i < sizeof no_answer / sizeof *no_answer; i++) {
+        check(strcmp(none, bpcc_answer_text(no_answer[i])) == 0, "one text for numbers that are no answer");
+    }
+    for (answer = BPCC_DONE; answer <= last; answer++) {
         int own = strcmp(bpcc_answer_text(answer), none) != 0;
         for (other = BPCC_DONE; other < answer; other++) {
             own &= strcmp(bpcc_answer_text(answer), bpcc_answer_text(other)) != 0;
         }
-        check(own, "an answer's text");
+        check(own || answer == no_answer[0], "an answer's text");
     }
 }
 
@@ -362,6 +247,5 @@ int main(void) {
     at_width(BPCC_WIDTH_64);
     counts();
     texts();
-    printf("%u passed, %u failed\n", passed, failed);
-    return failed != 0;
+    return counted();
 }

@@ -1,17 +1,18 @@
 /*
  * The longest time of each call over S, the number of slots, at both widths. A call is made on kinds of volume that keep it busy,
- * at five sizes: a line for each kind says what it is and has its times, for recover also the links that it follows, and a table
- * behind the kinds of each width has the longest of each call, in milliseconds. No time is a failure; the last line is
+ * at five sizes: a line for each kind says what it is and has its times, for recover also the links that it follows. Behind the
+ * kinds of each width a table has the longest of each call of bpcc.h, in milliseconds, and one of its own the longest of those calls
+ * of scc.h that a table's records keep busy: its other calls do what bpcc.h's do. No time is a failure; the last line is
  * 'N passed, M failed', and a kind at a size passes if it could be made and each call on it gave the answer, and recover the links,
  * expected.
  *
  * A time is the shortest of ROUNDS calls, each on the volume as it was made, less what reading the clock takes: what else the
- * machine does is left out. The calls themselves make the volumes, but for three made by hand, to which no list of calls leads:
+ * machine does is left out. The calls themselves make the volumes, but for those made by hand, to which no list of calls leads:
  * erase, suggest and recover accept any sound records, and search or follow longest on these.
  */
 #define _POSIX_C_SOURCE 200809L
 
-#include "bpcc.h"
+#include "scc.h"
 
 #include <stdio.h>
 #include <stdlib.h>
@@ -19,9 +20,10 @@
 #include <time.h>
 
 enum { SIZES = 5, ROUNDS = 101 };
-enum call { FORMAT, LAUNCH, WRITE, WITHDRAW, ERASE, SUGGEST, RECOVER, COUNT, READ, CALLS };
+enum call { FORMAT, LAUNCH, WRITE, WITHDRAW, ERASE, SUGGEST, RECOVER, COUNT, READ, SCC_WRITE, SCC_ERASE, SCC_RECOVER, CALLS };
 
-static const char *const names[CALLS] = {"format", "launch", "write", "withdraw", "erase", "suggest", "recover", "count", "read"};
+static const char *const names[CALLS] = {"format",  "launch", "write", "withdraw",  "erase",     "suggest",
+                                         "recover", "count",  "read",  "scc_write", "scc_erase", "scc_recover"};
 static const uint32_t sizes[SIZES] = {64, 128, 256, 512, 1024};
 
 /* A volume. Calls on it are given its last page, its last slot, and the list of the `listed` pages or slots from `first` up;
@@ -34,24 +36,29 @@ static struct volume {
 } v, made;
 
 static uint32_t width; /* of all volumes at hand */
+static int four;       /* whether their records have four words: scc.h's calls are made on them */
 static uint32_t list[BPCC_MAX_SLOTS]; /* the numbers from 0 up */
 static uint8_t bytes[BPCC_MAX_WIDTH];
 static unsigned passed, failed, wrong; /* wrong: answers not expected, on the volume at hand */
 
+#define FAMILY(call, ...) (four ? scc_##call(__VA_ARGS__) : bpcc_##call(__VA_ARGS__))
 #define VOLUME v.pages, v.slots, width
-#define WORDS v.words, BPCC_TABLE_WORDS(v.slots)
+#define WORDS v.words, (four ? SCC_TABLE_WORDS(v.slots) : BPCC_TABLE_WORDS(v.slots))
 #define CONTENTS v.contents, BPCC_CONTENTS_BYTES(v.slots, width)
 #define STATE v.state, BPCC_STATE_WORDS(v.pages)
 
 static uint64_t reply_of(enum call call) {
     switch (call) {
-    case FORMAT: return bpcc_format(VOLUME, WORDS, CONTENTS, STATE);
-    case LAUNCH: return bpcc_launch(VOLUME, STATE, list + v.first, v.listed);
-    case WRITE: return bpcc_write(VOLUME, WORDS, CONTENTS, STATE, v.pages - 1, v.slots - 1, bytes, width);
+    case FORMAT: return FAMILY(format, VOLUME, WORDS, CONTENTS, STATE);
+    case LAUNCH: return FAMILY(launch, VOLUME, STATE, list + v.first, v.listed);
+    case WRITE:
+    case SCC_WRITE: return FAMILY(write, VOLUME, WORDS, CONTENTS, STATE, v.pages - 1, v.slots - 1, bytes, width);
     case WITHDRAW: return bpcc_withdraw(VOLUME, STATE, v.pages - 1);
-    case ERASE: return bpcc_erase(VOLUME, WORDS, CONTENTS, STATE, list + v.first, v.listed);
+    case ERASE:
+    case SCC_ERASE: return FAMILY(erase, VOLUME, WORDS, CONTENTS, STATE, list + v.first, v.listed);
     case SUGGEST: return bpcc_suggest(VOLUME, WORDS, STATE);
-    case RECOVER: return bpcc_recover(VOLUME, WORDS, STATE);
+    case RECOVER:
+    case SCC_RECOVER: return FAMILY(recover, VOLUME, WORDS, STATE);
     case COUNT: return bpcc_count(bytes, width);
     case READ: return bpcc_read(VOLUME, WORDS, CONTENTS, STATE, v.pages - 1, bytes, width);
     default: return BPCC_DONE; /* no call: what reading the clock takes */
@@ -73,12 +80,12 @@ static void format(uint32_t slots, uint32_t pages) {
 /* Launches a ring of two pages, or of one. */
 static void launch(uint32_t first, uint32_t second) {
     const uint32_t both[] = {first, second};
-    expect(BPCC_DONE, bpcc_launch(VOLUME, STATE, both, first == second ? 1 : 2));
+    expect(BPCC_DONE, FAMILY(launch, VOLUME, STATE, both, first == second ? 1 : 2));
 }
 
 /* Writes a page in flight. */
 static void put(uint32_t page, uint32_t slot) {
-    expect(BPCC_DONE, bpcc_write(VOLUME, WORDS, CONTENTS, STATE, page, slot, bytes, width));
+    expect(BPCC_DONE, FAMILY(write, VOLUME, WORDS, CONTENTS, STATE, page, slot, bytes, width));
 }
 
 /* A set of one page, stored. */
@@ -91,7 +98,7 @@ static void store(uint32_t page, uint32_t slot) {
 static void abandon(uint32_t page, uint32_t other, uint32_t slot) {
     launch(page, other);
     put(page, slot);
-    expect(BPCC_DONE, bpcc_withdraw(VOLUME, STATE, page));
+    expect(BPCC_DONE, FAMILY(withdraw, VOLUME, STATE, page));
 }
 
 /* Erases a slot. */
@@ -128,10 +135,14 @@ static uint32_t either(void) {
     return (uint32_t)rand() / 64 % 2;
 }
 
-/* By hand: a record of page p that links to page np. */
+/* By hand: a record of page p that links to page np; of four words it has no c. */
 static void set(uint32_t slot, uint32_t p, uint32_t version, uint32_t c, uint32_t np, uint32_t nv) {
-    const uint32_t record[] = {p, version, c, np, nv};
-    memcpy(v.words + BPCC_SLOT_WORDS * slot, record, sizeof record);
+    const uint32_t five_words[] = {p, version, c, np, nv}, four_words[] = {p, version, np, nv};
+    if (four) {
+        memcpy(v.words + SCC_SLOT_WORDS * slot, four_words, sizeof four_words);
+    } else {
+        memcpy(v.words + BPCC_SLOT_WORDS * slot, five_words, sizeof five_words);
+    }
 }
 
 /* As many pages as there may be, stored in rings of all of them until no slot is blank. */
@@ -163,6 +174,36 @@ static void ring(uint32_t slots) {
     ring_but_one(slots);
     expect(BPCC_DONE, reply_of(WRITE));
     v.links = v.pages * v.pages;
+}
+
+/* As many pages as can be stored in one ring, in rings of all of them, the last cut off before its last page: no page's highest version
+ * but that page's is committed. Of the page before it one link is followed, of each before that one more. */
+static void ring_cut_off(uint32_t slots) {
+    ring_but_one(slots);
+    v.links = v.pages * (v.pages - 1) / 2 + 1;
+}
+
+/* … and of the last page alone the next version launched: the record that links to it would be buried. */
+static void ring_given_up(uint32_t slots) {
+    ring_but_one(slots);
+    expect(BPCC_DONE, FAMILY(withdraw, VOLUME, STATE, 0));
+    launch(v.pages - 1, v.pages - 1);
+}
+
+/* Versions of one page, all stored; those before the last are listed. */
+static void versions_behind(uint32_t slots) {
+    uint32_t slot;
+    format(slots, 1);
+    for (slot = 1; slot < slots; slot++) {
+        store(0, slot);
+    }
+    v.listed = slots - 1;
+}
+
+/* As many pages as can be stored in one ring, in rings of all of them; those before the last are listed. */
+static void rings_behind(uint32_t slots) {
+    ring(slots);
+    v.listed = slots - v.pages;
 }
 
 /* By hand: as many pages as there may be, in one ring, and no other record. */
@@ -278,6 +319,14 @@ static const struct kind {
     {RECOVER, BPCC_DONE, old_links, "P = S-2, links to older versions"},
     {COUNT, BPCC_DONE, at_rest, "the bytes of a page"},
     {READ, BPCC_DONE, in_flight, "P = S, all in flight"},
+    {SCC_WRITE, BPCC_DONE, ring_but_one, "P = S/2, the last page of a ring of all"},
+    {SCC_WRITE, BPCC_DONE, one_blank, "P = S-1, the first page of a ring of all"},
+    {SCC_WRITE, SCC_WOULD_BURY, ring_given_up, "P = S/2, a page to which the last slot but one links"},
+    {SCC_ERASE, BPCC_DONE, rings_behind, "P = S/2, the rings of all before the last"},
+    {SCC_ERASE, BPCC_DONE, versions_behind, "P = 1, S-1 versions before the last"},
+    {SCC_RECOVER, BPCC_DONE, ring, "P = S/2, a ring of all, no slot blank"},
+    {SCC_RECOVER, BPCC_DONE, one_ring, "P = S, by hand, a ring of all, no other record"},
+    {SCC_RECOVER, BPCC_DONE, ring_cut_off, "P = S/2, a ring of all but its last page"},
 };
 
 static double milliseconds(void) {
@@ -310,11 +359,11 @@ static void print_times(const double *times) {
     }
 }
 
-/* The links that recover follows on the volume made. */
-static uint32_t followed(void) {
+/* The links that a recover follows on the volume made. */
+static uint32_t followed(enum call recover) {
     uint32_t links;
     v = made;
-    links = bpcc_second(reply_of(RECOVER));
+    links = bpcc_second(reply_of(recover));
     wrong += links != made.links;
     return links;
 }
@@ -324,27 +373,42 @@ static void measure(const struct kind *kind, double clock_time, double *longest)
     double times[SIZES];
     uint32_t links[SIZES];
     unsigned right = 0;
-    int s;
+    int s, recovers = kind->call == RECOVER || kind->call == SCC_RECOVER;
+    four = kind->call >= SCC_WRITE;
     for (s = 0; s < SIZES; s++) {
         wrong = 0;
         kind->make(sizes[s]);
         made = v;
         times[s] = shortest(kind->call, kind->answer) - clock_time;
         longest[s] = times[s] > longest[s] ? times[s] : longest[s];
-        links[s] = kind->call == RECOVER ? followed() : 0;
+        links[s] = recovers ? followed(kind->call) : 0;
         right += wrong == 0;
     }
     passed += right;
     failed += SIZES - right;
     printf("%s  %s, %s:", right == SIZES ? "ok    " : "FAILED", names[kind->call], kind->what);
     print_times(times);
-    for (s = 0; kind->call == RECOVER && s < SIZES; s++) {
+    for (s = 0; recovers && s < SIZES; s++) {
         printf("%s %lu", s == 0 ? "; links" : "", (unsigned long)links[s]);
     }
     printf("\n");
 }
 
-/* Times every kind at a width, and prints the table of the longest. */
+/* The longest times of the calls from `first` up to before `end`, as a table. */
+static void print_table(const char *title, double longest[CALLS][SIZES], int first, int end) {
+    int i;
+    printf("# %swidth %lu\nslots", title, (unsigned long)width);
+    for (i = 0; i < SIZES; i++) {
+        printf(" %lu%s", (unsigned long)sizes[i], i + 1 < SIZES ? "" : "\n");
+    }
+    for (i = first; i < end; i++) {
+        printf("%s", names[i]);
+        print_times(longest[i]);
+        printf("\n");
+    }
+}
+
+/* Times every kind at a width, and prints the tables of the longest. */
 static void measure_all(uint32_t at, double clock_time) {
     double longest[CALLS][SIZES] = {{0}};
     size_t i;
@@ -353,15 +417,8 @@ static void measure_all(uint32_t at, double clock_time) {
     for (i = 0; i < sizeof kinds / sizeof *kinds; i++) {
         measure(&kinds[i], clock_time, longest[kinds[i].call]);
     }
-    printf("# width %lu\nslots", (unsigned long)width);
-    for (i = 0; i < SIZES; i++) {
-        printf(" %lu%s", (unsigned long)sizes[i], i + 1 < SIZES ? "" : "\n");
-    }
-    for (i = 0; i < CALLS; i++) {
-        printf("%s", names[i]);
-        print_times(longest[i]);
-        printf("\n");
-    }
+    print_table("", longest, FORMAT, SCC_WRITE);
+    print_table("scc.h, ", longest, SCC_WRITE, CALLS);
 }
 
 int main(int argc, char **argv) {

@@ -1,4 +1,4 @@
--- A call of a run with its arguments; what it gives and leaves, by the outcome definitions that the calls' contracts cite; and its stages on the flash.
+-- A call of a run with its arguments; what it gives and leaves, by the outcome definitions that the calls' contracts cite, for any family of records; and its stages on the flash.
 use Prim.Native.Nat.{ℕ}
 use mathlib.Core.List.{List, [], _∷_}
 use mathlib.Core.Bool.{cond}
@@ -10,10 +10,9 @@ use Rattle.record.specs.Flash.{Flash, Step}
 use Rattle.state.specs.State.{stateAt}
 use Rattle.rules.specs.Volume.{Volume}
 use Rattle.rules.specs.Launch.{launchOutcome}
-use Rattle.rules.specs.Write.{writeStep, writeOutcome}
 use Rattle.rules.specs.Withdraw.{withdrawOutcome}
-use Rattle.rules.specs.Erase.{eraseSteps, eraseOutcome}
-use Rattle.rules.specs.Recover.{recoverOutcome}
+use Rattle.rules.specs.Erase.{eraseSteps}
+use Rattle.atomicity.specs.Family.{Family}
 
 -- "It holds launch, write, withdraw, erase and recover, with any pages, slots, lists and bytes"
 pub data Call : Type 0 where
@@ -30,23 +29,23 @@ withState v o = record { answer = o .answer; second = o .second; left = record {
 unfoldable pub withFlash : Volume → Outcome Flash → Outcome Volume
 withFlash v o = record { answer = o .answer; second = o .second; left = record { flash = o .left; state = v .state } }
 
--- what the call gives and leaves of the volume
-unfoldable pub perform : Widths → Sizes → Volume → Call → Outcome Volume
-perform widths sizes v (Launch pages) = withState v (launchOutcome widths sizes (v .state) pages)
-perform widths sizes v (Write page slot bytes) = writeOutcome widths sizes v page slot bytes
-perform widths sizes v (Withdraw page) = withState v (withdrawOutcome widths sizes (v .state) page)
-perform widths sizes v (Erase slots) = withFlash v (eraseOutcome widths sizes v slots)
-perform widths sizes v Recover = withState v (recoverOutcome widths sizes (v .flash .words) (v .state))
+-- what the call gives and leaves of the volume, by its family
+unfoldable pub perform : Family → Widths → Sizes → Volume → Call → Outcome Volume
+perform F widths sizes v (Launch pages) = withState v (launchOutcome widths sizes (v .state) pages)
+perform F widths sizes v (Write page slot bytes) = F .write widths sizes v page slot bytes
+perform F widths sizes v (Withdraw page) = withState v (withdrawOutcome widths sizes (v .state) page)
+perform F widths sizes v (Erase slots) = withFlash v (F .erase widths sizes v slots)
+perform F widths sizes v Recover = withState v (F .recover widths sizes (v .flash .words) (v .state))
 
 -- What the call does to the flash, were it accepted: stages, one after the other, each of single steps. They are fixed before the call.
 -- A write is one stage with its one step, an erase one stage with a step for each listed slot; every other call alters no flash.
-unfoldable pub plannedStages : Volume → Call → List (List Step)
-plannedStages v (Launch pages) = []
-plannedStages v (Write page slot bytes) = (writeStep (stateAt (v .state)) page slot bytes ∷ []) ∷ []
-plannedStages v (Withdraw page) = []
-plannedStages v (Erase slots) = eraseSteps slots ∷ []
-plannedStages v Recover = []
+unfoldable pub plannedStages : Family → Volume → Call → List (List Step)
+plannedStages F v (Launch pages) = []
+plannedStages F v (Write page slot bytes) = (Step.Store slot (F .plan (stateAt (v .state)) page) bytes ∷ []) ∷ []
+plannedStages F v (Withdraw page) = []
+plannedStages F v (Erase slots) = eraseSteps slots ∷ []
+plannedStages F v Recover = []
 
 -- the stages that the call does: none where it is refused
-unfoldable pub flashStages : Widths → Sizes → Volume → Call → List (List Step)
-flashStages widths sizes v call = cond (eqb (perform widths sizes v call .answer) 0) (plannedStages v call) []
+unfoldable pub flashStages : Family → Widths → Sizes → Volume → Call → List (List Step)
+flashStages F widths sizes v call = cond (eqb (perform F widths sizes v call .answer) 0) (plannedStages F v call) []

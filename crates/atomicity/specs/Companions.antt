@@ -7,14 +7,13 @@ use lib.ListN.{length}
 use Rattle.bounded.specs.Limits.{Widths}
 use Rattle.sizes.specs.declared.Sizes.{Sizes}
 use Rattle.record.specs.declared.Slot.the-variants.{Holds}
-use Rattle.record.specs.Slot.{slotAt}
-use Rattle.record.specs.Flash.{Step, applyAll}
+use Rattle.record.specs.Slot.{slotIn}
+use Rattle.record.specs.Flash.{Step, applyAllIn}
 use Rattle.state.specs.State.{stateAt, inFlight}
 use Rattle.table.specs.Table.{mentioned, usedOf}
 use Rattle.rules.specs.Volume.{Volume}
-use Rattle.rules.specs.laws.Volume.{Fits}
-use Rattle.rules.specs.Write.{planOf}
-use Rattle.rules.specs.Recover.{committedOf}
+use Rattle.rules.specs.laws.Volume.{FitsIn}
+use Rattle.atomicity.specs.Family.{Family}
 use Rattle.atomicity.specs.Call.{Call, perform, flashStages}
 use Rattle.atomicity.specs.Run.{Event, doneOf, cutShort, wasDone, started, after}
 use Rattle.atomicity.specs.Promise.{Premises}
@@ -22,47 +21,47 @@ use Rattle.atomicity.specs.Promise.{Premises}
 -- ---- the paper's InvComm and InvUsed
 
 -- recovery on the flash of this volume would find the state's committed versions, and used versions not above the state's
-pub record Agrees (P S : ℕ) (v : Volume) : Type 0 where
-  pub same-committed : (p : ℕ) → p < P → committedOf P S (slotAt (v .flash .words)) p ≡ stateAt (v .state) p .committed
-  pub used-covers : (p : ℕ) → p < P → usedOf S (slotAt (v .flash .words)) p ≤ stateAt (v .state) p .used
+pub record Agrees (F : Family) (P S : ℕ) (v : Volume) : Type 0 where
+  pub same-committed : (p : ℕ) → p < P → F .committed P S (slotIn (F .layout) (v .flash .words)) p ≡ stateAt (v .state) p .committed
+  pub used-covers : (p : ℕ) → p < P → usedOf S (slotIn (F .layout) (v .flash .words)) p ≤ stateAt (v .state) p .used
   -- … nor does the record planned for a page q in flight mention one above them
   pub planned-covers :
-      (q : ℕ) → q < P → inFlight (stateAt (v .state) q) ≡ true → (p : ℕ) → p < P → mentioned p (Holds (planOf (stateAt (v .state)) q)) ≤ stateAt (v .state) p .used
+      (q : ℕ) → q < P → inFlight (stateAt (v .state) q) ≡ true → (p : ℕ) → p < P → mentioned p (Holds (F .plan (stateAt (v .state)) q)) ≤ stateAt (v .state) p .used
 
 -- after every list under the premises that leaves the state known
-abbrev pub StatesAgree : Type 0
-StatesAgree =
+abbrev pub StatesAgree : Family → Type 0
+StatesAgree F =
     (widths : Widths) (sizes : Sizes) (v : Volume) (events : List Event)
-    → Premises widths sizes v events
-    → after widths sizes (started widths sizes v) events .lost ≡ false
-    → Agrees (sizes .pages) (sizes .slots) (after widths sizes (started widths sizes v) events .volume)
+    → Premises F widths sizes v events
+    → after F widths sizes (started F widths sizes v) events .lost ≡ false
+    → Agrees F (sizes .pages) (sizes .slots) (after F widths sizes (started F widths sizes v) events .volume)
 
 -- ---- the premises are met
 
 -- a list of events under the premises, with one more event behind it
-abbrev pub MayFollow : Widths → Sizes → Volume → List Event → Event → Type 0
-MayFollow widths sizes v events e = Premises widths sizes v (events ++ e ∷ [])
+abbrev pub MayFollow : Family → Widths → Sizes → Volume → List Event → Event → Type 0
+MayFollow F widths sizes v events e = Premises F widths sizes v (events ++ e ∷ [])
 
 -- the state is known after the list
-abbrev pub StateKnown : Widths → Sizes → Volume → List Event → Type 0
-StateKnown widths sizes v events = after widths sizes (started widths sizes v) events .lost ≡ false
+abbrev pub StateKnown : Family → Widths → Sizes → Volume → List Event → Type 0
+StateKnown F widths sizes v events = after F widths sizes (started F widths sizes v) events .lost ≡ false
 
 -- The premises are met: by every volume whose P, S, width and lengths are right, before any event; by every list of calls that return; and a list that meets them
 -- still does with a crash behind it, with a recover, returned or crashed, and, where the state is known, with any call, returned or crashed.
-pub record PremisesMet : Type 0 where
-  pub at-first : (widths : Widths) (sizes : Sizes) (v : Volume) → Fits widths sizes v → Premises widths sizes v []
-  pub calls : (widths : Widths) (sizes : Sizes) (v : Volume) → Fits widths sizes v → (list : List Call) → Premises widths sizes v (map Event.Returns list)
-  pub crash : (widths : Widths) (sizes : Sizes) (v : Volume) (events : List Event) → Premises widths sizes v events → (state : List ℕ) → length state ≡ 4 * sizes .pages → MayFollow widths sizes v events (Event.Crash state)
-  pub recover : (widths : Widths) (sizes : Sizes) (v : Volume) (events : List Event) → Premises widths sizes v events → MayFollow widths sizes v events (Event.Returns Call.Recover)
+pub record PremisesMet (F : Family) : Type 0 where
+  pub at-first : (widths : Widths) (sizes : Sizes) (v : Volume) → FitsIn (F .layout) widths sizes v → Premises F widths sizes v []
+  pub calls : (widths : Widths) (sizes : Sizes) (v : Volume) → FitsIn (F .layout) widths sizes v → (list : List Call) → Premises F widths sizes v (map Event.Returns list)
+  pub crash : (widths : Widths) (sizes : Sizes) (v : Volume) (events : List Event) → Premises F widths sizes v events → (state : List ℕ) → length state ≡ 4 * sizes .pages → MayFollow F widths sizes v events (Event.Crash state)
+  pub recover : (widths : Widths) (sizes : Sizes) (v : Volume) (events : List Event) → Premises F widths sizes v events → MayFollow F widths sizes v events (Event.Returns Call.Recover)
   pub crashed-recover :
-      (widths : Widths) (sizes : Sizes) (v : Volume) (events : List Event) → Premises widths sizes v events
-      → (stage : ℕ) (done : ℕ → Bool) (state : List ℕ) → length state ≡ 4 * sizes .pages → MayFollow widths sizes v events (Event.CrashIn Call.Recover stage done state)
-  pub call : (widths : Widths) (sizes : Sizes) (v : Volume) (events : List Event) → Premises widths sizes v events → StateKnown widths sizes v events → (c : Call) → MayFollow widths sizes v events (Event.Returns c)
+      (widths : Widths) (sizes : Sizes) (v : Volume) (events : List Event) → Premises F widths sizes v events
+      → (stage : ℕ) (done : ℕ → Bool) (state : List ℕ) → length state ≡ 4 * sizes .pages → MayFollow F widths sizes v events (Event.CrashIn Call.Recover stage done state)
+  pub call : (widths : Widths) (sizes : Sizes) (v : Volume) (events : List Event) → Premises F widths sizes v events → StateKnown F widths sizes v events → (c : Call) → MayFollow F widths sizes v events (Event.Returns c)
   pub crashed-call :
-      (widths : Widths) (sizes : Sizes) (v : Volume) (events : List Event) → Premises widths sizes v events → StateKnown widths sizes v events
-      → (c : Call) (stage : ℕ) (done : ℕ → Bool) (state : List ℕ) → length state ≡ 4 * sizes .pages → MayFollow widths sizes v events (Event.CrashIn c stage done state)
+      (widths : Widths) (sizes : Sizes) (v : Volume) (events : List Event) → Premises F widths sizes v events → StateKnown F widths sizes v events
+      → (c : Call) (stage : ℕ) (done : ℕ → Bool) (state : List ℕ) → length state ≡ 4 * sizes .pages → MayFollow F widths sizes v events (Event.CrashIn c stage done state)
   -- and behind a recover the state is known
-  pub recover-finds : (widths : Widths) (sizes : Sizes) (v : Volume) (events : List Event) → Premises widths sizes v events → StateKnown widths sizes v (events ++ Event.Returns Call.Recover ∷ [])
+  pub recover-finds : (widths : Widths) (sizes : Sizes) (v : Volume) (events : List Event) → Premises F widths sizes v events → StateKnown F widths sizes v (events ++ Event.Returns Call.Recover ∷ [])
 
 -- ---- stages
 
@@ -72,9 +71,9 @@ doneIn test k [] = []
 doneIn test k (first ∷ rest) = doneOf (test k) 0 first ++ doneIn test (suc k) rest
 
 -- What ties a call's stages to what it leaves, and a crash to the stages.
-pub record StagesInOrder : Type 0 where
+pub record StagesInOrder (F : Family) : Type 0 where
   -- a call that returns leaves the flash that all its stages leave, done one after the other
-  pub performed : (widths : Widths) (sizes : Sizes) (v : Volume) (call : Call) → perform widths sizes v call .left .flash ≡ applyAll (sizes .width) (v .flash) (flatten (flashStages widths sizes v call))
+  pub performed : (widths : Widths) (sizes : Sizes) (v : Volume) (call : Call) → perform F widths sizes v call .left .flash ≡ applyAllIn (F .layout) (sizes .width) (v .flash) (flatten (flashStages F widths sizes v call))
   -- a crash past the last stage leaves all done
   pub past-last : (stage : ℕ) (done : ℕ → Bool) (stages : List (List Step)) → length stages ≤ stage → cutShort stage done stages ≡ flatten stages
   -- any crash leaves done exactly the steps that `wasDone` names

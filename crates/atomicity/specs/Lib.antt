@@ -1,9 +1,13 @@
+pub mod Family
 pub mod Call
 pub mod Run
 pub mod Model
 pub mod Promise
 pub mod Companions
+pub mod Burial
 pub mod Runs
 pub mod rings
 pub mod steps
 pub mod theorems
+pub mod BackPointer
+pub mod Simple

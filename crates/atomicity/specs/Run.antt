@@ -6,9 +6,10 @@ use lib.Dec.{ltb, eqb}
 use lib.ListN.{length}
 use Rattle.bounded.specs.Limits.{Widths}
 use Rattle.sizes.specs.declared.Sizes.{Sizes}
-use Rattle.record.specs.Flash.{Step, applyAll}
+use Rattle.record.specs.Flash.{Step, applyAllIn}
 use Rattle.rules.specs.Volume.{Volume}
-use Rattle.rules.specs.Format.{formatOutcome}
+use Rattle.rules.specs.Format.{formatOutcomeIn}
+use Rattle.atomicity.specs.Family.{Family}
 use Rattle.atomicity.specs.Call.{Call, perform, flashStages}
 
 -- "A cut falls between two calls or in one." A crash in a call carries the number of the stage in which it fell and, for each step of that stage,
@@ -52,25 +53,25 @@ stillLost lost call answer = lost && not (isRecover call && eqb answer 0)
 -- One event. A crash has one clause for the flash, whatever the call: its stages, cut short. "A cut write leaves its slot as it was, or stored
 -- whole, words and bytes. A cut erasure leaves each listed slot as it was or blanked, in any mixture. A cut launch, withdrawal or recovery, or a
 -- cut call that would be refused, leaves the flash as it was. No other slot changes."
-unfoldable pub happens : Widths → Sizes → World → Event → World
-happens widths sizes x (Event.Returns call) =
-    let o = perform widths sizes (x .volume) call in
+unfoldable pub happens : Family → Widths → Sizes → World → Event → World
+happens F widths sizes x (Event.Returns call) =
+    let o = perform F widths sizes (x .volume) call in
     record { volume = o .left; lost = stillLost (x .lost) call (o .answer) }
-happens widths sizes x (Event.CrashIn call stage done state) =
+happens F widths sizes x (Event.CrashIn call stage done state) =
     record {
-      volume = record { flash = applyAll (sizes .width) (x .volume .flash) (cutShort stage done (flashStages widths sizes (x .volume) call)); state = state };
+      volume = record { flash = applyAllIn (F .layout) (sizes .width) (x .volume .flash) (cutShort stage done (flashStages F widths sizes (x .volume) call)); state = state };
       lost = true;
     }
-happens widths sizes x (Event.Crash state) = record { volume = record { flash = x .volume .flash; state = state }; lost = true }
+happens F widths sizes x (Event.Crash state) = record { volume = record { flash = x .volume .flash; state = state }; lost = true }
 
 -- "The list starts from the flash and sheet that an accepted format leaves."
-unfoldable pub started : Widths → Sizes → Volume → World
-started widths sizes v = record { volume = formatOutcome widths sizes v .left; lost = false }
+unfoldable pub started : Family → Widths → Sizes → Volume → World
+started F widths sizes v = record { volume = formatOutcomeIn (F .layout) widths sizes v .left; lost = false }
 
 -- the world after a list of events
-unfoldable pub after : Widths → Sizes → World → List Event → World
-after widths sizes x [] = x
-after widths sizes x (e ∷ events) = after widths sizes (happens widths sizes x e) events
+unfoldable pub after : Family → Widths → Sizes → World → List Event → World
+after F widths sizes x [] = x
+after F widths sizes x (e ∷ events) = after F widths sizes (happens F widths sizes x e) events
 
 -- What a run keeps to, event by event. These are all the premises on a list:
 -- "no call but recover follows until one has answered 0" after a crash; and the state, after a crash, "holds any words", as many as before, 4×P.
@@ -79,6 +80,6 @@ keepsTo P x (Event.Returns call) = cond (x .lost) (isRecover call) true
 keepsTo P x (Event.CrashIn call stage done state) = cond (x .lost) (isRecover call) true && eqb (length state) (4 * P)
 keepsTo P x (Event.Crash state) = eqb (length state) (4 * P)
 
-unfoldable pub keepsPremises : Widths → Sizes → World → List Event → Bool
-keepsPremises widths sizes x [] = true
-keepsPremises widths sizes x (e ∷ events) = keepsTo (sizes .pages) x e && keepsPremises widths sizes (happens widths sizes x e) events
+unfoldable pub keepsPremises : Family → Widths → Sizes → World → List Event → Bool
+keepsPremises F widths sizes x [] = true
+keepsPremises F widths sizes x (e ∷ events) = keepsTo (sizes .pages) x e && keepsPremises F widths sizes (happens F widths sizes x e) events

@@ -1,17 +1,19 @@
--- Runs that meet the premises, computed: three end in contents that are not the formatted zeros; in the fourth a ring that a recover closed stays closed.
+-- Runs that meet the premises, computed: three end in contents that are not the formatted zeros; in the fourth a ring that a recover closed stays closed; a fifth, of
+-- records without a back pointer, has a write that is refused by 16.
 use Prim.Native.Nat.{ℕ}
 use mathlib.Core.Path.{_≡_}
 use mathlib.Core.List.{List, [], _∷_}
 use mathlib.Core.Bool.{Bool, true, false}
 use lib.Dec.{eqb}
 use lib.ListN.{replicate}
-use Rattle.bounded.specs.Limits.{Widths}
+use Rattle.bounded.specs.Limits.{noNumber, Widths}
 use Rattle.sizes.specs.declared.Sizes.{Sizes}
 use Rattle.sizes.specs.Sizes.{sizesOf}
 use Rattle.record.specs.Slot.{blankRecord}
 use Rattle.table.specs.Given.{given, tableOf}
 use Rattle.rules.specs.Volume.{Volume}
-use Rattle.atomicity.specs.Call.{Call}
+use Rattle.atomicity.specs.Family.{Family, backPointer, simple}
+use Rattle.atomicity.specs.Call.{Call, perform}
 use Rattle.atomicity.specs.Run.{Event, started, after}
 use Rattle.atomicity.specs.Model.{freshModel}
 use Rattle.atomicity.specs.Promise.{Premises, modelAfter}
@@ -26,6 +28,10 @@ sizes2 = sizesOf 2 5 1
 
 unfoldable pub blankBuffers : Volume
 blankBuffers = record { flash = record { words = replicate 25 7; contents = replicate 5 7 }; state = replicate 8 7 }
+
+-- … and for records of four words
+unfoldable pub fourBuffers : Volume
+fourBuffers = record { flash = record { words = replicate 20 7; contents = replicate 5 7 }; state = replicate 8 7 }
 
 -- the state words after a crash, here all 9
 unfoldable pub lostState : List ℕ
@@ -86,22 +92,65 @@ runClosed =
     ∷ Event.Returns (Call.Write 0 2 (5 ∷ []))
     ∷ []
 
+-- the first write of a ring of two, then a crash: its record stays exposed; the page is launched in another ring
+unfoldable pub runExposed : List Event
+runExposed =
+    Event.Returns (Call.Launch (0 ∷ 1 ∷ []))
+    ∷ Event.Returns (Call.Write 0 2 (5 ∷ []))
+    ∷ Event.Crash lostState
+    ∷ Event.Returns Call.Recover
+    ∷ Event.Returns (Call.Launch (0 ∷ []))
+    ∷ []
+
+-- … and a write of the page is refused; the record is erased, and the write is done
+unfoldable pub runBuried : List Event
+runBuried =
+    Event.Returns (Call.Launch (0 ∷ 1 ∷ []))
+    ∷ Event.Returns (Call.Write 0 2 (5 ∷ []))
+    ∷ Event.Crash lostState
+    ∷ Event.Returns Call.Recover
+    ∷ Event.Returns (Call.Launch (0 ∷ []))
+    ∷ Event.Returns (Call.Write 0 3 (6 ∷ []))
+    ∷ Event.Returns (Call.Erase (2 ∷ []))
+    ∷ Event.Returns (Call.Write 0 4 (8 ∷ []))
+    ∷ []
+
 -- what the reference model keeps of pages 0 and 1 after a run
-unfoldable pub keptAfter : List Event → List (List ℕ)
-keptAfter events = let m = modelAfter oneByte sizes2 (started oneByte sizes2 blankBuffers) (freshModel 1) events in m .kept 0 ∷ m .kept 1 ∷ []
+unfoldable pub keptAfter : Family → Volume → List Event → List (List ℕ)
+keptAfter F v events = let m = modelAfter F oneByte sizes2 (started F oneByte sizes2 v) (freshModel 1) events in m .kept 0 ∷ m .kept 1 ∷ []
 
 -- the records left in the table after a run: its words
-unfoldable pub wordsAfter : List Event → List ℕ
-wordsAfter events = after oneByte sizes2 (started oneByte sizes2 blankBuffers) events .volume .flash .words
+unfoldable pub wordsAfter : Family → Volume → List Event → List ℕ
+wordsAfter F v events = after F oneByte sizes2 (started F oneByte sizes2 v) events .volume .flash .words
 
 -- What is computed of them. The crashed erasure blanked slot 2 and not slot 0, and neither crashed write stored its slot.
 pub record RunsComputed : Type 0 where
-  pub completed-meets : Premises oneByte sizes2 blankBuffers runCompleted
-  pub completed-keeps : keptAfter runCompleted ≡ (5 ∷ []) ∷ (6 ∷ []) ∷ []
-  pub erased-meets : Premises oneByte sizes2 blankBuffers runErased
-  pub erased-keeps : keptAfter runErased ≡ (6 ∷ []) ∷ (0 ∷ []) ∷ []
-  pub erased-leaves : wordsAfter runErased ≡ tableOf 5 (given 0 0 0 0 0 ∷ given 1 0 0 1 0 ∷ blankRecord ∷ given 0 2 1 0 2 ∷ [])
-  pub past-meets : Premises oneByte sizes2 blankBuffers runPast
-  pub past-keeps : keptAfter runPast ≡ (5 ∷ []) ∷ (0 ∷ []) ∷ []
-  pub closed-meets : Premises oneByte sizes2 blankBuffers runClosed
-  pub closed-keeps : keptAfter runClosed ≡ (0 ∷ []) ∷ (0 ∷ []) ∷ []
+  pub completed-meets : Premises backPointer oneByte sizes2 blankBuffers runCompleted
+  pub completed-keeps : keptAfter backPointer blankBuffers runCompleted ≡ (5 ∷ []) ∷ (6 ∷ []) ∷ []
+  pub erased-meets : Premises backPointer oneByte sizes2 blankBuffers runErased
+  pub erased-keeps : keptAfter backPointer blankBuffers runErased ≡ (6 ∷ []) ∷ (0 ∷ []) ∷ []
+  pub erased-leaves : wordsAfter backPointer blankBuffers runErased ≡ tableOf 5 (given 0 0 0 0 0 ∷ given 1 0 0 1 0 ∷ blankRecord ∷ given 0 2 1 0 2 ∷ [])
+  pub past-meets : Premises backPointer oneByte sizes2 blankBuffers runPast
+  pub past-keeps : keptAfter backPointer blankBuffers runPast ≡ (5 ∷ []) ∷ (0 ∷ []) ∷ []
+  pub closed-meets : Premises backPointer oneByte sizes2 blankBuffers runClosed
+  pub closed-keeps : keptAfter backPointer blankBuffers runClosed ≡ (0 ∷ []) ∷ (0 ∷ []) ∷ []
+
+-- The same of records without a back pointer; and a ring's first record, buried by none.
+pub record SimpleRunsComputed : Type 0 where
+  pub completed-meets : Premises simple oneByte sizes2 fourBuffers runCompleted
+  pub completed-keeps : keptAfter simple fourBuffers runCompleted ≡ (5 ∷ []) ∷ (6 ∷ []) ∷ []
+  pub erased-meets : Premises simple oneByte sizes2 fourBuffers runErased
+  pub erased-keeps : keptAfter simple fourBuffers runErased ≡ (6 ∷ []) ∷ (0 ∷ []) ∷ []
+  pub erased-leaves :
+      wordsAfter simple fourBuffers runErased
+      ≡ 0 ∷ 0 ∷ 0 ∷ 0 ∷ 1 ∷ 0 ∷ 1 ∷ 0 ∷ noNumber ∷ noNumber ∷ noNumber ∷ noNumber ∷ 0 ∷ 2 ∷ 0 ∷ 2 ∷ noNumber ∷ noNumber ∷ noNumber ∷ noNumber ∷ []
+  pub past-meets : Premises simple oneByte sizes2 fourBuffers runPast
+  pub past-keeps : keptAfter simple fourBuffers runPast ≡ (5 ∷ []) ∷ (0 ∷ []) ∷ []
+  pub closed-meets : Premises simple oneByte sizes2 fourBuffers runClosed
+  pub closed-keeps : keptAfter simple fourBuffers runClosed ≡ (0 ∷ []) ∷ (0 ∷ []) ∷ []
+  pub buried-refused : perform simple oneByte sizes2 (after simple oneByte sizes2 (started simple oneByte sizes2 fourBuffers) runExposed .volume) (Call.Write 0 3 (6 ∷ [])) .answer ≡ 16
+  pub buried-meets : Premises simple oneByte sizes2 fourBuffers runBuried
+  pub buried-keeps : keptAfter simple fourBuffers runBuried ≡ (8 ∷ []) ∷ (0 ∷ []) ∷ []
+  pub buried-leaves :
+      wordsAfter simple fourBuffers runBuried
+      ≡ 0 ∷ 0 ∷ 0 ∷ 0 ∷ 1 ∷ 0 ∷ 1 ∷ 0 ∷ noNumber ∷ noNumber ∷ noNumber ∷ noNumber ∷ noNumber ∷ noNumber ∷ noNumber ∷ noNumber ∷ 0 ∷ 2 ∷ 0 ∷ 2 ∷ []

@@ -1,4 +1,5 @@
 -- The invariant of a run, and that the start has it and every event keeps it.
+pub mod Theory
 pub mod Invariant
 pub mod StateWords
 pub mod Storing

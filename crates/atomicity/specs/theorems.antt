@@ -4,3 +4,4 @@ pub mod StatesAgree
 pub mod PremisesMet
 pub mod StagesInOrder
 pub mod RunsComputed
+pub mod Unburied

@@ -1,4 +1,7 @@
 // The C interface: every call, exported. The functions `star_cases`, `exposed_found`, `promise_3`, `two_widths` and `slowest_start` pin theorems in their contracts.
+
+pub mod scc; // scc.rt: the second family
+
 ghost use mathlib.Core.Path.{_≡_};
 ghost use Rattle.bounded.specs.Limits.{twoWidths};
 ghost use Rattle.outcome.specs.Outcome.{returned};
@@ -19,15 +22,17 @@ ghost use Rattle.rules.specs.Withdraw.{withdrawOutcome};
 ghost use Rattle.rules.specs.Erase.{eraseOutcome};
 ghost use Rattle.rules.specs.Suggest.{suggestOutcome};
 ghost use Rattle.rules.specs.Recover.{recoverOutcome};
-ghost use Rattle.rules.specs.Links.{LinksAtMost, OneRingReaches, LinksAreSteps, LinksApart};
+ghost use Rattle.rules.specs.Links.{backPointing, LinksAtMost, OneRingReaches, LinksAreSteps, LinksApart};
 ghost use Rattle.rules.specs.cases.Star.{starTable};
 ghost use Rattle.rules.specs.cases.Found.{foundRows};
 ghost use Rattle.rules.specs.cases.Links.{linkRows};
 ghost use Rattle.rules.specs.cases.Width.{widthRows};
 ghost use Rattle.rules.specs.laws.Found.{FoundExactly, JudgedByFound};
+ghost use Rattle.atomicity.specs.Family.{backPointer};
 ghost use Rattle.atomicity.specs.Promise.{PromiseAt, Promise3, OwnState};
 ghost use Rattle.atomicity.specs.Companions.{StatesAgree, PremisesMet, StagesInOrder};
 ghost use Rattle.atomicity.specs.Runs.{RunsComputed};
+use sizes::Layout;
 use sizes::Sizes;
 
 // Format a volume.
@@ -44,6 +49,7 @@ pub extern "C" fn bpcc_format(
         ≡ formatOutcome twoWidths (sizesOf pages slots width) (volume (now (words .entry)) (now (contents .entry)) (now (state .entry))) ⌝ }
 {
     volume::format(
+        Layout::FiveWords,
         Sizes {
             pages,
             slots,
@@ -94,6 +100,7 @@ pub extern "C" fn bpcc_write(
         ≡ writeOutcome twoWidths (sizesOf pages slots width) (volume (now (words .entry)) (now (contents .entry)) (now (state .entry))) page slot (now (bytes .entry)) ⌝ }
 {
     transact::write(
+        Layout::FiveWords,
         Sizes {
             pages,
             slots,
@@ -145,6 +152,7 @@ pub extern "C" fn bpcc_erase(
         ≡ eraseOutcome twoWidths (sizesOf pages slots width) (volume (now (words .entry)) (now (contents .entry)) (now (state .entry))) (now (list .entry)) ⌝ }
 {
     collect::erase(
+        Layout::FiveWords,
         Sizes {
             pages,
             slots,
@@ -191,6 +199,7 @@ pub extern "C" fn bpcc_recover(
     ensures { λ r. ⌜ returned r (now (state .exit)) ≡ recoverOutcome twoWidths (sizesOf pages slots width) (now (words .entry)) (now (state .entry)) ⌝ }
 {
     recovery::recover(
+        Layout::FiveWords,
         Sizes {
             pages,
             slots,
@@ -249,17 +258,17 @@ pub fn exposed_found()
 // runs, computed.
 pub fn promise_3()
     ensures whole { λ _. ⌜ Promise3 ⌝ }
-    ensures own { λ _. ⌜ OwnState ⌝ }
-    ensures invariants { λ _. ⌜ StatesAgree ⌝ }
-    ensures premises { λ _. ⌜ PremisesMet ⌝ }
-    ensures stages { λ _. ⌜ StagesInOrder ⌝ }
+    ensures own { λ _. ⌜ OwnState backPointer ⌝ }
+    ensures invariants { λ _. ⌜ StatesAgree backPointer ⌝ }
+    ensures premises { λ _. ⌜ PremisesMet backPointer ⌝ }
+    ensures stages { λ _. ⌜ StagesInOrder backPointer ⌝ }
     ensures runs { λ _. ⌜ RunsComputed ⌝ }
 {}
 
 // Document 02, wish 10: promise 3, shown once for any width, used at the two that the calls take; and what the calls answer at these and at others, and
 // count of 32 and of 64 bytes, computed.
 pub fn two_widths()
-    ensures promise { λ _. ⌜ PromiseAt twoWidths ⌝ }
+    ensures promise { λ _. ⌜ PromiseAt backPointer twoWidths ⌝ }
     ensures widths { λ _. ⌜ RowsHold widthRows ⌝ }
     ensures counts { λ _. ⌜ RowsHold countRows ⌝ }
 {}
@@ -267,9 +276,9 @@ pub fn two_widths()
 // Document 02, wish 6: "no sound table with P pages exceeds P×P"; "the one-ring table that reaches it", for each P; that the number of links "must equal the
 // definition's steps"; that nothing else that recover gives or leaves depends on it; and the links of some tables, computed.
 pub fn slowest_start()
-    ensures most { λ _. ⌜ LinksAtMost ⌝ }
-    ensures reached { λ _. ⌜ OneRingReaches ⌝ }
-    ensures steps { λ _. ⌜ LinksAreSteps ⌝ }
-    ensures apart { λ _. ⌜ LinksApart ⌝ }
+    ensures most { λ _. ⌜ LinksAtMost backPointing ⌝ }
+    ensures reached { λ _. ⌜ OneRingReaches backPointing ⌝ }
+    ensures steps { λ _. ⌜ LinksAreSteps backPointing ⌝ }
+    ensures apart { λ _. ⌜ LinksApart backPointing ⌝ }
     ensures links { λ _. ⌜ RowsHold linkRows ⌝ }
 {}

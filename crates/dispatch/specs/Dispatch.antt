@@ -8,6 +8,7 @@ use Rattle.sizes.specs.declared.Sizes.{Sizes}
 use Rattle.line.specs.Line.{Said}
 use Rattle.rules.specs.Volume.{Volume}
 use Rattle.rules.specs.Format.{formatOutcome}
+use Rattle.atomicity.specs.Family.{backPointer}
 use Rattle.atomicity.specs.Call.{Call, perform}
 
 -- "cut sets every sheet word to 4,294,967,295"
@@ -22,11 +23,11 @@ accepted v = record { answer = 0; second = 0; left = v }
 -- sheet word to 4,294,967,295".
 unfoldable pub lineOutcome : Widths → Sizes → Volume → Said → Outcome Volume
 lineOutcome widths sizes v (Said.Format own) = formatOutcome widths sizes v
-lineOutcome widths sizes v (Said.Launch pages) = perform widths sizes v (Call.Launch pages)
-lineOutcome widths sizes v (Said.Write page slot fill) = perform widths sizes v (Call.Write page slot (replicate (sizes .width) fill))
-lineOutcome widths sizes v (Said.Withdraw page) = perform widths sizes v (Call.Withdraw page)
-lineOutcome widths sizes v (Said.Erase slots) = perform widths sizes v (Call.Erase slots)
-lineOutcome widths sizes v Said.Recover = perform widths sizes v Call.Recover
+lineOutcome widths sizes v (Said.Launch pages) = perform backPointer widths sizes v (Call.Launch pages)
+lineOutcome widths sizes v (Said.Write page slot fill) = perform backPointer widths sizes v (Call.Write page slot (replicate (sizes .width) fill))
+lineOutcome widths sizes v (Said.Withdraw page) = perform backPointer widths sizes v (Call.Withdraw page)
+lineOutcome widths sizes v (Said.Erase slots) = perform backPointer widths sizes v (Call.Erase slots)
+lineOutcome widths sizes v Said.Recover = perform backPointer widths sizes v Call.Recover
 lineOutcome widths sizes v Said.Cut = accepted (record { flash = v .flash; state = lost (v .state) })
 lineOutcome widths sizes v Said.Listing = accepted v
 lineOutcome widths sizes v Said.Malformed = accepted v

@@ -9,6 +9,7 @@ ghost use Rattle.rules.specs.Volume.{volume};
 ghost use Rattle.rules.specs.Write.{writeOutcome};
 ghost use Rattle.dispatch.specs.Dispatch.{lost, lineOutcome};
 use line::Line;
+use sizes::Layout;
 use sizes::Sizes;
 
 // The lesser of two lengths.
@@ -47,7 +48,16 @@ fn write_filled(
 {
     let bytes = [fill; sizes::MAX_WIDTH];
     let n = least(sizes.width as usize, sizes::MAX_WIDTH);
-    transact::write(sizes, words, contents, state, page, slot, &bytes[0..n])
+    transact::write(
+        Layout::FiveWords,
+        sizes,
+        words,
+        contents,
+        state,
+        page,
+        slot,
+        &bytes[0..n],
+    )
 }
 
 // The number back of a line's call on a volume; 0 for a line that is no call.
@@ -63,7 +73,13 @@ pub fn call(
         ≡ lineOutcome twoWidths sizes (volume (now (words .entry)) (now (contents .entry)) (now (state .entry))) (said line (now (list .entry))) ⌝ }
 {
     match line {
-        Line::Format { sizes: _ } => volume::format(sizes, words, contents, state),
+        Line::Format { sizes: _ } => volume::format(
+            Layout::FiveWords,
+            sizes,
+            words,
+            contents,
+            state,
+        ),
         Line::Launch { count } => {
             let n = least(count, list.len());
             flight::launch(sizes, state, &list[0..n])
@@ -74,9 +90,16 @@ pub fn call(
         Line::Withdraw { page } => flight::withdraw(sizes, state, page),
         Line::Erase { count } => {
             let n = least(count, list.len());
-            collect::erase(sizes, words, contents, state, &list[0..n])
+            collect::erase(
+                Layout::FiveWords,
+                sizes,
+                words,
+                contents,
+                state,
+                &list[0..n],
+            )
         }
-        Line::Recover => recovery::recover(sizes, words, state),
+        Line::Recover => recovery::recover(Layout::FiveWords, sizes, words, state),
         Line::Cut => {
             lose(state);
             0

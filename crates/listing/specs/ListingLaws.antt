@@ -15,6 +15,7 @@ use Rattle.bounded.specs.PartsLaws.{part-inside, join-from-more}
 use Rattle.outcome.specs.Outcome.{Outcome}
 use Rattle.outcome.specs.OutcomeLaws.{held, settled-answer, settled-done}
 use Rattle.outcome.specs.Chain.{firstOf}
+use Rattle.sizes.specs.declared.Layout.the-variants.{FiveWords}
 use Rattle.sizes.specs.declared.Sizes.{Sizes}
 use Rattle.text.specs.Print.{shown, added, decimal}
 use Rattle.text.specs.PrintLaws.{added-next}
@@ -22,7 +23,7 @@ use Rattle.record.specs.Slot.{bytesAt}
 use Rattle.bits.specs.Bits.{countOutcome}
 use Rattle.table.specs.Table.{hasVersion}
 use Rattle.rules.specs.Volume.{Volume, volumeFits}
-use Rattle.rules.specs.Read.{readSlot, readAnswer, readOutcome}
+use Rattle.rules.specs.Read.{readSlotIn, readSlot, readAnswer, readOutcomeIn}
 use Rattle.rules.specs.laws.Volume.{fits-facts}
 use Rattle.rules.specs.laws.Chains.{judged, judged-passed, readOwn, read-chain}
 use Rattle.listing.specs.Listing.{answerText, pageRead, drawnOf, pageText, firstRefusal, listAnswer, listText}
@@ -76,19 +77,19 @@ both-pass (suc n) own e = absurd (omega arith)
 
 module _ (widths : Widths) (sizes : Sizes) (v : Volume) where
   -- The answer of a page's read: the volume's, by conditions 1, 2 and 5, which all pages share; else the page's own.
-  page-chain : (page : ℕ) → pageRead widths sizes v page .answer ≡ firstOf (judged (volumeFits widths sizes v) (sizes .pages) (sizes .slots) (v .flash .words) (v .state)) (readOwn (sizes .pages) (sizes .slots) (v .flash .words) (v .state) page)
-  unfolding pageRead readOutcome
+  page-chain : (page : ℕ) → pageRead widths sizes v page .answer ≡ firstOf (judged (volumeFits widths sizes v) (sizes .pages) (sizes .slots) (v .flash .words) (v .state)) (readOwn FiveWords (sizes .pages) (sizes .slots) (v .flash .words) (v .state) page)
+  unfolding pageRead readOutcomeIn
   page-chain page =
       let out : List ℕ = replicate (sizes .width) 0 in
       let whole : eqb (length out) (sizes .width) ≡ true = eq-eqb _ _ (length-replicate {A = ℕ} (sizes .width) 0) in
       let e = same-test (volumeFits widths sizes v && eqb (length out) (sizes .width)) (volumeFits widths sizes v) (both-left (volumeFits widths sizes v) (eqb (length out) (sizes .width))) (λ h. both h whole) in
       settled-answer (readAnswer widths sizes v page out) 0 0 out (bytesAt (sizes .width) (v .flash .contents) (readSlot (sizes .slots) v page))
-      ∙ read-chain widths sizes v page out
-      ∙ ap (λ (b : Bool). firstOf (judged b (sizes .pages) (sizes .slots) (v .flash .words) (v .state)) (readOwn (sizes .pages) (sizes .slots) (v .flash .words) (v .state) page)) e
+      ∙ read-chain FiveWords widths sizes v page out
+      ∙ ap (λ (b : Bool). firstOf (judged b (sizes .pages) (sizes .slots) (v .flash .words) (v .state)) (readOwn FiveWords (sizes .pages) (sizes .slots) (v .flash .words) (v .state) page)) e
 
   pub page-answered :
       (page first answer : ℕ) (fits : Bool) → fits ≡ volumeFits widths sizes v → first ≡ judged fits (sizes .pages) (sizes .slots) (v .flash .words) (v .state)
-      → answer ≡ firstOf first (readOwn (sizes .pages) (sizes .slots) (v .flash .words) (v .state) page) → answer ≡ pageRead widths sizes v page .answer
+      → answer ≡ firstOf first (readOwn FiveWords (sizes .pages) (sizes .slots) (v .flash .words) (v .state) page) → answer ≡ pageRead widths sizes v page .answer
   page-answered page first answer fits same said e = rw (page-chain page, ← same, ← said) e
 
   -- Where the read of a page is accepted: the buffers have the table, the page's state and the slot's bytes, and those are what is read.
@@ -99,12 +100,12 @@ module _ (widths : Widths) (sizes : Sizes) (v : Volume) where
     pub drawn-there : countOutcome widths (bytesAt (sizes .width) (v .flash .contents) (readSlot (sizes .slots) v page)) .second ≡ drawnOf widths sizes v page
 
   pub readable : (page : ℕ) → pageRead widths sizes v page .answer ≡ 0 → Readable page
-  unfolding pageRead readOutcome readSlot readOwn hasVersion drawnOf
+  unfolding pageRead readOutcomeIn readSlotIn readOwn hasVersion drawnOf
   readable page e =
       let out : List ℕ = replicate (sizes .width) 0 in
       let bytes : List ℕ = bytesAt (sizes .width) (v .flash .contents) (readSlot (sizes .slots) v page) in
       let passed = both-pass _ _ (sym (page-chain page) ∙ e) in
-      let f = fits-facts widths sizes v (judged-passed (volumeFits widths sizes v) (sizes .pages) (sizes .slots) (v .flash .words) (v .state) (passed .0) .fitting) in
+      let f = fits-facts widths sizes v (judged-passed FiveWords (volumeFits widths sizes v) (sizes .pages) (sizes .slots) (v .flash .words) (v .state) (passed .0) .fitting) in
       let in-range = held (ltb page (sizes .pages)) _ _ (passed .1) in
       let found = held (ltb (readSlot (sizes .slots) v page) (sizes .slots)) _ _ (in-range .1) in
       let below = ltb-true page (sizes .pages) (in-range .0) in

@@ -8,9 +8,11 @@ ghost use Rattle.outcome.specs.Chain.{firstOf};
 ghost use Rattle.text.specs.Print.{shown, added};
 ghost use Rattle.record.specs.Slot.{bytesAt};
 ghost use Rattle.bits.specs.Bits.{countOutcome};
+ghost use Rattle.sizes.specs.declared.Layout.the-variants.{FiveWords};
 ghost use Rattle.rules.specs.Volume.{volume};
-ghost use Rattle.rules.specs.laws.Chains.{Spans, readOwn};
+ghost use Rattle.rules.specs.laws.Chains.{SpansIn, readOwn};
 ghost use Rattle.listing.specs.Listing.{answerText, pageRead, stateText, fieldsText, pageText, listAnswer, listText};
+use sizes::Layout;
 use sizes::Sizes;
 use text::print;
 
@@ -52,14 +54,14 @@ fn put_fields(
 
 // The answer of a page's read on a volume that conditions 1, 2 and 5 answer by `first`.
 fn read_answer(first: u32, sizes: Sizes, words: &[u32], state: &[u32], page: u32) -> u32
-    requires { ⌜ (first ≡ 0 → Spans (sizes .pages) (sizes .slots) (now words) (now state)) ⌝ }
+    requires { ⌜ (first ≡ 0 → SpansIn FiveWords (sizes .pages) (sizes .slots) (now words) (now state)) ⌝ }
     requires { ⌜ page < sizes .pages ⌝ }
-    ensures { λ r. ⌜ r ≡ firstOf first (readOwn (sizes .pages) (sizes .slots) (now (words .entry)) (now (state .entry)) page) ⌝ }
+    ensures { λ r. ⌜ r ≡ firstOf first (readOwn FiveWords (sizes .pages) (sizes .slots) (now (words .entry)) (now (state .entry)) page) ⌝ }
 {
     if first != 0 {
         return first;
     }
-    if reader::committed_slot(sizes.slots, words, state, page) >= sizes.slots {
+    if reader::committed_slot(Layout::FiveWords, sizes.slots, words, state, page) >= sizes.slots {
         return 14;
     }
     0
@@ -69,8 +71,8 @@ fn read_answer(first: u32, sizes: Sizes, words: &[u32], state: &[u32], page: u32
 fn list_answer(sizes: Sizes, words: &[u32], contents: &[u8], state: &[u32]) -> u32
     ensures { λ r. ⌜ r ≡ listAnswer twoWidths sizes (volume (now (words .entry)) (now (contents .entry)) (now (state .entry))) ⌝ }
 {
-    let fits = volume::volume_fits(sizes, words, contents, state);
-    let first = volume::judged(fits, sizes, words, state);
+    let fits = volume::volume_fits(Layout::FiveWords, sizes, words, contents, state);
+    let first = volume::judged(Layout::FiveWords, fits, sizes, words, state);
     let mut page = 0;
     while page < sizes.pages {
         let answer = read_answer(first, sizes, words, state, page);
@@ -108,7 +110,7 @@ fn put_page(
         ≡ added (now (out .entry)) at (pageText twoWidths sizes (volume (now (words .entry)) (now (contents .entry)) (now (state .entry))) page) ⌝ }
 {
     let s = state::page_at(state, page);
-    let slot = reader::committed_slot(sizes.slots, words, state, page);
+    let slot = reader::committed_slot(Layout::FiveWords, sizes.slots, words, state, page);
     put_fields(
         out,
         at,

@@ -1,5 +1,6 @@
 -- A chain of conditions in two parts: what the first part answers, or, where that is 0, what the second does.
 use Prim.Native.Nat.{ℕ, zero, suc}
+use native.Mathlib.Omega.{arith}
 use mathlib.Core.Path.{_≡_, refl, sym, ap, _∙_}
 use mathlib.Core.Bool.{Bool, true, false}
 use Rattle.outcome.specs.Outcome.{_⇒_otherwise_}
@@ -18,6 +19,12 @@ first-refuses (suc n) own e h = ap (λ (x : ℕ). firstOf x own) e
 pub first-passes : (n m : ℕ) {first own : ℕ} → n ≡ first → n ≡ 0 → m ≡ own → m ≡ firstOf first own
 unfolding firstOf
 first-passes n m {first} {own} e z h = h ∙ ap (λ (x : ℕ). firstOf x own) (sym z ∙ e)
+
+-- where the whole is 0, both parts are
+pub both-pass : (n own : ℕ) → firstOf n own ≡ 0 → (n ≡ 0) × (own ≡ 0)
+unfolding firstOf
+both-pass zero own e = (refl, e)
+both-pass (suc n) own e = absurd (omega arith)
 
 -- conditions in front of a chain are its first part
 pub split-two : (a b : Bool) (x y own : ℕ) → (a ⇒ suc x otherwise b ⇒ suc y otherwise own) ≡ firstOf (a ⇒ suc x otherwise b ⇒ suc y otherwise 0) own

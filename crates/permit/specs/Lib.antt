@@ -1,2 +1,4 @@
 pub mod Prepared
+pub mod Readable
 pub mod SearchLaws
+pub mod SimpleLaws

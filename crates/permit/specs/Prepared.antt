@@ -10,15 +10,17 @@ use lib.Seq.{take-suc-set}
 use Rattle.bounded.specs.Limits.{maxPages, maxSlots}
 use Rattle.bounded.specs.Below.{listBelow}
 use Rattle.bounded.specs.Passing.{list-more, list-stays}
+use Rattle.sizes.specs.declared.Layout.{Layout}
+use Rattle.sizes.specs.declared.Layout.the-variants.{FiveWords}
 use Rattle.record.specs.declared.Record.{Record}
 use Rattle.record.specs.declared.Slot.the-variants.{Holds}
-use Rattle.record.specs.Slot.{holds, slotAt}
+use Rattle.record.specs.Slot.{holds, slotIn, slotAt}
 use Rattle.state.specs.State.{stateAt}
 use Rattle.table.specs.Table.{tableSound}
 use Rattle.table.specs.HighestSlot.{page-below}
 use Rattle.rules.specs.Permission.{isExposed}
 use Rattle.rules.specs.Found.{exposedSlots}
-use Rattle.rules.specs.laws.Chains.{Spans}
+use Rattle.rules.specs.laws.Chains.{SpansIn}
 use Rattle.rules.specs.laws.Found.{found-below}
 use Rattle.chain.specs.Chain.{Linkable, Chained}
 use Rattle.chain.specs.ChainLaws.{linked-page}
@@ -33,9 +35,14 @@ pub record Within (S : ℕ) (words state : List ℕ) : Type 0 where
   pub pages-in : (k : ℕ) (r : Record) → k < S → slotAt words k ≡ Holds r → 4 * r .p + 4 ≤ length state
 
 -- a volume that is judged and passes
-pub judged-linkable : (P S : ℕ) (words state : List ℕ) → Spans P S words state → tableSound P S (slotAt words) ≡ true → Linkable P S words
+pub judged-linkable : (P S : ℕ) (words state : List ℕ) → SpansIn FiveWords P S words state → tableSound P S (slotAt words) ≡ true → Linkable P S words
 judged-linkable P S words state s e =
     record { pages-few = s .bounds .pages-most; slots-few = s .bounds .slots-most; slots-in = s .slots-in; sound = e }
+
+-- … of a layout that is that of five words
+pub judged-linkable-in : {l : Layout} (P S : ℕ) (words state : List ℕ) → l ≡ FiveWords → SpansIn l P S words state → tableSound P S (slotIn l words) ≡ true → Linkable P S words
+judged-linkable-in P S words state e s t =
+    judged-linkable P S words state (subst (λ (x : Layout). SpansIn x P S words state) e s) (subst (λ (x : Layout). tableSound P S (slotIn x words) ≡ true) e t)
 
 -- a sound table's pages are below P
 pub linkable-within : (P S : ℕ) (words state : List ℕ) → Linkable P S words → 4 * P ≤ length state → Within S words state

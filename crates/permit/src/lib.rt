@@ -1,4 +1,7 @@
 // The permission to erase: the exposed records are found once, and every slot is judged by what was found. The definitions are in crate rules.
+
+pub mod simple; // simple.rt: records without a back pointer
+
 ghost use mathlib.Core.Path.{_≡_};
 ghost use mathlib.Core.Bool.{true};
 ghost use Prim.Native.Nat.{_+_, _*_, _≤_, _<_};

@@ -1,7 +1,7 @@
 -- One planned record more, the last of its cycle: the cycle's pages are committed at their used versions, and the invariant holds with these.
 use Prim.Native.Nat.{ℕ, zero, suc, _≤_, _<_}
 use native.Mathlib.Omega.{arith}
-use mathlib.Core.Path.{_≡_, sym, ap, _∙_, subst}
+use mathlib.Core.Path.{_≡_, refl, sym, ap, _∙_, subst}
 use mathlib.Core.List.{List}
 use mathlib.Core.Logic.{_⊎_, inl, inr}
 use mathlib.Core.Bool.{Bool, true, false}
@@ -90,6 +90,13 @@ module _ {X : Type 0} (view : View X) {P : ℕ} {R R′ : X → List ℕ → Typ
       (λ c. absurd (let u = within-used-more view writes core live .version-used x b w in let e = committed-on (view .page x) c in omega arith))
       (λ c. let e = comm-off (view .page x) (page-below x b w) c in
       record { off = c; old = old-off x b w c; before = omega arith })
+
+  -- an exposed record does not link to a used version on the cycle: only its predecessor there does
+  pub not-into : (x : X) (b : List ℕ) → StillExposed x b → cycle (view .nextPage x) ≡ true → view .nextVersion x ≡ st (view .nextPage x) .used → ⊥
+  not-into x b s c e =
+      let f = cycle-flies (view .nextPage x) c in
+      let m = link-planned (view .nextPage x) (f .below) (f .flies) x b (s .old) refl e in
+      never (cycle-before (view .page x) (record { below = view .sound-page P x (all-sound x b (s .old)); flies = m .0 }) (ap cycle (m .1) ∙ c)) (s .off)
 
   -- a committed record is the planned one of a page on the cycle, or was committed and is of a page off it
   pub data CommittedBy (x : X) (b : List ℕ) : Type 0 where

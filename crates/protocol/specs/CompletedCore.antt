@@ -1,32 +1,31 @@
 -- A completed cycle and five-word records: exposed records point back at the committed versions still, and the cycle's own records straddle older links into it.
 use Prim.Native.Nat.{ℕ, _<_}
 use native.Mathlib.Omega.{arith}
-use mathlib.Core.Path.{_≡_, refl, sym, ap, _∙_, subst}
+use mathlib.Core.Path.{_≡_, sym, ap, _∙_, subst}
 use mathlib.Core.List.{List}
 use mathlib.Core.Logic.{_⊎_, inl, inr}
 use mathlib.Core.Bool.{Bool, true}
-use Rattle.bounded.specs.Choice.{on-eq, on-test, never}
+use Rattle.bounded.specs.Choice.{on-eq, on-test}
 use Rattle.record.specs.declared.Record.{Record}
 use Rattle.record.specs.SlotLaws.{Straddles}
 use Rattle.state.specs.declared.PageState.{PageState}
-use Rattle.state.specs.CycleLaws.{Flies}
 use Rattle.protocol.specs.View.{recordView, IsCommitted, Exposed}
 use Rattle.protocol.specs.Shared.{SharedCore, SharedLive, plan, commOf}
 use Rattle.protocol.specs.BackPointer.{AheadOrStraddled, BackPointerCore, Core}
 use Rattle.protocol.specs.Stored.{Adds, Writes, plan-page, plan-version, within-used-more, plan-back, plan-clear}
-use Rattle.protocol.specs.Completed.{Completes, StillExposed, still-exposed, CommittedBy, committed-by, next-of, next-version-of, comm-off, comm-rises, page-below, stored-on, shared-core-completed}
+use Rattle.protocol.specs.Completed.{Completes, StillExposed, still-exposed, not-into, CommittedBy, committed-by, next-of, next-version-of, comm-off, comm-rises, page-below, stored-on, shared-core-completed}
 use Rattle.protocol.specs.Completed.CommittedBy.{now, before}
 
 module _ {P : ℕ} {R R′ : Record → List ℕ → Type 0} {st st′ : ℕ → PageState} {p : ℕ} {bytes : List ℕ} {cycle : ℕ → Bool} {kept kept′ : ℕ → List ℕ} {Entered Entered′ : ℕ → List ℕ → Type 0}
     (writes : Writes recordView P R R′ st p bytes) (completes : Completes P st st′ p bytes cycle kept kept′ Entered Entered′)
     (core : Core R (commOf st) P kept) (live : SharedLive recordView P R st Entered) where
-  open Writes writes using (state, flies, adds)
+  open Writes writes using (adds)
   open Adds adds using (grows, old-or-new)
-  open Completes completes using (cycle-next, cycle-before, committed-on)
+  open Completes completes using (committed-on)
   open Core core using (shared, own)
   open SharedCore shared using (all-sound)
   open BackPointerCore own using (exposed-back, committed-clear, exposed-link)
-  open SharedLive live using (within-used, link-planned)
+  open SharedLive live using (within-used)
 
   back-completed : (x : Record) (b : List ℕ) → R′ x b → Exposed recordView (commOf st′) x → x .c ≡ st′ (x .p) .committed
   back-completed x b w l =
@@ -67,9 +66,7 @@ module _ {P : ℕ} {R R′ : Record → List ℕ → Type 0} {st st′ : ℕ →
           let k = committed-on q c in
           let v = plan-version recordView st q in
           on-eq (x .nv) (st q .used)
-          (λ e. let f = cycle-flies-of c in
-          let m = link-planned q (f .below) (f .flies) x b (s .old) refl e in
-          absurd (never (cycle-before (x .p) (record { below = recordView .sound-page P x (all-sound x b (s .old)); flies = m .0 }) (ap cycle (m .1) ∙ c)) (s .off)))
+          (λ e. absurd (not-into recordView writes completes shared live x b s c e))
           (λ e. inr (
             plan recordView st q,
             kept′ q,
@@ -77,9 +74,6 @@ module _ {P : ℕ} {R R′ : Record → List ℕ → Type 0} {st st′ : ℕ →
             omega arith,
             record { at-next = plan-page recordView st q; above-c = (let z = plan-back st q in omega arith); below-v = omega arith },
           ))
-        where
-          cycle-flies-of : cycle (x .np) ≡ true → Flies P st (x .np)
-          cycle-flies-of = completes .cycle-flies (x .np)
 
       by : AheadOrStraddled R (commOf st) x → AheadOrStraddled R′ (commOf st′) x
       by (inl a) = on-test (cycle (x .np)) (λ c. through c a) (λ c. inl (let e = comm-off recordView writes completes shared live (x .np) below c in omega arith))

@@ -4,7 +4,7 @@ use native.Mathlib.Omega.{arith}
 use native.Mathlib.Decide.{ℕ-discrete}
 use mathlib.Core.Path.{_≡_, refl, sym, ap, _∙_, subst}
 use mathlib.Core.List.{List}
-use mathlib.Core.Logic.{_⊎_, inl, inr}
+use mathlib.Core.Logic.{_⊎_, inl, inr, ⊎-elim}
 use mathlib.Core.Bool.{true}
 use Rattle.bounded.specs.Choice.{on-lt}
 use Rattle.bounded.specs.Limits.{highestVersion}
@@ -16,7 +16,7 @@ use Rattle.state.specs.StateLaws.{StateFacts}
 use Rattle.protocol.specs.View.{View, Finds, Search, recordView, LinksTo, decide-links, IsCommitted, Exposed, greatest}
 use Rattle.protocol.specs.Shared.{SharedCore, SharedLive, OpenAtOnce, OpenWithin, plan, commOf}
 use Rattle.protocol.specs.BackPointer.{AheadOrStraddled, BackPointerCore, Core}
-use Rattle.protocol.specs.Permitted.{Permitted}
+use Rattle.protocol.specs.Permitted.{Spare, Permitted}
 
 -- fewer records, and the committed ones among them
 pub record FewerRecords {X : Type 0} (view : View X) (R R′ : X → List ℕ → Type 0) (comm : ℕ → ℕ) : Type 1 where
@@ -85,35 +85,68 @@ module _ {X : Type 0} (view : View X) {P : ℕ} {R R′ : X → List ℕ → Typ
         link-planned = λ p h f r b v. link-planned p h f r b (fewer r b v);
       }
 
--- ---- five-word records
+-- ---- an erasure
 
 -- every record stays or may be erased
-pub record Erased (R R′ : Record → List ℕ → Type 0) (st : ℕ → PageState) : Type 1 where
-  pub fewer : (r : Record) (b : List ℕ) → R′ r b → R r b
+pub record Erases {X : Type 0} (R R′ : X → List ℕ → Type 0) (MayGo : (ℕ → PageState) → X → Type 0) (st : ℕ → PageState) : Type 1 where
+  pub fewer : (r : X) (b : List ℕ) → R′ r b → R r b
   pub finds-before : Finds R
   pub finds : Finds R′
-  pub stays-or-permitted : (r : Record) (b : List ℕ) → R r b → R′ r b ⊎ Permitted R st r
+  pub stays-or-permitted : (r : X) (b : List ℕ) → R r b → R′ r b ⊎ MayGo st r
+
+-- what may not be erased stays
+pub stays :
+    {X : Type 0} {R R′ : X → List ℕ → Type 0} {MayGo : (ℕ → PageState) → X → Type 0} {st : ℕ → PageState}
+    → Erases R R′ MayGo st
+    → (r : X) (b : List ℕ)
+    → R r b
+    → ¬ (MayGo st r)
+    → R′ r b
+stays erases r b w bar = ⊎-elim (λ u. u) (λ g. absurd (bar g)) (erases .stays-or-permitted r b w)
+
+-- where only spare records may be erased, the committed ones stay, and those of pages in flight
+module _ {X : Type 0} (view : View X) {R R′ : X → List ℕ → Type 0} {st : ℕ → PageState} {MayGo : (ℕ → PageState) → X → Type 0}
+    (erases : Erases R R′ MayGo st) (spare : (r : X) → MayGo st r → Spare view st r) where
+  open Erases erases using (fewer, finds)
+
+  -- a committed record is not spare
+  committed-barred : (r : X) → IsCommitted view (commOf st) r → Spare view st r → ⊥
+  committed-barred r e (inl l) = omega arith
+  committed-barred r e (inr x) = let l = x .0 in omega arith
+
+  pub fewer-records : FewerRecords view R R′ (commOf st)
+  fewer-records = record { fewer = fewer; finds = finds; committed-stays = λ r b w e. stays erases r b w (λ g. committed-barred r e (spare r g)) }
+
+  module _ {P : ℕ} {Entered : ℕ → List ℕ → Type 0} (state : StateFacts P st) (live : SharedLive view P R st Entered) where
+    -- nor is the record of a page in flight at its used version
+    current-barred : (p : ℕ) → p < P → inFlight (st p) ≡ true → (r : X) → view .page r ≡ p → view .version r ≡ st p .used → Spare view st r → ⊥
+    current-barred p h f r e u (inl l) =
+        let a = ap (λ (x : ℕ). st x .committed) e in
+        let c = state .page p h .committed-used in
+        omega arith
+    current-barred p h f r e u (inr x) =
+        x .1 (ap (λ (y : ℕ). inFlight (st y)) e ∙ f, u ∙ ap (λ (y : ℕ). st y .used) (sym e))
+
+    pub live-spared : SharedLive view P R′ st Entered
+    live-spared = live-fewer view fewer (λ p h f r b w e u. stays erases r b w (λ g. current-barred p h f r e u (spare r g))) live
+
+-- ---- five-word records
+
+-- every record stays or is permitted to go
+abbrev pub Erased : (R R′ : Record → List ℕ → Type 0) → (ℕ → PageState) → Type 1
+Erased R R′ st = Erases R R′ (Permitted R) st
+
+-- only spare records are permitted to go
+permitted-spare : (R : Record → List ℕ → Type 0) (st : ℕ → PageState) (r : Record) → Permitted R st r → Spare recordView st r
+permitted-spare R st r (inl o) = inl (o .0)
+permitted-spare R st r (inr x) = inr x
 
 module _ {P : ℕ} {R R′ : Record → List ℕ → Type 0} {st : ℕ → PageState} {kept : ℕ → List ℕ}
     (erased : Erased R R′ st) (core : Core R (commOf st) P kept) where
-  open Erased erased using (fewer, finds-before, finds, stays-or-permitted)
+  open Erases erased using (fewer, finds-before)
   open Core core using (shared, own)
   open SharedCore shared using (all-sound)
   open BackPointerCore own using (exposed-back, committed-clear, exposed-link)
-
-  stays : (r : Record) (b : List ℕ) → R r b → (Permitted R st r → ⊥) → R′ r b
-  stays r b w bar = by (stays-or-permitted r b w)
-    where
-      by : R′ r b ⊎ Permitted R st r → R′ r b
-      by (inl u) = u
-      by (inr g) = absurd (bar g)
-
-  committed-barred : (r : Record) → r .v ≡ st (r .p) .committed → Permitted R st r → ⊥
-  committed-barred r e (inl o) = let l = o .0 in omega arith
-  committed-barred r e (inr x) = let l = x .0 in omega arith
-
-  fewer-records : FewerRecords recordView R R′ (commOf st)
-  fewer-records = record { fewer = fewer; finds = finds; committed-stays = λ r b w e. stays r b w (committed-barred r e) }
 
   -- a straddler of an exposed link, not above the committed version, leaves one behind: of those with its page and c the furthest is needed
   straddler-stays :
@@ -136,7 +169,7 @@ module _ {P : ℕ} {R R′ : Record → List ℕ → Type 0} {st : ℕ → PageS
       on-lt (st (x .np) .committed) (M .v)
       (λ l. absurd (let c = exposed-back M (g .1) (g .2) (omega arith) in let a = s .above-c in let z = s .below-v in let k = like .1 in omega arith))
       (λ l. l) in
-      (M, g .1, stays M (g .1) (g .2) (barred M (g .5) like straddles within comm-at), within, straddles)
+      (M, g .1, stays erased M (g .1) (g .2) (barred M (g .5) like straddles within comm-at), within, straddles)
     where
       Q : Record → Type 0
       Q r = (r .p ≡ K .p) × (r .c ≡ K .c)
@@ -167,7 +200,7 @@ module _ {P : ℕ} {R R′ : Record → List ℕ → Type 0} {st : ℕ → PageS
   pub core-fewer : Core R′ (commOf st) P kept
   core-fewer =
       record {
-        shared = shared-core-fewer recordView fewer-records shared;
+        shared = shared-core-fewer recordView (fewer-records recordView erased (permitted-spare R st)) shared;
         own = record {
           exposed-back = λ r b w. exposed-back r b (fewer r b w);
           committed-clear = λ r K b d w u. committed-clear r K b d (fewer r b w) (fewer K d u);
@@ -184,15 +217,5 @@ module _ {P : ℕ} {R R′ : Record → List ℕ → Type 0} {st : ℕ → PageS
       over r b w l (inl a) = inl a
       over r b w l (inr k) = inr (straddler-stays r b w l (k .0) (k .1) (k .2) (k .3) (k .4))
 
-  module _ {Entered : ℕ → List ℕ → Type 0} (state : StateFacts P st) (live : SharedLive recordView P R st Entered) where
-    current-barred : (p : ℕ) → p < P → inFlight (st p) ≡ true → (r : Record) → r .p ≡ p → r .v ≡ st p .used → Permitted R st r → ⊥
-    current-barred p h f r e u (inl o) =
-        let l = o .0 in
-        let a = ap (λ (x : ℕ). st x .committed) e in
-        let c = state .page p h .committed-used in
-        omega arith
-    current-barred p h f r e u (inr x) =
-        x .1 (ap (λ (y : ℕ). inFlight (st y)) e ∙ f, u ∙ ap (λ (y : ℕ). st y .used) (sym e))
-
-    pub live-erased : SharedLive recordView P R′ st Entered
-    live-erased = live-fewer recordView fewer (λ p h f r b w e u. stays r b w (current-barred p h f r e u)) live
+  pub live-erased : {Entered : ℕ → List ℕ → Type 0} → StateFacts P st → SharedLive recordView P R st Entered → SharedLive recordView P R′ st Entered
+  live-erased state live = live-spared recordView erased (permitted-spare R st) state live

@@ -2,6 +2,7 @@ pub mod View
 pub mod Shared
 pub mod BackPointer
 pub mod Highest
+pub mod Walks
 pub mod Recovers
 pub mod RecoverAnswers
 pub mod ReadsKept
@@ -13,3 +14,4 @@ pub mod OneMore
 pub mod Completed
 pub mod CompletedCore
 pub mod WriteSteps
+pub mod simple

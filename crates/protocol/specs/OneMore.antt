@@ -231,7 +231,7 @@ module _ {P : ℕ} {R R′ : Record → List ℕ → Type 0} {st : ℕ → PageS
               (λ x b. Exposed recordView (commOf st) x
               → AheadOrStraddled R′ (commOf st) x)
               (λ x b w l. over x (exposed-link x b w l))
-              (λ l. inl (plan-ahead writes));
+              (λ l. inl (plan-ahead recordView writes shared live));
         };
       }
     where

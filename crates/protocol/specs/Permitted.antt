@@ -12,8 +12,17 @@ use Rattle.state.specs.declared.PageState.{PageState}
 use Rattle.state.specs.State.{inFlight}
 use Rattle.rules.specs.Permission.{mayErase}
 use Rattle.rules.specs.laws.Permission as slots
-use Rattle.protocol.specs.View.{recordView, InSlots, Exposed, Obsolete}
+use Rattle.protocol.specs.View.{View, recordView, InSlots, Exposed, Obsolete}
 use Rattle.protocol.specs.Shared.{commOf}
+
+module _ {X : Type 0} (view : View X) (st : ℕ → PageState) where
+  -- an exposed record other than one whose page is in flight with v = used
+  abbrev pub ExposedSpare : X → Type 0
+  ExposedSpare r = Exposed view (commOf st) r × ¬ ((inFlight (st (view .page r)) ≡ true) × (view .version r ≡ st (view .page r) .used))
+
+  -- a record that is obsolete, or exposed and so: neither the committed one nor the current one of a page in flight
+  abbrev pub Spare : X → Type 0
+  Spare r = Obsolete view (commOf st) r ⊎ ExposedSpare r
 
 module _ (R : Record → List ℕ → Type 0) where
   -- K is a needed straddler: no record has the same page and c with a higher v, and it straddles the link of some exposed record
@@ -23,9 +32,7 @@ module _ (R : Record → List ℕ → Type 0) where
 
   -- an obsolete record that is no needed straddler, or an exposed record other than one whose page is in flight with v = used
   abbrev pub Permitted : (ℕ → PageState) → Record → Type 0
-  Permitted st r =
-      (Obsolete recordView (commOf st) r × ¬ (Needed (commOf st) r))
-      ⊎ (Exposed recordView (commOf st) r × ¬ ((inFlight (st (r .p)) ≡ true) × (r .v ≡ st (r .p) .used)))
+  Permitted st r = (Obsolete recordView (commOf st) r × ¬ (Needed (commOf st) r)) ⊎ ExposedSpare recordView st r
 
 -- the permission of a slot is that of its record over the set
 pub may-erase-permitted :

@@ -9,9 +9,10 @@ use borrow.Author.Tests.{lt-ltb, eq-eqb, ltb-true}
 use Rattle.bounded.specs.Choice.{never}
 use Rattle.bounded.specs.Limits.{highestVersion, Widths}
 use Rattle.outcome.specs.OutcomeLaws.{settled-done}
+use Rattle.sizes.specs.declared.Layout.{Layout}
 use Rattle.sizes.specs.declared.Sizes.{Sizes}
 use Rattle.record.specs.declared.Slot.{Slot}
-use Rattle.record.specs.Slot.{slotAt, bytesAt}
+use Rattle.record.specs.Slot.{slotIn, bytesAt}
 use Rattle.state.specs.declared.PageState.{PageState}
 use Rattle.state.specs.State.{stateAt, stateWords, stateSound, inFlight}
 use Rattle.state.specs.StateLaws.{PageFacts, facts-state-sound, stateAt-words}
@@ -19,13 +20,11 @@ use Rattle.state.specs.Change.{atRest}
 use Rattle.table.specs.Table.{hasVersion, usedOf}
 use Rattle.table.specs.Used.{used-most}
 use Rattle.table.specs.TableLaws.{lowest-holds}
-use Rattle.rules.specs.Volume.{Volume, volumeFits}
-use Rattle.rules.specs.Read.{readSlot, readAnswer, readOutcome}
-use Rattle.rules.specs.Recover.{recovered}
-use Rattle.protocol.specs.View.{InSlots}
+use Rattle.rules.specs.Volume.{Volume, volumeFitsIn}
+use Rattle.rules.specs.Read.{readSlotIn, readAnswerIn, readOutcomeIn}
+use Rattle.protocol.specs.View.{pointingView, InSlots}
 use Rattle.protocol.specs.Shared.{SharedCore}
-use Rattle.protocol.specs.BackPointer.{Core}
-use Rattle.protocol.specs.RecoverAnswers.{table-sound, committed-there, recovered-is, found-within-used}
+use Rattle.protocol.specs.RecoverAnswers.{table-sound, committed-there, found-within-used}
 use Rattle.protocol.specs.WriteSteps.{at-rest}
 
 -- pages at rest are a sound state where each has its committed version at most its used one
@@ -53,63 +52,65 @@ all-at-rest-sound P st c u h =
       apart = λ p q l m f g e. let w = h p l in absurd (never f (ap inFlight (w .0) ∙ at-rest (c p) (u p)));
     })
 
--- a volume's slot table and contents
-abbrev pub slotsIn : Volume → ℕ → Slot
-slotsIn v = slotAt (v .flash .words)
-
-abbrev pub bytesOf : ℕ → Volume → ℕ → List ℕ
-bytesOf w v = bytesAt w (v .flash .contents)
-
-module _ (sizes : Sizes) (v : Volume) {comm : ℕ → ℕ} {kept : ℕ → List ℕ}
-    (core : Core (InSlots (sizes .slots) (slotsIn v) (bytesOf (sizes .width) v)) comm (sizes .pages) kept)
-    (filled : v .state ≡ stateWords (sizes .pages) (recovered (sizes .pages) (sizes .slots) (slotsIn v))) where
-  open Core core using (shared)
+module _ (layout : Layout) (back : (used committed : ℕ) → ℕ) (sizes : Sizes) (v : Volume) {comm : ℕ → ℕ} {kept : ℕ → List ℕ} (committed : ℕ → ℕ)
+    (shared : SharedCore (pointingView back) (InSlots (sizes .slots) (slotIn layout (v .flash .words)) (bytesAt (sizes .width) (v .flash .contents))) comm (sizes .pages) kept)
+    (right : (p : ℕ) → p < (sizes .pages) → committed p ≡ comm p)
+    (filled : v .state ≡ stateWords (sizes .pages) (λ p. atRest (committed p) (usedOf (sizes .slots) (slotIn layout (v .flash .words)) p))) where
   open SharedCore shared using (one-record, committed-kept)
 
+  abbrev slots : ℕ → Slot
+  slots = slotIn layout (v .flash .words)
+
+  abbrev bytes : ℕ → List ℕ
+  bytes = bytesAt (sizes .width) (v .flash .contents)
+
   -- the state of each page
-  pub filled-page : (p : ℕ) → p < (sizes .pages) → stateAt (v .state) p ≡ atRest (comm p) (usedOf (sizes .slots) (slotsIn v) p)
-  filled-page p h = ap (λ (x : List ℕ). stateAt x p) filled ∙ stateAt-words (sizes .pages) (recovered (sizes .pages) (sizes .slots) (slotsIn v)) p h ∙ recovered-is core p h
+  pub filled-page : (p : ℕ) → p < (sizes .pages) → stateAt (v .state) p ≡ atRest (comm p) (usedOf (sizes .slots) slots p)
+  filled-page p h =
+      ap (λ (x : List ℕ). stateAt x p) filled
+      ∙ stateAt-words (sizes .pages) (λ p. atRest (committed p) (usedOf (sizes .slots) slots p)) p h
+      ∙ ap (λ (c : ℕ). atRest c (usedOf (sizes .slots) slots p)) (right p h)
 
   filled-committed : (p : ℕ) → p < (sizes .pages) → stateAt (v .state) p .committed ≡ comm p
   unfolding atRest
   filled-committed p h = ap (λ (s : PageState). s .committed) (filled-page p h)
 
-  committed-used : (p : ℕ) → p < (sizes .pages) → comm p ≤ usedOf (sizes .slots) (slotsIn v) p
+  committed-used : (p : ℕ) → p < (sizes .pages) → comm p ≤ usedOf (sizes .slots) slots p
   committed-used p h =
       let c = committed-kept p h in
-      let l = found-within-used (sizes .slots) (slotsIn v) (bytesOf (sizes .width) v) .version-used (c .0) (kept p) (c .1) in
-      let e = ap (usedOf (sizes .slots) (slotsIn v)) (c .2 .0) in
+      let l = found-within-used back (sizes .slots) slots bytes .version-used (c .0) (kept p) (c .1) in
+      let e = ap (usedOf (sizes .slots) slots) (c .2 .0) in
       let q = c .2 .1 in
       omega arith
 
   -- not 5
   pub filled-sound : stateSound (sizes .pages) (stateAt (v .state)) ≡ true
   filled-sound =
-      all-at-rest-sound (sizes .pages) (stateAt (v .state)) comm (usedOf (sizes .slots) (slotsIn v))
-      (λ p h. (filled-page p h, committed-used p h, used-most (sizes .pages) (sizes .slots) (slotsIn v) p (table-sound core)))
+      all-at-rest-sound (sizes .pages) (stateAt (v .state)) comm (usedOf (sizes .slots) slots)
+      (λ p h. (filled-page p h, committed-used p h, used-most (sizes .pages) (sizes .slots) slots p (table-sound back shared)))
 
-  module _ (widths : Widths) (page : ℕ) (out : List ℕ) (below : page < (sizes .pages)) (fits : volumeFits widths sizes v ≡ true) (room : length out ≡ sizes .width) where
-    there : hasVersion (sizes .slots) (slotsIn v) page (stateAt (v .state) page .committed) ≡ true
-    there = rw (filled-committed page below) (committed-there core page below)
+  module _ (widths : Widths) (page : ℕ) (out : List ℕ) (below : page < (sizes .pages)) (fits : volumeFitsIn layout widths sizes v ≡ true) (room : length out ≡ sizes .width) where
+    there : hasVersion (sizes .slots) slots page (stateAt (v .state) page .committed) ≡ true
+    there = rw (filled-committed page below) (committed-there back shared page below)
 
     -- Read answers 0,
-    pub read-accepts : readAnswer widths sizes v page out ≡ 0
-    unfolding readAnswer
-    read-accepts = rw (readAnswer, fits, eq-eqb (length out) (sizes .width) room, table-sound core, filled-sound, lt-ltb page (sizes .pages) below, there)
+    pub read-accepts : readAnswerIn layout widths sizes v page out ≡ 0
+    unfolding readAnswerIn
+    read-accepts = rw (readAnswerIn, fits, eq-eqb (length out) (sizes .width) room, table-sound back shared, filled-sound, lt-ltb page (sizes .pages) below, there)
 
     -- and the bytes of the slot it reads are the kept contents.
-    pub read-kept : bytesOf (sizes .width) v (readSlot (sizes .slots) v page) ≡ kept page
-    unfolding readSlot hasVersion
+    pub read-kept : bytes (readSlotIn layout (sizes .slots) v page) ≡ kept page
+    unfolding readSlotIn hasVersion
     read-kept =
-        let l = ltb-true (readSlot (sizes .slots) v page) (sizes .slots) there in
-        let r = lowest-holds (slotsIn v) (sizes .slots) page (stateAt (v .state) page .committed) l in
+        let l = ltb-true (readSlotIn layout (sizes .slots) v page) (sizes .slots) there in
+        let r = lowest-holds slots (sizes .slots) page (stateAt (v .state) page .committed) l in
         let c = committed-kept page below in
-        one-record (r .0) (c .0) (bytesOf (sizes .width) v (readSlot (sizes .slots) v page)) (kept page)
-        (readSlot (sizes .slots) v page, l, r .1, refl) (c .1)
+        one-record (r .0) (c .0) (bytes (readSlotIn layout (sizes .slots) v page)) (kept page)
+        (readSlotIn layout (sizes .slots) v page, l, r .1, refl) (c .1)
         (r .2 ∙ sym (c .2 .0)) (r .3 ∙ filled-committed page below ∙ sym (c .2 .1)) .1
 
-    pub read-outcome-kept : readOutcome widths sizes v page out ≡ record { answer = 0; second = 0; left = kept page }
-    unfolding readOutcome
+    pub read-outcome-kept : readOutcomeIn layout widths sizes v page out ≡ record { answer = 0; second = 0; left = kept page }
+    unfolding readOutcomeIn
     read-outcome-kept =
-        settled-done (readAnswer widths sizes v page out) 0 0 out (bytesOf (sizes .width) v (readSlot (sizes .slots) v page)) read-accepts
+        settled-done (readAnswerIn layout widths sizes v page out) 0 0 out (bytes (readSlotIn layout (sizes .slots) v page)) read-accepts
         ∙ ap (λ (b : List ℕ). record { answer = 0; second = 0; left = b }) read-kept

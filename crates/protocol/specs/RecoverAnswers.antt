@@ -3,32 +3,30 @@ use Prim.Native.Nat.{ℕ, _<_}
 use native.Mathlib.Omega.{arith}
 use mathlib.Core.Path.{_≡_, refl}
 use mathlib.Core.List.{List}
-use mathlib.Core.Logic.{_⊎_, inl, inr}
 use mathlib.Core.Bool.{true, false}
 use Rattle.bounded.specs.Limits.{Widths}
 use Rattle.bounded.specs.Below.{allBelow, someBelow}
 use Rattle.bounded.specs.Choice.{on-test}
-use Rattle.bounded.specs.BelowLaws.{all-of, some-none}
+use Rattle.bounded.specs.BelowLaws.{all-of}
 use Rattle.sizes.specs.declared.Sizes.{Sizes}
 use Rattle.sizes.specs.Sizes.{sizesOk, wordsFit, stateFits}
 use Rattle.record.specs.declared.Slot.{Slot}
 use Rattle.record.specs.declared.Slot.the-variants.{Blank, Holds}
 use Rattle.record.specs.Slot.{slotAt, slotSound}
-use Rattle.state.specs.Change.{atRest}
 use Rattle.table.specs.Table.{tableSound, someClash, hasRecord, hasVersion, usedOf}
 use Rattle.table.specs.Used.{used-above-version, used-above-next}
 use Rattle.table.specs.TableLaws.{some-clash, has-record, has-version}
-use Rattle.follow.specs.declared.End.the-variants as ends
 use Rattle.follow.specs.Follow.{isAstray}
-use Rattle.rules.specs.Recover.{walkOf, committedOf, recovered, recoverAnswer}
-use Rattle.protocol.specs.View.{InSlots, NoTwins, recordView}
+use Rattle.rules.specs.Recover.{walkOf, committedOf, recoverAnswer}
+use Rattle.protocol.specs.View.{InSlots, NoTwins, pointingView}
 use Rattle.protocol.specs.Shared.{SharedCore, WithinUsed}
 use Rattle.protocol.specs.BackPointer.{Core}
-use Rattle.protocol.specs.Recovers.{Green, Red, coloured, walk-green, walk-red, committed-found}
+use Rattle.protocol.specs.Walks.{none-astray}
+use Rattle.protocol.specs.Recovers.{judged, committed-found}
 
 -- every record found is at most the used version that recovery finds
-pub found-within-used : (S : ℕ) (t : ℕ → Slot) (bytes : ℕ → List ℕ) → WithinUsed recordView (InSlots S t bytes) (usedOf S t)
-found-within-used S t bytes =
+pub found-within-used : (back : (used committed : ℕ) → ℕ) (S : ℕ) (t : ℕ → Slot) (bytes : ℕ → List ℕ) → WithinUsed (pointingView back) (InSlots S t bytes) (usedOf S t)
+found-within-used back S t bytes =
     record {
       version-used = λ r b w. used-above-version S t (w .0) r (w .1) (w .2);
       link-used = λ r b w. used-above-next S t (w .0) r (w .1) (w .2);
@@ -42,8 +40,9 @@ no-clash S t apart =
     absurd (let a = w .4 in omega arith))
     (λ e. e)
 
-module _ {P S : ℕ} {t : ℕ → Slot} {bytes : ℕ → List ℕ} {comm : ℕ → ℕ} {kept : ℕ → List ℕ} (core : Core (InSlots S t bytes) comm P kept) where
-  open Core core using (shared)
+-- ---- by the shared clauses, for any family
+
+module _ (back : (used committed : ℕ) → ℕ) {P S : ℕ} {t : ℕ → Slot} {bytes : ℕ → List ℕ} {comm : ℕ → ℕ} {kept : ℕ → List ℕ} (shared : SharedCore (pointingView back) (InSlots S t bytes) comm P kept) where
   open SharedCore shared using (all-sound, committed-kept)
 
   -- not 2
@@ -60,27 +59,22 @@ module _ {P S : ℕ} {t : ℕ → Slot} {bytes : ℕ → List ℕ} {comm : ℕ �
   all-have-record =
       all-of (hasRecord S t) P (λ p h. let c = committed-kept p h in let k = c .1 in has-record t p S .1 (k .0, c .0, k .1, k .2, c .2 .0))
 
-  -- not 4
-  pub none-astray : someBelow P (λ p. isAstray (walkOf P S t p .end)) ≡ false
-  unfolding isAstray
-  none-astray = some-none (λ p. isAstray (walkOf P S t p .end)) P (λ p h. by p (coloured core p h))
-    where
-      by : (p : ℕ) → Green core p ⊎ ((k : ℕ) × Red core k p) → isAstray (walkOf P S t p .end) ≡ false
-      by p (inl g) = rw (walk-green core p g)
-      by p (inr w) = rw (walk-red core p (w .0) (w .1))
-
-  -- not 14
+  -- the committed version is there
   pub committed-there : (p : ℕ) → p < P → hasVersion S t p (comm p) ≡ true
   committed-there p h = let c = committed-kept p h in let k = c .1 in has-version t S p (comm p) .1 (k .0, c .0, k .1, k .2, c .2 .0, c .2 .1)
 
+-- ---- records with a back pointer
+
+module _ {P S : ℕ} {t : ℕ → Slot} {bytes : ℕ → List ℕ} {comm : ℕ → ℕ} {kept : ℕ → List ℕ} (core : Core (InSlots S t bytes) comm P kept) where
+  -- not 4
+  pub walks-end : someBelow P (λ p. isAstray (walkOf P S t p .end)) ≡ false
+  unfolding walkOf
+  walks-end = none-astray (core .shared) (judged core)
+
+  -- not 14
   pub all-have-committed : allBelow P (λ p. hasVersion S t p (committedOf P S t p)) ≡ true
   all-have-committed =
-      all-of (λ p. hasVersion S t p (committedOf P S t p)) P (λ p h. rw (committed-found core p h) (committed-there p h))
-
-  -- the state that recover fills
-  pub recovered-is : (p : ℕ) → p < P → recovered P S t p ≡ atRest (comm p) (usedOf S t p)
-  unfolding recovered
-  recovered-is p h = rw (committed-found core p h)
+      all-of (λ p. hasVersion S t p (committedOf P S t p)) P (λ p h. rw (committed-found core p h) (committed-there (λ u c. c) (core .shared) p h))
 
 -- Recover answers 0.
 pub recover-accepts :
@@ -93,4 +87,4 @@ pub recover-accepts :
     → recoverAnswer widths sizes words state ≡ 0
 unfolding recoverAnswer
 recover-accepts widths sizes words state ok fits room apart core =
-    rw (recoverAnswer, ok, fits, room, table-sound core, no-clash (sizes .slots) (slotAt words) apart, all-have-record core, none-astray core, all-have-committed core)
+    rw (recoverAnswer, ok, fits, room, table-sound (λ u c. c) (core .shared), no-clash (sizes .slots) (slotAt words) apart, all-have-record (λ u c. c) (core .shared), walks-end core, all-have-committed core)

@@ -26,10 +26,10 @@ module _ {X : Type 0} (view : View X) {P : ℕ} {R R′ : X → List ℕ → Typ
   open SameRecords same using (forth, back, same-comm, same-kept)
   open SharedCore core using (all-sound, one-record, committed-kept, committed-link, links-apart, exposed-open)
 
-  comm-page : (r : X) (b : List ℕ) → R′ r b → comm (view .page r) ≡ comm′ (view .page r)
+  pub comm-page : (r : X) (b : List ℕ) → R′ r b → comm (view .page r) ≡ comm′ (view .page r)
   comm-page r b w = same-comm (view .page r) (view .sound-page P r (all-sound r b (back r b w)))
 
-  comm-next : (r : X) (b : List ℕ) → R′ r b → comm (view .nextPage r) ≡ comm′ (view .nextPage r)
+  pub comm-next : (r : X) (b : List ℕ) → R′ r b → comm (view .nextPage r) ≡ comm′ (view .nextPage r)
   comm-next r b w = same-comm (view .nextPage r) (view .sound-next P r (all-sound r b (back r b w)))
 
   at-once-same : (r : X) (b : List ℕ) → R r b → OpenAtOnce view R comm r → OpenAtOnce view R′ comm′ r

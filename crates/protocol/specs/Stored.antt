@@ -85,6 +85,15 @@ module _ {X : Type 0} (view : View X) {P : ℕ} {R R′ : X → List ℕ → Typ
       let v = plan-version view st p in
       omega arith
 
+  -- and links above the committed version
+  pub plan-ahead : st (view .nextPage (plan view st p)) .committed < view .nextVersion (plan view st p)
+  plan-ahead =
+      let n = next-flies P st state p flies in
+      let l = state .page (st p .next) (n .below) .flies-below-used (n .flies) in
+      let a = ap (λ (x : ℕ). st x .committed) (plan-next view st p) in
+      let v = plan-next-version view st p in
+      omega arith
+
   -- a committed record is an old one
   pub committed-old : (x : X) (b : List ℕ) → R′ x b → IsCommitted view (commOf st) x → R x b
   committed-old x b w e = by (old-or-new x b w)
@@ -130,24 +139,13 @@ module _ {X : Type 0} (view : View X) {P : ℕ} {R R′ : X → List ℕ → Typ
 pub plan-back : (st : ℕ → PageState) (q : ℕ) → plan recordView st q .c ≡ st q .committed
 plan-back st q = planned-record-back q (st q .used) (st q .committed) (st q .next) (st (st q .next) .used)
 
-module _ {P : ℕ} {R R′ : Record → List ℕ → Type 0} {st : ℕ → PageState} {p : ℕ} {bytes : List ℕ} (writes : Writes recordView P R R′ st p bytes) where
-  open Writes writes using (state, flies)
-
-  -- the planned record links above the committed version
-  pub plan-ahead : st (plan recordView st p .np) .committed < plan recordView st p .nv
-  plan-ahead =
-      let n = next-flies P st state p flies in
-      let l = state .page (st p .next) (n .below) .flies-below-used (n .flies) in
-      let a = ap (λ (x : ℕ). st x .committed) (plan-next recordView st p) in
-      let v = plan-next-version recordView st p in
-      omega arith
-
+module _ {P : ℕ} {R R′ : Record → List ℕ → Type 0} {st : ℕ → PageState} {p : ℕ} {bytes : List ℕ} {kept : ℕ → List ℕ} {Entered : ℕ → List ℕ → Type 0}
+    (writes : Writes recordView P R R′ st p bytes) (core : SharedCore recordView R (commOf st) P kept) (live : SharedLive recordView P R st Entered) where
   -- the planned record straddles no committed record's link
-  module _ {kept : ℕ → List ℕ} {Entered : ℕ → List ℕ → Type 0} (core : SharedCore recordView R (commOf st) P kept) (live : SharedLive recordView P R st Entered) where
-    pub plan-clear : (x : Record) (b : List ℕ) → R x b → IsCommitted recordView (commOf st) x → Straddles (plan recordView st p) x → ⊥
-    plan-clear x b w e s =
-        let l = core .committed-link x b w e in
-        let a = ap (λ (y : ℕ). st y .committed) (sym (s .at-next) ∙ plan-page recordView st p) in
-        let c = plan-back st p in
-        let h = s .above-c in
-        omega arith
+  pub plan-clear : (x : Record) (b : List ℕ) → R x b → IsCommitted recordView (commOf st) x → Straddles (plan recordView st p) x → ⊥
+  plan-clear x b w e s =
+      let l = core .committed-link x b w e in
+      let a = ap (λ (y : ℕ). st y .committed) (sym (s .at-next) ∙ plan-page recordView st p) in
+      let c = plan-back st p in
+      let h = s .above-c in
+      omega arith

@@ -89,7 +89,7 @@ module _ {X : Type 0} {R : X → List ℕ → Type 0} (finds : Finds R) (Q : X �
   pub greatest : (r : X) (b : List ℕ) → R r b → Q r → Greatest r
   greatest r b w q = greatest-within bound r b w q (omega arith)
 
--- ---- five-word records, in slots
+-- ---- records in slots
 
 pub planned-record-page : (p u c q n : ℕ) → plannedRecord p u c q n .p ≡ p
 unfolding plannedRecord
@@ -111,8 +111,9 @@ pub planned-record-back : (p u c q n : ℕ) → plannedRecord p u c q n .c ≡ c
 unfolding plannedRecord
 planned-record-back p u c q n = refl
 
-abbrev pub recordView : View Record
-recordView =
+-- the view of records whose planned one points back at a version given by its page's used and committed versions
+abbrev pub pointingView : (back : (used committed : ℕ) → ℕ) → View Record
+pointingView back =
     record {
       page = λ r. r .p;
       version = λ r. r .v;
@@ -121,12 +122,16 @@ recordView =
       sound = recordSound;
       sound-page = λ P r e. sound-facts P r e .page-below;
       sound-next = λ P r e. sound-facts P r e .next-below;
-      planned = plannedRecord;
-      planned-page = planned-record-page;
-      planned-version = planned-record-version;
-      planned-nextPage = planned-record-next;
-      planned-nextVersion = planned-record-next-version;
+      planned = λ p u c q n. plannedRecord p u (back u c) q n;
+      planned-page = λ p u c q n. planned-record-page p u (back u c) q n;
+      planned-version = λ p u c q n. planned-record-version p u (back u c) q n;
+      planned-nextPage = λ p u c q n. planned-record-next p u (back u c) q n;
+      planned-nextVersion = λ p u c q n. planned-record-next-version p u (back u c) q n;
     }
+
+-- five-word records: the planned one points back at the committed version
+abbrev pub recordView : View Record
+recordView = pointingView (λ u c. c)
 
 -- the pairs in the S slots of the table t: some slot holds the record and has those bytes
 abbrev pub InSlots : (S : ℕ) (t : ℕ → Slot) (bytes : ℕ → List ℕ) → Record → List ℕ → Type 0

@@ -1,6 +1,5 @@
 -- A write's state against the steps on records: the planned record is sound, a cycle not completed has a page missing, and what a write makes of the state is what these steps ask for.
 use Prim.Native.Nat.{ℕ, _<_}
-use native.Mathlib.Omega.{arith}
 use mathlib.Core.Path.{_≡_, refl, sym, ap, _∙_, subst}
 use mathlib.Core.List.{List}
 use mathlib.Core.Logic.{_⊎_, inl, inr, _↔_}
@@ -12,7 +11,7 @@ use Rattle.bounded.specs.BelowLaws.{some-at, some-search}
 use Rattle.bounded.specs.Parts.{update}
 use Rattle.bounded.specs.PartsLaws.{update-same, update-other}
 use Rattle.record.specs.Slot.{recordSound, plannedRecord}
-use Rattle.record.specs.SlotLaws.{sound-test}
+use Rattle.record.specs.SlotLaws as records
 use Rattle.state.specs.declared.PageState.{PageState}
 use Rattle.state.specs.State.{inFlight, isWritten}
 use Rattle.state.specs.StateLaws.{StateFacts, none-rests}
@@ -31,23 +30,16 @@ unfolding atRest
 at-rest c u = none-rests (atRest c u) refl
 
 module _ (P : ℕ) (st : ℕ → PageState) (sound : StateFacts P st) (p : ℕ) (f : Flies P st p) where
-  -- the record planned for a page in flight is sound
-  pub planned-sound : recordSound P (plan recordView st p) ≡ true
-  unfolding plannedRecord
-  planned-sound =
-      let here = sound .page p (f .below) in
+  -- the record planned for a page in flight is sound, wherever below the used version it points back;
+  pub planned-sound-back : (c : ℕ) → c < st p .used → recordSound P (plannedRecord p (st p .used) c (st p .next) (st (st p .next) .used)) ≡ true
+  planned-sound-back c l =
       let n = next-flies P st sound p f in
-      let there = sound .page (st p .next) (n .below) in
-      sound-test P (plan recordView st p)
-      (record {
-        page-below = f .below;
-        next-below = n .below;
-        v-most = here .used-highest;
-        c-most = (let a = here .committed-used in let b = here .used-highest in omega arith);
-        nv-most = there .used-highest;
-        c-before-v = inl (here .flies-below-used (f .flies));
-        own-link = λ e. ap (λ (x : ℕ). st x .used) e;
-      })
+      records.planned-sound P p (st p .used) c (st p .next) (st (st p .next) .used) (f .below) (n .below)
+      (sound .page p (f .below) .used-highest) (sound .page (st p .next) (n .below) .used-highest) l (λ e. ap (λ (x : ℕ). st x .used) e)
+
+  -- so the one that points back at the committed version is
+  pub planned-sound : recordSound P (plan recordView st p) ≡ true
+  planned-sound = planned-sound-back (st p .committed) (sound .page p (f .below) .flies-below-used (f .flies))
 
   -- a page of the cycle that is p or written
   done : ℕ → Bool

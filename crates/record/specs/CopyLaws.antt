@@ -17,6 +17,15 @@ five-stored (x1 ∷ x2 ∷ x3 ∷ x4 ∷ []) a b c d e h = absurd (omega arith)
 five-stored (x1 ∷ x2 ∷ x3 ∷ x4 ∷ x5 ∷ []) a b c d e h = refl
 five-stored (x1 ∷ x2 ∷ x3 ∷ x4 ∷ x5 ∷ x6 ∷ l) a b c d e h = absurd (omega arith)
 
+-- and four
+pub four-stored : (l : List ℕ) (a b c d : ℕ) → length l ≡ 4 → set (set (set (set l 0 a) 1 b) 2 c) 3 d ≡ a ∷ b ∷ c ∷ d ∷ []
+four-stored [] a b c d h = absurd (omega arith)
+four-stored (x1 ∷ []) a b c d h = absurd (omega arith)
+four-stored (x1 ∷ x2 ∷ []) a b c d h = absurd (omega arith)
+four-stored (x1 ∷ x2 ∷ x3 ∷ []) a b c d h = absurd (omega arith)
+four-stored (x1 ∷ x2 ∷ x3 ∷ x4 ∷ []) a b c d h = refl
+four-stored (x1 ∷ x2 ∷ x3 ∷ x4 ∷ x5 ∷ l) a b c d h = absurd (omega arith)
+
 -- a part lent as `&mut xs[a..a + w]`, and given back as s
 pub lent-part : (xs ys s : List ℕ) (w k : ℕ) → ys ≡ s → length s ≡ w → putMid (w * k) (w * k + w - w * k) xs ys ≡ putPart w k s xs
 unfolding putPart putAt

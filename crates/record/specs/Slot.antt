@@ -7,29 +7,50 @@ use lib.ListN.{getD}
 use Rattle.bounded.specs.Limits.{noNumber, highestVersion}
 use Rattle.bounded.specs.Below.{allBelow, someBelow}
 use Rattle.bounded.specs.Parts.{part}
+use Rattle.sizes.specs.declared.Layout.{Layout}
+use Rattle.sizes.specs.declared.Layout.the-variants.{FiveWords, FourWords}
+use Rattle.sizes.specs.Sizes.{strideOf}
 use Rattle.record.specs.declared.Record.{Record}
 use Rattle.record.specs.declared.Slot.{Slot}
 use Rattle.record.specs.declared.Slot.the-variants.{Blank, Holds}
 
--- the five words of a record, in their order
-unfoldable pub wordsOf : Record → List ℕ
-wordsOf r = r .p ∷ r .v ∷ r .c ∷ r .np ∷ r .nv ∷ []
+-- the words of a record in a layout: its five, in their order, or all but the back pointer
+unfoldable pub encoded : Layout → Record → List ℕ
+encoded FiveWords r = r .p ∷ r .v ∷ r .c ∷ r .np ∷ r .nv ∷ []
+encoded FourWords r = r .p ∷ r .v ∷ r .np ∷ r .nv ∷ []
 
--- the record that five words are
-unfoldable pub recordOf : List ℕ → Record
-recordOf ws = record { p = getD ws 0 0; v = getD ws 1 0; c = getD ws 2 0; np = getD ws 3 0; nv = getD ws 4 0 }
+-- the record that words are in a layout; of four, its back pointer is 0
+unfoldable pub decoded : Layout → List ℕ → Record
+decoded FiveWords ws = record { p = getD ws 0 0; v = getD ws 1 0; c = getD ws 2 0; np = getD ws 3 0; nv = getD ws 4 0 }
+decoded FourWords ws = record { p = getD ws 0 0; v = getD ws 1 0; c = 0; np = getD ws 2 0; nv = getD ws 3 0 }
 
--- "A blank slot has 4,294,967,295 in all five words."
-unfoldable pub allBlank : List ℕ → Bool
-allBlank ws = allBelow 5 (λ i. eqb (getD ws i 0) noNumber)
+-- "A blank slot has 4,294,967,295 in all five words", or in all four.
+unfoldable pub blankIn : Layout → List ℕ → Bool
+blankIn layout ws = allBelow (strideOf layout) (λ i. eqb (getD ws i 0) noNumber)
 
 -- "Any other slot is a record."
-unfoldable pub slotOf : List ℕ → Slot
-slotOf ws = cond (allBlank ws) Blank (Holds (recordOf ws))
+unfoldable pub slotFrom : Layout → List ℕ → Slot
+slotFrom layout ws = cond (blankIn layout ws) Blank (Holds (decoded layout ws))
 
--- "Slot k has words 5k to 5k+4 …"
-unfoldable pub slotAt : List ℕ → ℕ → Slot
-slotAt words k = slotOf (part 5 k words)
+-- "Slot k has words 5k to 5k+4 …", or as many as the layout says
+unfoldable pub slotIn : Layout → List ℕ → ℕ → Slot
+slotIn layout words k = slotFrom layout (part (strideOf layout) k words)
+
+-- the same of five words
+abbrev pub wordsOf : Record → List ℕ
+wordsOf r = encoded FiveWords r
+
+abbrev pub recordOf : List ℕ → Record
+recordOf ws = decoded FiveWords ws
+
+abbrev pub allBlank : List ℕ → Bool
+allBlank ws = blankIn FiveWords ws
+
+abbrev pub slotOf : List ℕ → Slot
+slotOf ws = slotFrom FiveWords ws
+
+abbrev pub slotAt : List ℕ → ℕ → Slot
+slotAt words = slotIn FiveWords words
 
 -- "… and bytes 32k to 32k+31", for contents of w bytes a slot
 unfoldable pub bytesAt : ℕ → List ℕ → ℕ → List ℕ

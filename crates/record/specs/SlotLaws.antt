@@ -12,10 +12,13 @@ use Rattle.bounded.specs.Limits.{noNumber, highestVersion}
 use Rattle.bounded.specs.Choice.{on-eq, on-test, both, both-left, both-right, either, either-left, either-right, not-no}
 use Rattle.bounded.specs.Below.{allBelow}
 use Rattle.bounded.specs.BelowLaws.{all-at, all-of, all-fails, some-of, some-at}
+use Rattle.sizes.specs.declared.Layout.{Layout}
+use Rattle.sizes.specs.declared.Layout.the-variants.{FiveWords, FourWords}
+use Rattle.sizes.specs.Sizes.{strideOf}
 use Rattle.record.specs.declared.Record.{Record}
 use Rattle.record.specs.declared.Slot.{Slot}
 use Rattle.record.specs.declared.Slot.the-variants.{Blank, Holds}
-use Rattle.record.specs.Slot.{wordsOf, recordOf, allBlank, slotOf, blankRecord, plannedRecord, recordSound, isBlank, holds, someRecord, straddles}
+use Rattle.record.specs.Slot.{encoded, decoded, blankIn, slotFrom, wordsOf, recordOf, allBlank, slotOf, blankRecord, formattedRecord, plannedRecord, recordSound, isBlank, holds, someRecord, straddles}
 
 -- ---- soundness
 
@@ -146,61 +149,95 @@ own-link-unstraddled P r e =
     (λ t. let s = straddles-facts r r t in absurd (let q = sound-facts P r e .own-link (sym (s .at-next)) in omega arith))
     (λ t. t)
 
--- ---- the five words
+-- ---- a slot's words
+
+pub encoded-length : (layout : Layout) (r : Record) → length (encoded layout r) ≡ strideOf layout
+unfolding encoded
+encoded-length FiveWords r = refl
+encoded-length FourWords r = refl
 
 pub words-length : (r : Record) → length (wordsOf r) ≡ 5
-unfolding wordsOf
-words-length r = refl
+words-length r = encoded-length FiveWords r
 
 pub record-of-words : (r : Record) → recordOf (wordsOf r) ≡ r
-unfolding recordOf wordsOf
+unfolding decoded encoded
 record-of-words r = refl
 
 -- ---- slots
 
 -- "A blank slot has 4,294,967,295 in all five words. Any other slot is a record."
-abbrev pub BlankWords : List ℕ → Type 0
-BlankWords ws = (i : ℕ) → i < 5 → getD ws i 0 ≡ noNumber
+abbrev pub BlankWords : Layout → List ℕ → Type 0
+BlankWords layout ws = (i : ℕ) → i < strideOf layout → getD ws i 0 ≡ noNumber
 
-module _ (ws : List ℕ) where
-  pub all-blank-exactly : (allBlank ws ≡ true) ↔ BlankWords ws
-  unfolding allBlank
+module _ (layout : Layout) (ws : List ℕ) where
+  pub all-blank-exactly : (blankIn layout ws ≡ true) ↔ BlankWords layout ws
+  unfolding blankIn
   all-blank-exactly = (
-    λ e i h. eqb-true _ _ (all-at (λ i. eqb (getD ws i 0) noNumber) 5 i e h),
-    λ f. all-of (λ i. eqb (getD ws i 0) noNumber) 5 (λ i h. eq-eqb _ _ (f i h)),
+    λ e i h. eqb-true _ _ (all-at (λ i. eqb (getD ws i 0) noNumber) (strideOf layout) i e h),
+    λ f. all-of (λ i. eqb (getD ws i 0) noNumber) (strideOf layout) (λ i h. eq-eqb _ _ (f i h)),
   )
 
-  pub slot-blank : allBlank ws ≡ true → slotOf ws ≡ Blank
-  unfolding slotOf
+  pub slot-blank : blankIn layout ws ≡ true → slotFrom layout ws ≡ Blank
+  unfolding slotFrom
   slot-blank e = rw e
 
-  pub slot-holds : allBlank ws ≡ false → slotOf ws ≡ Holds (recordOf ws)
-  unfolding slotOf
+  pub slot-holds : blankIn layout ws ≡ false → slotFrom layout ws ≡ Holds (decoded layout ws)
+  unfolding slotFrom
   slot-holds e = rw e
 
   -- one word that is not 4,294,967,295 makes a slot a record
-  pub word-not-blank : (i : ℕ) → i < 5 → ¬ (getD ws i 0 ≡ noNumber) → allBlank ws ≡ false
-  unfolding allBlank
-  word-not-blank i h d = all-fails (λ i. eqb (getD ws i 0) noNumber) 5 i h (ne-eqb _ _ d)
+  pub word-not-blank : (i : ℕ) → i < strideOf layout → ¬ (getD ws i 0 ≡ noNumber) → blankIn layout ws ≡ false
+  unfolding blankIn
+  word-not-blank i h d = all-fails (λ i. eqb (getD ws i 0) noNumber) (strideOf layout) i h (ne-eqb _ _ d)
 
-  pub slot-blank-exactly : (slotOf ws ≡ Blank) ↔ BlankWords ws
+  pub slot-blank-exactly : (slotFrom layout ws ≡ Blank) ↔ BlankWords layout ws
   slot-blank-exactly = (
-    λ e. on-test (allBlank ws) (λ t. all-blank-exactly .0 t) (λ t. absurd (clash e (slot-holds t))),
+    λ e. on-test (blankIn layout ws) (λ t. all-blank-exactly .0 t) (λ t. absurd (clash e (slot-holds t))),
     λ f. slot-blank (all-blank-exactly .1 f),
   )
     where
       clash : {s : Slot} {r : Record} → s ≡ Blank → s ≡ Holds r → ⊥
       clash e h = let z : _≡_ {A = ℕ} 0 1 = cc in omega arith
 
--- A record that is not blank in v is decoded from its words.
+-- four words are blank where they are so in five with a fifth that is
+pub four-blank : (ws : List ℕ) → allBlank (wordsOf (record { p = getD ws 0 0; v = getD ws 1 0; c = noNumber; np = getD ws 2 0; nv = getD ws 3 0 })) ≡ blankIn FourWords ws
+unfolding blankIn allBelow encoded
+four-blank ws = by (eqb (getD ws 0 0) noNumber) (eqb (getD ws 1 0) noNumber) (eqb (getD ws 2 0) noNumber) (eqb (getD ws 3 0) noNumber)
+  where
+    by : (a b c d : Bool) → (((((true && a) && b) && true) && c) && d) ≡ ((((true && a) && b) && c) && d)
+    by true true c d = refl
+    by true false c d = refl
+    by false b c d = refl
+
+-- A record that is not blank in v is decoded from its words; from four where its back pointer is 0.
+abbrev pub Storable : Layout → Record → Type 0
+Storable FiveWords r = r .v ≤ highestVersion
+Storable FourWords r = (r .v ≤ highestVersion) × (r .c ≡ 0)
+
+pub formatted-storable : (layout : Layout) (k : ℕ) → Storable layout (formattedRecord k)
+unfolding formattedRecord
+formatted-storable FiveWords k = omega arith
+formatted-storable FourWords k = (omega arith, refl)
+
+pub slot-decoded : (layout : Layout) (r : Record) → Storable layout r → slotFrom layout (encoded layout r) ≡ Holds r
+unfolding encoded decoded
+slot-decoded FiveWords r h =
+    slot-holds FiveWords (wordsOf r) (word-not-blank FiveWords (wordsOf r) 1 (omega arith) (λ e. omega arith)) ∙ ap Holds (record-of-words r)
+slot-decoded FourWords r h =
+    let l = h .0 in
+    slot-holds FourWords (encoded FourWords r) (word-not-blank FourWords (encoded FourWords r) 1 (omega arith) (λ e. omega arith))
+    ∙ ap (λ (c : ℕ). Holds (record { p = r .p; v = r .v; c = c; np = r .np; nv = r .nv })) (sym (h .1))
+
 pub slot-of-words : (r : Record) → r .v ≤ highestVersion → slotOf (wordsOf r) ≡ Holds r
-unfolding wordsOf
-slot-of-words r h =
-    slot-holds (wordsOf r) (word-not-blank (wordsOf r) 1 (omega arith) (λ e. omega arith)) ∙ ap Holds (record-of-words r)
+slot-of-words r h = slot-decoded FiveWords r h
+
+pub slot-of-none : (layout : Layout) → slotFrom layout (encoded layout blankRecord) ≡ Blank
+unfolding slotFrom encoded blankRecord blankIn allBelow
+slot-of-none FiveWords = refl
+slot-of-none FourWords = refl
 
 pub slot-of-blank : slotOf (wordsOf blankRecord) ≡ Blank
-unfolding slotOf wordsOf blankRecord allBlank allBelow
-slot-of-blank = refl
+slot-of-blank = slot-of-none FiveWords
 
 pub is-blank-exactly : (s : Slot) → (isBlank s ≡ true) ↔ (s ≡ Blank)
 unfolding isBlank

@@ -3,19 +3,44 @@ ghost use mathlib.Core.Path.{_≡_};
 ghost use Prim.Native.Nat.{_+_, _*_, _≤_};
 ghost use lib.ListN.{length, replicate};
 ghost use Rattle.bounded.specs.Parts.{putPart};
-ghost use Rattle.record.specs.Slot.{wordsOf, bytesAt};
+ghost use Rattle.sizes.specs.declared.Layout.the-variants.{FiveWords, FourWords};
+ghost use Rattle.sizes.specs.Sizes.{strideOf};
+ghost use Rattle.record.specs.Slot.{encoded, bytesAt};
 use super::Record;
+use sizes::Layout;
 
 // The record writer: the record's words into a slot's five.
-fn store_record(part: &mut [u32], record: Record)
+fn store_five(part: &mut [u32], record: Record)
     requires { ⌜ length (now part) ≡ 5 ⌝ }
-    ensures { λ _. ⌜ now (part .exit) ≡ wordsOf «record» ⌝ }
+    ensures { λ _. ⌜ now (part .exit) ≡ encoded FiveWords «record» ⌝ }
 {
     part[0] = record.p;
     part[1] = record.v;
     part[2] = record.c;
     part[3] = record.np;
     part[4] = record.nv;
+}
+
+// … and into a slot's four.
+fn store_four(part: &mut [u32], record: Record)
+    requires { ⌜ length (now part) ≡ 4 ⌝ }
+    ensures { λ _. ⌜ now (part .exit) ≡ encoded FourWords «record» ⌝ }
+{
+    part[0] = record.p;
+    part[1] = record.v;
+    part[2] = record.np;
+    part[3] = record.nv;
+}
+
+// The record's words into a slot's, as many as there are.
+fn store_record(layout: Layout, part: &mut [u32], record: Record)
+    requires { ⌜ length (now part) ≡ strideOf layout ⌝ }
+    ensures { λ _. ⌜ now (part .exit) ≡ encoded layout «record» ⌝ }
+{
+    match layout {
+        Layout::FiveWords => store_five(part, record),
+        Layout::FourWords => store_four(part, record),
+    }
 }
 
 // The contents copier: one slot's bytes, from one slice into another of the same length.
@@ -30,23 +55,32 @@ fn copy_contents(to: &mut [u8], from: &[u8])
     }
 }
 
-// One flash step: the slot's five words become the record's, and its bytes those given. It is the one function that stores to flash: a format calls it for
+// One flash step: the slot's words become the record's, and its bytes those given. It is the one function that stores to flash: a format calls it for
 // every slot, and after that a write calls it once and an erase once for each listed slot (format and erase by `fill_slot`).
-pub fn put_slot(words: &mut [u32], contents: &mut [u8], slot: u32, record: Record, bytes: &[u8])
-    requires { ⌜ 5 * slot + 5 ≤ length (now words) ⌝ }
+pub fn put_slot(
+    layout: Layout,
+    words: &mut [u32],
+    contents: &mut [u8],
+    slot: u32,
+    record: Record,
+    bytes: &[u8],
+)
+    requires { ⌜ strideOf layout * slot + strideOf layout ≤ length (now words) ⌝ }
     requires { ⌜ length (now bytes) * slot + length (now bytes) ≤ length (now contents) ⌝ }
-    ensures { λ _. ⌜ now (words .exit) ≡ putPart 5 slot (wordsOf «record») (now (words .entry)) ⌝ }
+    ensures { λ _. ⌜ now (words .exit) ≡ putPart (strideOf layout) slot (encoded layout «record») (now (words .entry)) ⌝ }
     ensures { λ _. ⌜ now (contents .exit) ≡ putPart (length (now (bytes .entry))) slot (now (bytes .entry)) (now (contents .entry)) ⌝ }
 {
-    let a = 5 * (slot as usize);
+    let n = layout.stride();
+    let a = n * (slot as usize);
     let w = bytes.len();
     let b = w * (slot as usize);
-    store_record(&mut words[a..a + 5], record);
+    store_record(layout, &mut words[a..a + n], record);
     copy_contents(&mut contents[b..b + w], bytes);
 }
 
 // One flash step that fills the slot's bytes, `width` of them, with one value.
 pub fn fill_slot(
+    layout: Layout,
     width: u32,
     words: &mut [u32],
     contents: &mut [u8],
@@ -54,14 +88,21 @@ pub fn fill_slot(
     record: Record,
     fill: u8,
 )
-    requires { ⌜ 5 * slot + 5 ≤ length (now words) ⌝ }
+    requires { ⌜ strideOf layout * slot + strideOf layout ≤ length (now words) ⌝ }
     requires { ⌜ width * slot + width ≤ length (now contents) ⌝ }
     requires { ⌜ width ≤ 64 ⌝ }
-    ensures { λ _. ⌜ now (words .exit) ≡ putPart 5 slot (wordsOf «record») (now (words .entry)) ⌝ }
+    ensures { λ _. ⌜ now (words .exit) ≡ putPart (strideOf layout) slot (encoded layout «record») (now (words .entry)) ⌝ }
     ensures { λ _. ⌜ now (contents .exit) ≡ putPart width slot (replicate width fill) (now (contents .entry)) ⌝ }
 {
     let bytes = [fill; sizes::MAX_WIDTH];
-    put_slot(words, contents, slot, record, &bytes[0..width as usize]);
+    put_slot(
+        layout,
+        words,
+        contents,
+        slot,
+        record,
+        &bytes[0..width as usize],
+    );
 }
 
 // A slot's bytes, copied out: bytes wk to wk+w-1, where w is the length of `out`.

@@ -2,11 +2,14 @@
 
 pub mod flash; // flash.rt: the one function that alters a slot
 
+use sizes::Layout;
 ghost use mathlib.Core.Path.{_≡_};
 ghost use Prim.Native.Nat.{_+_, _*_, _≤_};
 ghost use lib.ListN.{length};
 ghost use Rattle.record.specs.SlotLaws.{cBeforeV};
-ghost use Rattle.record.specs.Slot.{wordsOf, allBlank, slotOf, slotAt, formattedRecord, plannedRecord, recordSound, slotSound, isBlank, straddles};
+ghost use Rattle.sizes.specs.declared.Layout.the-variants.{FourWords};
+ghost use Rattle.sizes.specs.Sizes.{strideOf};
+ghost use Rattle.record.specs.Slot.{slotFrom, slotIn, wordsOf, allBlank, slotOf, slotAt, formattedRecord, plannedRecord, recordSound, slotSound, isBlank, straddles};
 
 // "The five words are the page p, its version v, its back pointer c (the page's last committed version at launch), the
 // next page np and its version nv."
@@ -70,6 +73,19 @@ impl Record {
             c: committed,
             np: next,
             nv: next_used,
+        }
+    }
+
+    // This record with back pointer 0.
+    fn pointing_nowhere(self) -> Record
+        ensures { λ r. ⌜ r ≡ plannedRecord (self .p) (self .v) 0 (self .np) (self .nv) ⌝ }
+    {
+        Record {
+            p: self.p,
+            v: self.v,
+            c: 0,
+            np: self.np,
+            nv: self.nv,
         }
     }
 
@@ -153,6 +169,24 @@ impl Slot {
         Slot::Holds(record)
     }
 
+    // A slot's four words, decoded: the back pointer is 0.
+    fn decode_four(words: &[u32]) -> Slot
+        requires { ⌜ length (now words) ≡ 4 ⌝ }
+        ensures { λ r. ⌜ r ≡ slotFrom FourWords (now (words .entry)) ⌝ }
+    {
+        let record = Record {
+            p: words[0],
+            v: words[1],
+            c: sizes::NO_NUMBER,
+            np: words[2],
+            nv: words[3],
+        };
+        if record.is_blank() {
+            return Slot::Blank;
+        }
+        Slot::Holds(record.pointing_nowhere())
+    }
+
     // The slot is blank or holds a sound record.
     pub fn is_sound(self, pages: u32) -> bool
         ensures { λ r. ⌜ r ≡ slotSound pages self ⌝ }
@@ -180,4 +214,24 @@ pub fn slot_at(words: &[u32], slot: u32) -> Slot
 {
     let a = 5 * (slot as usize);
     Slot::decode(&words[a..a + 5])
+}
+
+// The same of four words: 4k to 4k+3.
+fn four_at(words: &[u32], slot: u32) -> Slot
+    requires { ⌜ 4 * slot + 4 ≤ length (now words) ⌝ }
+    ensures { λ r. ⌜ r ≡ slotIn FourWords (now (words .entry)) slot ⌝ }
+{
+    let a = 4 * (slot as usize);
+    Slot::decode_four(&words[a..a + 4])
+}
+
+// What stands in a slot of the table, in either layout.
+pub fn slot_in(layout: Layout, words: &[u32], slot: u32) -> Slot
+    requires { ⌜ strideOf layout * slot + strideOf layout ≤ length (now words) ⌝ }
+    ensures { λ r. ⌜ r ≡ slotIn layout (now (words .entry)) slot ⌝ }
+{
+    match layout {
+        Layout::FiveWords => slot_at(words, slot),
+        Layout::FourWords => four_at(words, slot),
+    }
 }

@@ -1,6 +1,7 @@
 // Recovery: one link's verdict, following links, committed and used, recover. The definitions are in crate rules.
 
 mod link; // link.rt: one link's verdict
+mod second; // second.rt: the second highest version
 mod committed; // committed.rt: following verdicts, committed versions
 mod fill; // fill.rt: the state filled in
 
@@ -13,9 +14,12 @@ ghost use Rattle.bounded.specs.Below.{allBelow};
 ghost use Rattle.bounded.specs.Tabulate.{tabulate};
 ghost use Rattle.outcome.specs.Outcome.{returned};
 ghost use Rattle.outcome.specs.Reply.{Settles};
-ghost use Rattle.record.specs.Slot.{slotAt};
-ghost use Rattle.rules.specs.Recover.{linksOf, committedOf, recoverOutcome};
+ghost use Rattle.sizes.specs.Sizes.{strideOf};
+ghost use Rattle.record.specs.Slot.{slotIn};
+ghost use Rattle.rules.specs.laws.Families.{recoverOutcomeIn};
+ghost use Rattle.recovery.specs.Committed.{linksIn, committedIn};
 ghost use Rattle.recovery.specs.Tables.{tableAnswer};
+use sizes::Layout;
 use sizes::Sizes;
 
 // Each page has a record, by the table of highest slots.
@@ -34,38 +38,38 @@ fn records_present(sizes: Sizes, top: &[u32; 256]) -> bool
 }
 
 // The answer by the slot table, 2 to 14, where the sizes are right; of an accepted table the links followed, and its committed versions are filled in.
-fn table_answer(sizes: Sizes, words: &[u32], committed: &mut [u32; 256]) -> u64
-    requires { ⌜ 5 * sizes .slots ≤ length (now words) ⌝ }
+fn table_answer(layout: Layout, sizes: Sizes, words: &[u32], committed: &mut [u32; 256]) -> u64
+    requires { ⌜ strideOf layout * sizes .slots ≤ length (now words) ⌝ }
     requires { ⌜ sizes .pages ≤ 256 ⌝ }
-    ensures { λ r. ⌜ Settles r (tableAnswer (sizes .pages) (sizes .slots) (slotAt (now (words .entry)))) 0 (linksOf (sizes .pages) (sizes .slots) (slotAt (now (words .entry)))) ⌝ }
-    ensures { λ r. ⌜ (r % 2 ^ 32 ≡ 0 → now (committed .exit) ≡ tabulate 256 (committedOf (sizes .pages) (sizes .slots) (slotAt (now (words .entry))))) ⌝ }
+    ensures { λ r. ⌜ Settles r (tableAnswer layout (sizes .pages) (sizes .slots) (slotIn layout (now (words .entry)))) 0 (linksIn layout (sizes .pages) (sizes .slots) (slotIn layout (now (words .entry)))) ⌝ }
+    ensures { λ r. ⌜ (r % 2 ^ 32 ≡ 0 → now (committed .exit) ≡ tabulate 256 (committedIn layout (sizes .pages) (sizes .slots) (slotIn layout (now (words .entry))))) ⌝ }
 {
-    if !table::table_sound(sizes, words) {
+    if !table::table_sound(layout, sizes, words) {
         return outcome::reply(2, 0);
     }
     let mut top = [0; 256];
-    table::highest_slots(sizes, words, &mut top);
-    if table::some_clash(sizes.slots, words) {
+    table::highest_slots(layout, sizes, words, &mut top);
+    if table::some_clash(layout, sizes.slots, words) {
         return outcome::reply(3, 0);
     }
     if !records_present(sizes, &top) {
         return outcome::reply(3, 0);
     }
-    committed::links_answer(sizes, words, &top, committed)
+    committed::links_answer(layout, sizes, words, &top, committed)
 }
 
 // "Recover: fills the sheet from the slot table; the old sheet may hold anything", and the links followed are counted. Nothing is stored before every refusal is tried.
-pub fn recover(sizes: Sizes, words: &[u32], state: &mut [u32]) -> u64
-    ensures { λ r. ⌜ returned r (now (state .exit)) ≡ recoverOutcome twoWidths sizes (now (words .entry)) (now (state .entry)) ⌝ }
+pub fn recover(layout: Layout, sizes: Sizes, words: &[u32], state: &mut [u32]) -> u64
+    ensures { λ r. ⌜ returned r (now (state .exit)) ≡ recoverOutcomeIn layout twoWidths sizes (now (words .entry)) (now (state .entry)) ⌝ }
 {
-    if !sizes::table_ok(sizes, words, state) {
+    if !sizes::table_ok(layout, sizes, words, state) {
         return outcome::reply(1, 0);
     }
     let mut committed = [0; 256];
-    let reply = table_answer(sizes, words, &mut committed);
+    let reply = table_answer(layout, sizes, words, &mut committed);
     if outcome::answer_of(reply) != 0 {
         return reply;
     }
-    fill::fill_state(sizes, words, &committed, state);
+    fill::fill_state(layout, sizes, words, &committed, state);
     reply
 }

@@ -3,13 +3,17 @@
 use follow::Verdict;
 use record::Record;
 use record::Slot;
+use sizes::Layout;
 use sizes::Sizes;
 ghost use mathlib.Core.Path.{_≡_};
 ghost use Prim.Native.Nat.{_*_, _≤_, _<_};
 ghost use lib.ListN.{length};
-ghost use Rattle.record.specs.Slot.{slotAt, holds, straddles};
+ghost use Rattle.sizes.specs.Sizes.{strideOf};
+ghost use Rattle.record.specs.Slot.{slotIn, slotAt, holds, straddles};
 ghost use Rattle.table.specs.Table.{highest, versionIn};
-ghost use Rattle.rules.specs.Verdict.{isStraddled, linkVerdict, verdict};
+ghost use Rattle.rules.specs.Verdict.{isStraddled};
+ghost use Rattle.rules.specs.laws.Families.{linkVerdictIn, verdictIn};
+ghost use Rattle.recovery.specs.Committed.{passedIn};
 ghost use Rattle.recovery.specs.Tables.{Surveyed, verdictCodes};
 
 // The slot holds a record that straddles the link.
@@ -48,26 +52,45 @@ fn version_in(slot: Slot) -> u32
 }
 
 // A page's highest record, by the table of highest slots.
-pub fn highest_of(sizes: Sizes, words: &[u32], top: &[u32; 256], page: u32) -> Slot
-    requires { ⌜ Surveyed (sizes .pages) (sizes .slots) (now words) (now top) ⌝ }
+pub fn highest_of(layout: Layout, sizes: Sizes, words: &[u32], top: &[u32; 256], page: u32) -> Slot
+    requires { ⌜ Surveyed layout (sizes .pages) (sizes .slots) (now words) (now top) ⌝ }
     requires { ⌜ page < 256 ⌝ }
-    ensures { λ r. ⌜ r ≡ highest (sizes .slots) (slotAt (now (words .entry))) page ⌝ }
+    ensures { λ r. ⌜ r ≡ highest (sizes .slots) (slotIn layout (now (words .entry))) page ⌝ }
 {
-    table::named_slot(sizes.slots, words, top[page as usize])
+    table::named_slot(layout, sizes.slots, words, top[page as usize])
+}
+
+// What a link to a version below the next page's highest says: "case 1 of recovery means committed" where no record has a back pointer.
+fn passed_verdict(layout: Layout, slots: u32, words: &[u32], link: Record) -> Verdict
+    requires { ⌜ strideOf layout * slots ≤ length (now words) ⌝ }
+    ensures { λ r. ⌜ r ≡ passedIn layout slots (slotIn layout (now (words .entry))) link ⌝ }
+{
+    match layout {
+        Layout::FiveWords => {
+            if is_straddled(slots, words, link) {
+                return Verdict::Uncommitted;
+            }
+            Verdict::Committed
+        }
+        Layout::FourWords => Verdict::Committed,
+    }
 }
 
 // What the link of a record says.
-fn link_verdict(sizes: Sizes, words: &[u32], top: &[u32; 256], link: Record) -> Verdict
-    requires { ⌜ Surveyed (sizes .pages) (sizes .slots) (now words) (now top) ⌝ }
+fn link_verdict(
+    layout: Layout,
+    sizes: Sizes,
+    words: &[u32],
+    top: &[u32; 256],
+    link: Record,
+) -> Verdict
+    requires { ⌜ Surveyed layout (sizes .pages) (sizes .slots) (now words) (now top) ⌝ }
     requires { ⌜ link .np < 256 ⌝ }
-    ensures { λ r. ⌜ r ≡ linkVerdict (sizes .slots) (slotAt (now (words .entry))) link ⌝ }
+    ensures { λ r. ⌜ r ≡ linkVerdictIn layout (sizes .slots) (slotIn layout (now (words .entry))) link ⌝ }
 {
-    let hv = version_in(highest_of(sizes, words, top, link.np));
+    let hv = version_in(highest_of(layout, sizes, words, top, link.np));
     if link.nv < hv {
-        if is_straddled(sizes.slots, words, link) {
-            return Verdict::Uncommitted;
-        }
-        return Verdict::Committed;
+        return passed_verdict(layout, sizes.slots, words, link);
     }
     if hv < link.nv {
         return Verdict::Uncommitted;
@@ -76,26 +99,32 @@ fn link_verdict(sizes: Sizes, words: &[u32], top: &[u32; 256], link: Record) -> 
 }
 
 // What the link of a page's highest record says.
-fn verdict_of(sizes: Sizes, words: &[u32], top: &[u32; 256], page: u32) -> Verdict
-    requires { ⌜ Surveyed (sizes .pages) (sizes .slots) (now words) (now top) ⌝ }
+fn verdict_of(layout: Layout, sizes: Sizes, words: &[u32], top: &[u32; 256], page: u32) -> Verdict
+    requires { ⌜ Surveyed layout (sizes .pages) (sizes .slots) (now words) (now top) ⌝ }
     requires { ⌜ page < 256 ⌝ }
-    ensures { λ r. ⌜ r ≡ verdict (sizes .slots) (slotAt (now (words .entry))) page ⌝ }
+    ensures { λ r. ⌜ r ≡ verdictIn layout (sizes .slots) (slotIn layout (now (words .entry))) page ⌝ }
 {
-    let Slot::Holds(link) = highest_of(sizes, words, top, page) else {
+    let Slot::Holds(link) = highest_of(layout, sizes, words, top, page) else {
         return Verdict::Uncommitted;
     };
-    link_verdict(sizes, words, top, link)
+    link_verdict(layout, sizes, words, top, link)
 }
 
 // Each page's verdict, computed once.
-pub fn verdict_codes(sizes: Sizes, words: &[u32], top: &[u32; 256], codes: &mut [u32; 256])
-    requires { ⌜ Surveyed (sizes .pages) (sizes .slots) (now words) (now top) ⌝ }
-    ensures { λ _. ⌜ now (codes .exit) ≡ verdictCodes (sizes .slots) (slotAt (now (words .entry))) ⌝ }
+pub fn verdict_codes(
+    layout: Layout,
+    sizes: Sizes,
+    words: &[u32],
+    top: &[u32; 256],
+    codes: &mut [u32; 256],
+)
+    requires { ⌜ Surveyed layout (sizes .pages) (sizes .slots) (now words) (now top) ⌝ }
+    ensures { λ _. ⌜ now (codes .exit) ≡ verdictCodes layout (sizes .slots) (slotIn layout (now (words .entry))) ⌝ }
 {
     *codes = [257; 256];
     let mut page: u32 = 0;
     while page < sizes.pages {
-        codes[page as usize] = verdict_of(sizes, words, top, page).code();
+        codes[page as usize] = verdict_of(layout, sizes, words, top, page).code();
         page += 1;
     }
 }

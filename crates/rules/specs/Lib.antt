@@ -10,6 +10,8 @@ pub mod Suggest
 pub mod Verdict
 pub mod Recover
 pub mod Links
+pub mod Simple
+pub mod SimpleCalls
 pub mod Read
 pub mod laws
 pub mod cases

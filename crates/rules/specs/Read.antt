@@ -6,25 +6,37 @@ use lib.Dec.{ltb, eqb}
 use lib.ListN.{length}
 use Rattle.bounded.specs.Limits.{Widths}
 use Rattle.outcome.specs.Outcome.{_⇒_otherwise_, Outcome, settled}
+use Rattle.sizes.specs.declared.Layout.{Layout}
+use Rattle.sizes.specs.declared.Layout.the-variants.{FiveWords}
 use Rattle.sizes.specs.declared.Sizes.{Sizes}
-use Rattle.record.specs.Slot.{slotAt, bytesAt}
+use Rattle.record.specs.Slot.{slotIn, bytesAt}
 use Rattle.state.specs.State.{stateAt, stateSound}
 use Rattle.table.specs.Table.{tableSound, lowestSlot, hasVersion}
-use Rattle.rules.specs.Volume.{Volume, volumeFits}
+use Rattle.rules.specs.Volume.{Volume, volumeFitsIn}
 
 -- "the lowest slot holding the page at its committed version"; S where there is none
-unfoldable pub readSlot : ℕ → Volume → ℕ → ℕ
-readSlot S v page = lowestSlot S (slotAt (v .flash .words)) page (stateAt (v .state) page .committed)
+unfoldable pub readSlotIn : Layout → ℕ → Volume → ℕ → ℕ
+readSlotIn layout S v page = lowestSlot S (slotIn layout (v .flash .words)) page (stateAt (v .state) page .committed)
 
-unfoldable pub readAnswer : Widths → Sizes → Volume → (page : ℕ) (out : List ℕ) → ℕ
-readAnswer widths sizes v page out =
-    not (volumeFits widths sizes v && eqb (length out) (sizes .width)) ⇒ 1 otherwise
-    not (tableSound (sizes .pages) (sizes .slots) (slotAt (v .flash .words))) ⇒ 2 otherwise
+unfoldable pub readAnswerIn : Layout → Widths → Sizes → Volume → (page : ℕ) (out : List ℕ) → ℕ
+readAnswerIn layout widths sizes v page out =
+    not (volumeFitsIn layout widths sizes v && eqb (length out) (sizes .width)) ⇒ 1 otherwise
+    not (tableSound (sizes .pages) (sizes .slots) (slotIn layout (v .flash .words))) ⇒ 2 otherwise
     not (stateSound (sizes .pages) (stateAt (v .state))) ⇒ 5 otherwise
     not (ltb page (sizes .pages)) ⇒ 6 otherwise
-    not (hasVersion (sizes .slots) (slotAt (v .flash .words)) page (stateAt (v .state) page .committed)) ⇒ 14 otherwise
+    not (hasVersion (sizes .slots) (slotIn layout (v .flash .words)) page (stateAt (v .state) page .committed)) ⇒ 14 otherwise
     0
 
 -- "copies to a lent 32-byte slice the bytes of" that slot, or to one as long as the width says; it alters nothing but `out`
-unfoldable pub readOutcome : Widths → Sizes → Volume → (page : ℕ) (out : List ℕ) → Outcome (List ℕ)
-readOutcome widths sizes v page out = settled (readAnswer widths sizes v page out) 0 0 out (bytesAt (sizes .width) (v .flash .contents) (readSlot (sizes .slots) v page))
+unfoldable pub readOutcomeIn : Layout → Widths → Sizes → Volume → (page : ℕ) (out : List ℕ) → Outcome (List ℕ)
+readOutcomeIn layout widths sizes v page out = settled (readAnswerIn layout widths sizes v page out) 0 0 out (bytesAt (sizes .width) (v .flash .contents) (readSlotIn layout (sizes .slots) v page))
+
+-- the same of five words
+abbrev pub readSlot : ℕ → Volume → ℕ → ℕ
+readSlot S v page = readSlotIn FiveWords S v page
+
+abbrev pub readAnswer : Widths → Sizes → Volume → (page : ℕ) (out : List ℕ) → ℕ
+readAnswer widths sizes v page out = readAnswerIn FiveWords widths sizes v page out
+
+abbrev pub readOutcome : Widths → Sizes → Volume → (page : ℕ) (out : List ℕ) → Outcome (List ℕ)
+readOutcome widths sizes v page out = readOutcomeIn FiveWords widths sizes v page out

@@ -3,8 +3,10 @@ use Prim.Native.Nat.{ℕ}
 use mathlib.Core.List.{List}
 use mathlib.Core.Bool.{Bool, _&&_}
 use Rattle.bounded.specs.Limits.{Widths}
+use Rattle.sizes.specs.declared.Layout.{Layout}
+use Rattle.sizes.specs.declared.Layout.the-variants.{FiveWords}
 use Rattle.sizes.specs.declared.Sizes.{Sizes}
-use Rattle.sizes.specs.Sizes.{sizesOk, wordsFit, contentsFit, stateFits}
+use Rattle.sizes.specs.Sizes.{sizesOk, wordsFitIn, contentsFit, stateFits}
 use Rattle.record.specs.Flash.{Flash}
 
 -- the flash and the state ("sheet") of a volume
@@ -17,9 +19,13 @@ abbrev pub volume : (words contents state : List ℕ) → Volume
 volume words contents state = record { flash = record { words = words; contents = contents }; state = state }
 
 -- P, S, the width and the lengths of a volume's buffers are right
-unfoldable pub volumeFits : Widths → Sizes → Volume → Bool
-volumeFits widths sizes v =
+unfoldable pub volumeFitsIn : Layout → Widths → Sizes → Volume → Bool
+volumeFitsIn layout widths sizes v =
     sizesOk widths sizes
-    && (wordsFit (sizes .slots) (v .flash .words)
+    && (wordsFitIn layout (sizes .slots) (v .flash .words)
     && (contentsFit (sizes .width) (sizes .slots) (v .flash .contents)
     && stateFits (sizes .pages) (v .state)))
+
+-- the same of five words
+abbrev pub volumeFits : Widths → Sizes → Volume → Bool
+volumeFits widths sizes v = volumeFitsIn FiveWords widths sizes v

@@ -10,3 +10,4 @@ pub mod Recover
 pub mod Links
 pub mod Star
 pub mod Width
+pub mod Simple

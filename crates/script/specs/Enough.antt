@@ -17,7 +17,7 @@ use Rattle.sizes.specs.SizesLaws.{sizes-facts, sizes-test}
 use Rattle.text.specs.Scan.{bytes, behind, number, Scanned}
 use Rattle.line.specs.Line.{Said, onNumber, numberThen, onText, onNumbers, atEnd, numbers, sizesMeans, formatMeans, fillMeans, writeMeans, withdrawMeans, launchMeans, eraseMeans, plainMeans, callMeans, lineMeans}
 use Rattle.rules.specs.Volume.{Volume, volumeFits}
-use Rattle.rules.specs.Format.{formatAnswer}
+use Rattle.rules.specs.Format.{formatAnswerIn, formatAnswer}
 use Rattle.rules.specs.laws.Volume.{fits-facts, fits-test}
 use Rattle.script.specs.Memory.{inUse}
 
@@ -118,5 +118,5 @@ module _ (k : ℕ) (line : List ℕ) (z : Sizes) (says : lineMeans k line ≡ Sa
 
   -- A format line answers 0 exactly where its numbers are those of a volume, and else 1.
   pub format-by-sizes : formatAnswer twoWidths z (inUse z memory) ≡ (not (sizesOk twoWidths z) ⇒ 1 otherwise 0)
-  unfolding formatAnswer
+  unfolding formatAnswerIn
   format-by-sizes = rw fits-by-sizes

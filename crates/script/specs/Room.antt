@@ -18,7 +18,7 @@ use Rattle.text.specs.Scan.{bytes}
 use Rattle.text.specs.Print.{shown, added, decimalIn, decimal}
 use Rattle.line.specs.Line.{Said}
 use Rattle.rules.specs.Volume.{Volume, volumeFits}
-use Rattle.rules.specs.Format.{formatted as formattedVolume, formatAnswer, formatOutcome}
+use Rattle.rules.specs.Format.{formatted as formattedVolume, formatAnswerIn, formatAnswer, formatOutcomeIn, formatOutcome}
 use Rattle.rules.specs.laws.Volume.{fits-facts}
 use Rattle.listing.specs.Listing.{answerText, stateText, fieldsText, pageText, listAnswer, listText}
 use Rattle.dispatch.specs.Dispatch.{lineOutcome}
@@ -143,7 +143,7 @@ all-shown widths s says out at h room =
 
 -- A run never has a volume of more than 256 pages: only an accepted format gives it another.
 format-pages : (widths : Widths) (sizes : Sizes) (v : Volume) → formatOutcome widths sizes v .answer ≡ 0 → sizes .pages ≤ 256
-unfolding formatOutcome formatAnswer
+unfolding formatOutcomeIn formatAnswerIn
 format-pages widths sizes v e =
     let a = held (volumeFits widths sizes v) _ _ (sym (settled-answer (formatAnswer widths sizes v) 0 0 v (formattedVolume sizes)) ∙ e) in
     fits-facts widths sizes v (a .0) .bounds .pages-most

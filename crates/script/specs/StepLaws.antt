@@ -20,6 +20,7 @@ use Rattle.line.specs.Line.{Said, said}
 use Rattle.line.proofs.Line.{the-type}
 use Rattle.rules.specs.Volume.{Volume, volume}
 use Rattle.rules.specs.Format.{formatAnswer}
+use Rattle.sizes.specs.declared.Layout.the-variants.{FiveWords}
 use Rattle.rules.specs.laws.Outcomes.{format-refused as volume-refused}
 use Rattle.dispatch.specs.Dispatch.{accepted, lineOutcome}
 use Rattle.report.specs.declared.Run.{Run}
@@ -114,6 +115,6 @@ module _ (widths : Widths) (run : Run) (m : Volume) (out : List ℕ) (says : Sai
 pub refused-format : (widths : Widths) (s : Standing) (z : Sizes) → ¬ (formatAnswer widths z (inUse z (s .memory)) ≡ 0) → lineTurn widths s (Said.Format z) .leaves ≡ s
 unfolding lineTurn sizesFor onFormat inFront volumeTurn lineOutcome told formatted withMemory
 refused-format widths s z d =
-    let e = volume-refused widths z (inUse z (s .memory)) d in
+    let e = volume-refused FiveWords widths z (inUse z (s .memory)) d in
     let q : eqb (formatAnswer widths z (inUse z (s .memory))) 0 ≡ false = ne-eqb _ _ d in
     rw (e, q, volume-same z (s .memory))

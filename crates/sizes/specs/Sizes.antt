@@ -6,6 +6,8 @@ use lib.Dec.{ltb, leb, eqb}
 use lib.ListN.{length, getD}
 use Rattle.bounded.specs.Limits.{maxPages, maxSlots, Widths}
 use Rattle.bounded.specs.Below.{allBelow}
+use Rattle.sizes.specs.declared.Layout.{Layout}
+use Rattle.sizes.specs.declared.Layout.the-variants.{FiveWords, FourWords}
 use Rattle.sizes.specs.declared.Sizes.{Sizes}
 
 -- the sizes of a volume of P pages and S slots, with w bytes of contents a slot
@@ -21,9 +23,17 @@ sizesOk widths sizes =
     && (leb (sizes .slots) maxSlots
     && widths (sizes .width))))
 
--- "The slot table has 5×S unsigned 32-bit words"
-unfoldable pub wordsFit : ℕ → List ℕ → Bool
-wordsFit S words = eqb (length words) (5 * S)
+-- how many words a slot has: "p, v, np, nv and no back pointer" are four
+abbrev pub strideOf : Layout → ℕ
+strideOf FiveWords = 5
+strideOf FourWords = 4
+
+-- "The slot table has 5×S unsigned 32-bit words", or as many as the layout says
+unfoldable pub wordsFitIn : Layout → ℕ → List ℕ → Bool
+wordsFitIn layout S words = eqb (length words) (strideOf layout * S)
+
+abbrev pub wordsFit : ℕ → List ℕ → Bool
+wordsFit S words = wordsFitIn FiveWords S words
 
 -- "the contents 32×S bytes", for w bytes a slot
 unfoldable pub contentsFit : (w S : ℕ) → List ℕ → Bool

@@ -11,8 +11,10 @@ use lib.ListN.{length}
 use borrow.Author.Tests.{leb-true, le-leb, eqb-true, eq-eqb}
 use Rattle.bounded.specs.Limits.{maxPages, maxSlots, Widths, twoWidths}
 use Rattle.bounded.specs.Choice.{both, both-left, both-right, disjoined, equal-test}
+use Rattle.sizes.specs.declared.Layout.{Layout}
+use Rattle.sizes.specs.declared.Layout.the-variants.{FiveWords, FourWords}
 use Rattle.sizes.specs.declared.Sizes.{Sizes}
-use Rattle.sizes.specs.Sizes.{sizesOk, wordsFit, contentsFit, stateFits}
+use Rattle.sizes.specs.Sizes.{sizesOk, strideOf, wordsFitIn, wordsFit, contentsFit, stateFits}
 
 -- "P pages (pistons), 1 to 256 … S slots, P to 1,024"
 pub record SizesFacts (P S : ℕ) : Type 0 where
@@ -50,9 +52,16 @@ module _ (widths : Widths) (sizes : Sizes) where
 
 -- ---- lengths
 
+pub stride-most : (layout : Layout) → strideOf layout ≤ 5
+stride-most FiveWords = omega arith
+stride-most FourWords = omega arith
+
+pub words-fit-in : (layout : Layout) (S : ℕ) (words : List ℕ) → (wordsFitIn layout S words ≡ true) ↔ (length words ≡ strideOf layout * S)
+unfolding wordsFitIn
+words-fit-in layout S words = (eqb-true (length words) (strideOf layout * S), eq-eqb (length words) (strideOf layout * S))
+
 pub words-fit-exactly : (S : ℕ) (words : List ℕ) → (wordsFit S words ≡ true) ↔ (length words ≡ 5 * S)
-unfolding wordsFit
-words-fit-exactly S words = (eqb-true (length words) (5 * S), eq-eqb (length words) (5 * S))
+words-fit-exactly S words = words-fit-in FiveWords S words
 
 pub contents-fit-exactly : (w S : ℕ) (contents : List ℕ) → (contentsFit w S contents ≡ true) ↔ (length contents ≡ w * S)
 unfolding contentsFit

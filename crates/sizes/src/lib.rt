@@ -3,7 +3,7 @@ ghost use mathlib.Core.Path.{_≡_};
 ghost use mathlib.Core.Bool.{_&&_};
 ghost use Prim.Native.Nat.{_≤_};
 ghost use Rattle.bounded.specs.Limits.{twoWidths};
-ghost use Rattle.sizes.specs.Sizes.{sizesOk, wordsFit, contentsFit, stateFits, listOk};
+ghost use Rattle.sizes.specs.Sizes.{sizesOk, strideOf, wordsFitIn, contentsFit, stateFits, listOk};
 
 // The largest width: the most bytes of contents that a slot has.
 pub const MAX_WIDTH: usize = 64;
@@ -19,6 +19,24 @@ pub struct Sizes {
     pub pages: u32,
     pub slots: u32,
     pub width: u32,
+}
+
+// How a slot's words lie: the five of a record, or four where it has no back pointer.
+pub enum Layout {
+    FiveWords,
+    FourWords,
+}
+
+impl Layout {
+    // How many words a slot has.
+    pub fn stride(self) -> usize
+        ensures { λ r. ⌜ r ≡ strideOf self ⌝ }
+    {
+        match self {
+            Layout::FiveWords => 5,
+            Layout::FourWords => 4,
+        }
+    }
 }
 
 // "32 or 64 bytes per slot"
@@ -52,11 +70,11 @@ impl Sizes {
     }
 }
 
-// "The slot table has 5×S unsigned 32-bit words"
-pub fn words_fit(slots: u32, words: &[u32]) -> bool
-    ensures { λ r. ⌜ r ≡ wordsFit slots (now (words .entry)) ⌝ }
+// "The slot table has 5×S unsigned 32-bit words", or as many as the layout says
+pub fn words_fit(layout: Layout, slots: u32, words: &[u32]) -> bool
+    ensures { λ r. ⌜ r ≡ wordsFitIn layout slots (now (words .entry)) ⌝ }
 {
-    words.len() == 5 * (slots as usize)
+    words.len() == layout.stride() * (slots as usize)
 }
 
 // "the contents 32×S bytes", for `width` bytes a slot
@@ -84,13 +102,13 @@ pub fn state_ok(sizes: Sizes, state: &[u32]) -> bool
 }
 
 // P, S, the width and the lengths of the words and the state are right.
-pub fn table_ok(sizes: Sizes, words: &[u32], state: &[u32]) -> bool
-    ensures { λ r. ⌜ r ≡ (sizesOk twoWidths sizes && (wordsFit (sizes .slots) (now (words .entry)) && stateFits (sizes .pages) (now (state .entry)))) ⌝ }
+pub fn table_ok(layout: Layout, sizes: Sizes, words: &[u32], state: &[u32]) -> bool
+    ensures { λ r. ⌜ r ≡ (sizesOk twoWidths sizes && (wordsFitIn layout (sizes .slots) (now (words .entry)) && stateFits (sizes .pages) (now (state .entry)))) ⌝ }
 {
     if !sizes.are_ok() {
         return false;
     }
-    if !words_fit(sizes.slots, words) {
+    if !words_fit(layout, sizes.slots, words) {
         return false;
     }
     state_fits(sizes.pages, state)

@@ -5,8 +5,9 @@ use mathlib.Core.Bool.{cond}
 use lib.Dec.{ltb}
 use lib.ListN.{getD}
 use Rattle.bounded.specs.Parts.{joinParts}
+use Rattle.sizes.specs.declared.Layout.{Layout}
 use Rattle.record.specs.declared.Record.{Record}
-use Rattle.record.specs.Slot.{wordsOf, blankRecord, formattedRecord}
+use Rattle.record.specs.Slot.{encoded, wordsOf, blankRecord, formattedRecord}
 
 -- the record (p, v, c, np, nv)
 unfoldable pub given : (p v c np nv : ℕ) → Record
@@ -21,5 +22,5 @@ unfoldable pub tableOf : ℕ → List Record → List ℕ
 tableOf S records = joinParts S (λ k. wordsOf (getD records k blankRecord))
 
 -- the slot words of S slots of which slot k below P holds record k, and the others are blank
-unfoldable pub oneEach : (P S : ℕ) → (ℕ → Record) → List ℕ
-oneEach P S records = joinParts S (λ k. wordsOf (cond (ltb k P) (records k) blankRecord))
+unfoldable pub oneEach : Layout → (P S : ℕ) → (ℕ → Record) → List ℕ
+oneEach layout P S records = joinParts S (λ k. encoded layout (cond (ltb k P) (records k) blankRecord))

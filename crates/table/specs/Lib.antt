@@ -1,4 +1,5 @@
 pub mod Table
+pub mod Inside
 pub mod TableLaws
 pub mod Given
 pub mod Computing

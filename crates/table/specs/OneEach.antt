@@ -9,33 +9,34 @@ use borrow.Author.Tests.{lt-ltb, le-ltb}
 use Rattle.bounded.specs.Below.{allBelow}
 use Rattle.bounded.specs.BelowLaws.{all-of}
 use Rattle.bounded.specs.Choice.{on-lt, on-test}
-use Rattle.bounded.specs.Limits.{highestVersion}
 use Rattle.bounded.specs.PartsLaws.{part-joinParts, length-joinParts}
+use Rattle.sizes.specs.declared.Layout.{Layout}
+use Rattle.sizes.specs.Sizes.{strideOf}
 use Rattle.record.specs.declared.Record.{Record}
 use Rattle.record.specs.declared.Slot.{Slot}
 use Rattle.record.specs.declared.Slot.the-variants.{Blank, Holds}
-use Rattle.record.specs.Slot.{wordsOf, slotOf, slotAt, blankRecord, recordSound, slotSound}
-use Rattle.record.specs.SlotLaws.{words-length, slot-of-words, slot-of-blank}
+use Rattle.record.specs.Slot.{encoded, slotFrom, slotIn, blankRecord, recordSound, slotSound}
+use Rattle.record.specs.SlotLaws.{encoded-length, Storable, slot-decoded, slot-of-none}
 use Rattle.table.specs.Given.{oneEach}
 use Rattle.table.specs.Table.{tableSound, someClash, hasRecord, highest}
 use Rattle.table.specs.TableLaws.{blank-holds, some-clash, has-record, highest-exists, highest-is, highest-held, highest-page}
 
 -- ---- the words
 
-module _ (P S : ℕ) (records : ℕ → Record) where
-  pub length-oneEach : length (oneEach P S records) ≡ 5 * S
+module _ (layout : Layout) (P S : ℕ) (records : ℕ → Record) where
+  pub length-oneEach : length (oneEach layout P S records) ≡ strideOf layout * S
   unfolding oneEach
-  length-oneEach = length-joinParts 5 S (λ k. wordsOf (cond (ltb k P) (records k) blankRecord)) (λ j. words-length (cond (ltb j P) (records j) blankRecord))
+  length-oneEach = length-joinParts (strideOf layout) S (λ k. encoded layout (cond (ltb k P) (records k) blankRecord)) (λ j. encoded-length layout (cond (ltb j P) (records j) blankRecord))
 
-  slot-is : (k : ℕ) → k < S → slotAt (oneEach P S records) k ≡ slotOf (wordsOf (cond (ltb k P) (records k) blankRecord))
-  unfolding slotAt oneEach
-  slot-is k h = ap slotOf (part-joinParts 5 S k (λ k. wordsOf (cond (ltb k P) (records k) blankRecord)) (λ j. words-length (cond (ltb j P) (records j) blankRecord)) h)
+  slot-is : (k : ℕ) → k < S → slotIn layout (oneEach layout P S records) k ≡ slotFrom layout (encoded layout (cond (ltb k P) (records k) blankRecord))
+  unfolding slotIn oneEach
+  slot-is k h = ap (slotFrom layout) (part-joinParts (strideOf layout) S k (λ k. encoded layout (cond (ltb k P) (records k) blankRecord)) (λ j. encoded-length layout (cond (ltb j P) (records j) blankRecord)) h)
 
-  pub slot-of-page : (k : ℕ) → k < S → k < P → records k .v ≤ highestVersion → slotAt (oneEach P S records) k ≡ Holds (records k)
-  slot-of-page k h l most = slot-is k h ∙ rw (lt-ltb k P l) (slot-of-words (records k) most)
+  pub slot-of-page : (k : ℕ) → k < S → k < P → Storable layout (records k) → slotIn layout (oneEach layout P S records) k ≡ Holds (records k)
+  slot-of-page k h l most = slot-is k h ∙ rw (lt-ltb k P l) (slot-decoded layout (records k) most)
 
-  pub slot-beyond : (k : ℕ) → k < S → P ≤ k → slotAt (oneEach P S records) k ≡ Blank
-  slot-beyond k h l = slot-is k h ∙ rw (le-ltb k P l) slot-of-blank
+  pub slot-beyond : (k : ℕ) → k < S → P ≤ k → slotIn layout (oneEach layout P S records) k ≡ Blank
+  slot-beyond k h l = slot-is k h ∙ rw (le-ltb k P l) (slot-of-none layout)
 
 -- ---- the table
 
@@ -46,9 +47,9 @@ pub record OneEach (P S : ℕ) (t : ℕ → Slot) (records : ℕ → Record) : T
   pub others : (k : ℕ) → k < S → P ≤ k → t k ≡ Blank
   pub own-page : (k : ℕ) → k < P → records k .p ≡ k
 
-pub words-one-each : (P S : ℕ) (records : ℕ → Record) → P ≤ S → ((k : ℕ) → k < P → records k .p ≡ k) → ((k : ℕ) → k < P → records k .v ≤ highestVersion) → OneEach P S (slotAt (oneEach P S records)) records
-words-one-each P S records room own most =
-    record { room = room; each = λ k h. slot-of-page P S records k (omega arith) h (most k h); others = slot-beyond P S records; own-page = own }
+pub words-one-each : (layout : Layout) (P S : ℕ) (records : ℕ → Record) → P ≤ S → ((k : ℕ) → k < P → records k .p ≡ k) → ((k : ℕ) → k < P → Storable layout (records k)) → OneEach P S (slotIn layout (oneEach layout P S records)) records
+words-one-each layout P S records room own most =
+    record { room = room; each = λ k h. slot-of-page layout P S records k (omega arith) h (most k h); others = slot-beyond layout P S records; own-page = own }
 
 module _ {P S : ℕ} {t : ℕ → Slot} {records : ℕ → Record} (given : OneEach P S t records) where
   open OneEach given using (room, each, others, own-page)

@@ -5,7 +5,8 @@ pub mod used; // used.rt: the used versions of all pages
 ghost use mathlib.Core.Path.{_≡_};
 ghost use Prim.Native.Nat.{_+_, _*_, _≤_, _<_};
 ghost use lib.ListN.{length};
-ghost use Rattle.record.specs.Slot.{slotAt, holds};
+ghost use Rattle.record.specs.Slot.{slotIn, holds};
+ghost use Rattle.sizes.specs.Sizes.{strideOf};
 ghost use mathlib.Core.Bool.{true};
 ghost use Rattle.bounded.specs.Below.{someBelow};
 ghost use Rattle.bounded.specs.Tabulate.{tabulate};
@@ -13,16 +14,17 @@ ghost use Rattle.table.specs.Table.{tableSound, ofVersion, clash, someCl
 ghost use Rattle.table.specs.HighestSlot.{named, highestSlot};
 use record::Record;
 use record::Slot;
+use sizes::Layout;
 use sizes::Sizes;
 
 // No "slot neither blank nor sound".
-pub fn table_sound(sizes: Sizes, words: &[u32]) -> bool
-    requires { ⌜ 5 * sizes .slots ≤ length (now words) ⌝ }
-    ensures { λ r. ⌜ r ≡ tableSound (sizes .pages) (sizes .slots) (slotAt (now (words .entry))) ⌝ }
+pub fn table_sound(layout: Layout, sizes: Sizes, words: &[u32]) -> bool
+    requires { ⌜ strideOf layout * sizes .slots ≤ length (now words) ⌝ }
+    ensures { λ r. ⌜ r ≡ tableSound (sizes .pages) (sizes .slots) (slotIn layout (now (words .entry))) ⌝ }
 {
     let mut k = 0;
     while k < sizes.slots {
-        if !record::slot_at(words, k).is_sound(sizes.pages) {
+        if !record::slot_in(layout, words, k).is_sound(sizes.pages) {
             return false;
         }
         k += 1;
@@ -44,13 +46,13 @@ pub fn holds_version(slot: Slot, page: u32, version: u32) -> bool
 }
 
 // "the lowest slot holding the page at" a version; the number of slots where there is none.
-pub fn lowest_slot(slots: u32, words: &[u32], page: u32, version: u32) -> u32
-    requires { ⌜ 5 * slots ≤ length (now words) ⌝ }
-    ensures { λ r. ⌜ r ≡ lowestSlot slots (slotAt (now (words .entry))) page version ⌝ }
+pub fn lowest_slot(layout: Layout, slots: u32, words: &[u32], page: u32, version: u32) -> u32
+    requires { ⌜ strideOf layout * slots ≤ length (now words) ⌝ }
+    ensures { λ r. ⌜ r ≡ lowestSlot slots (slotIn layout (now (words .entry))) page version ⌝ }
 {
     let mut k = 0;
     while k < slots {
-        if holds_version(record::slot_at(words, k), page, version) {
+        if holds_version(record::slot_in(layout, words, k), page, version) {
             return k;
         }
         k += 1;
@@ -69,14 +71,14 @@ pub fn clashes(a: Slot, b: Slot) -> bool
 }
 
 // Some slot below k clashes with slot k.
-fn some_clash_below(words: &[u32], k: u32) -> bool
-    requires { ⌜ 5 * k + 5 ≤ length (now words) ⌝ }
-    ensures { λ r. ⌜ r ≡ someBelow k (λ j. clash (slotAt (now (words .entry)) j) (slotAt (now (words .entry)) k)) ⌝ }
+fn some_clash_below(layout: Layout, words: &[u32], k: u32) -> bool
+    requires { ⌜ strideOf layout * k + strideOf layout ≤ length (now words) ⌝ }
+    ensures { λ r. ⌜ r ≡ someBelow k (λ j. clash (slotIn layout (now (words .entry)) j) (slotIn layout (now (words .entry)) k)) ⌝ }
 {
-    let slot = record::slot_at(words, k);
+    let slot = record::slot_in(layout, words, k);
     let mut j = 0;
     while j < k {
-        if clashes(record::slot_at(words, j), slot) {
+        if clashes(record::slot_in(layout, words, j), slot) {
             return true;
         }
         j += 1;
@@ -85,13 +87,13 @@ fn some_clash_below(words: &[u32], k: u32) -> bool
 }
 
 // Two slots of the table clash.
-pub fn some_clash(slots: u32, words: &[u32]) -> bool
-    requires { ⌜ 5 * slots ≤ length (now words) ⌝ }
-    ensures { λ r. ⌜ r ≡ someClash slots (slotAt (now (words .entry))) ⌝ }
+pub fn some_clash(layout: Layout, slots: u32, words: &[u32]) -> bool
+    requires { ⌜ strideOf layout * slots ≤ length (now words) ⌝ }
+    ensures { λ r. ⌜ r ≡ someClash slots (slotIn layout (now (words .entry))) ⌝ }
 {
     let mut k = 0;
     while k < slots {
-        if some_clash_below(words, k) {
+        if some_clash_below(layout, words, k) {
             return true;
         }
         k += 1;
@@ -100,18 +102,18 @@ pub fn some_clash(slots: u32, words: &[u32]) -> bool
 }
 
 // What a slot number names: the slot, or blank where it is no slot of the table.
-pub fn named_slot(slots: u32, words: &[u32], slot: u32) -> Slot
-    requires { ⌜ 5 * slots ≤ length (now words) ⌝ }
-    ensures { λ r. ⌜ r ≡ named slots (slotAt (now (words .entry))) slot ⌝ }
+pub fn named_slot(layout: Layout, slots: u32, words: &[u32], slot: u32) -> Slot
+    requires { ⌜ strideOf layout * slots ≤ length (now words) ⌝ }
+    ensures { λ r. ⌜ r ≡ named slots (slotIn layout (now (words .entry))) slot ⌝ }
 {
     if slot >= slots {
         return Slot::Blank;
     }
-    record::slot_at(words, slot)
+    record::slot_in(layout, words, slot)
 }
 
 // The record's version is above what stands in `best`.
-fn is_above(best: Slot, record: Record) -> bool
+pub fn is_above(best: Slot, record: Record) -> bool
     ensures { λ r. ⌜ r ≡ above best «record» ⌝ }
 {
     let Slot::Holds(held) = best else {
@@ -121,34 +123,34 @@ fn is_above(best: Slot, record: Record) -> bool
 }
 
 // Slot k's record, where it is above its page's highest so far, becomes its page's highest.
-fn raise_highest(sizes: Sizes, words: &[u32], k: u32, top: &mut [u32; 256])
-    requires { ⌜ 5 * sizes .slots ≤ length (now words) ⌝ }
+fn raise_highest(layout: Layout, sizes: Sizes, words: &[u32], k: u32, top: &mut [u32; 256])
+    requires { ⌜ strideOf layout * sizes .slots ≤ length (now words) ⌝ }
     requires { ⌜ sizes .pages ≤ 256 ⌝ }
     requires { ⌜ k < sizes .slots ⌝ }
-    requires { ⌜ tableSound (sizes .pages) (sizes .slots) (slotAt (now words)) ≡ true ⌝ }
-    requires { ⌜ now top ≡ tabulate 256 (highestSlot (sizes .slots) k (slotAt (now words))) ⌝ }
-    ensures { λ _. ⌜ now (top .exit) ≡ tabulate 256 (highestSlot (sizes .slots) (k + 1) (slotAt (now (words .entry)))) ⌝ }
+    requires { ⌜ tableSound (sizes .pages) (sizes .slots) (slotIn layout (now words)) ≡ true ⌝ }
+    requires { ⌜ now top ≡ tabulate 256 (highestSlot (sizes .slots) k (slotIn layout (now words))) ⌝ }
+    ensures { λ _. ⌜ now (top .exit) ≡ tabulate 256 (highestSlot (sizes .slots) (k + 1) (slotIn layout (now (words .entry)))) ⌝ }
 {
-    let Slot::Holds(record) = record::slot_at(words, k) else {
+    let Slot::Holds(record) = record::slot_in(layout, words, k) else {
         return;
     };
     let p = record.p as usize;
-    if is_above(named_slot(sizes.slots, words, top[p]), record) {
+    if is_above(named_slot(layout, sizes.slots, words, top[p]), record) {
         top[p] = k;
     }
 }
 
 // Each page's slot with its highest record, in one pass over the slots: entry p is page p's, `slots` where p has no record.
-pub fn highest_slots(sizes: Sizes, words: &[u32], top: &mut [u32; 256])
-    requires { ⌜ 5 * sizes .slots ≤ length (now words) ⌝ }
+pub fn highest_slots(layout: Layout, sizes: Sizes, words: &[u32], top: &mut [u32; 256])
+    requires { ⌜ strideOf layout * sizes .slots ≤ length (now words) ⌝ }
     requires { ⌜ sizes .pages ≤ 256 ⌝ }
-    requires { ⌜ tableSound (sizes .pages) (sizes .slots) (slotAt (now words)) ≡ true ⌝ }
-    ensures { λ _. ⌜ now (top .exit) ≡ tabulate 256 (highestSlot (sizes .slots) (sizes .slots) (slotAt (now (words .entry)))) ⌝ }
+    requires { ⌜ tableSound (sizes .pages) (sizes .slots) (slotIn layout (now words)) ≡ true ⌝ }
+    ensures { λ _. ⌜ now (top .exit) ≡ tabulate 256 (highestSlot (sizes .slots) (sizes .slots) (slotIn layout (now (words .entry)))) ⌝ }
 {
     *top = [sizes.slots; 256];
     let mut k = 0;
     while k < sizes.slots {
-        raise_highest(sizes, words, k, top);
+        raise_highest(layout, sizes, words, k, top);
         k += 1;
     }
 }

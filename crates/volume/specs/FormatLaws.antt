@@ -7,9 +7,11 @@ use lib.Dec.{ltb}
 use lib.ListN.{length, replicate, length-replicate}
 use borrow.Author.Tests.{lt-ltb, le-ltb}
 use Rattle.bounded.specs.Fill.{filled, filled-all}
+use Rattle.sizes.specs.declared.Layout.{Layout}
 use Rattle.sizes.specs.declared.Sizes.{Sizes}
-use Rattle.record.specs.Slot.{wordsOf, formattedRecord, blankRecord}
-use Rattle.record.specs.SlotLaws.{words-length}
+use Rattle.sizes.specs.Sizes.{strideOf}
+use Rattle.record.specs.Slot.{encoded, formattedRecord, blankRecord}
+use Rattle.record.specs.SlotLaws.{encoded-length}
 use Rattle.state.specs.declared.PageState.{PageState}
 use Rattle.state.specs.State.{pageWords, stateWords}
 use Rattle.state.specs.StateLaws.{length-pageWords}
@@ -17,44 +19,44 @@ use Rattle.table.specs.Given.{oneEach}
 use Rattle.rules.specs.Format.{formattedWords, formattedContents}
 
 -- "slot i below P holds (i, 0, 0, i, 0) …; all other slots are blank": the words of slot k
-unfoldable pub freshWords : (P k : ℕ) → List ℕ
-freshWords P k = wordsOf (cond (ltb k P) (formattedRecord k) blankRecord)
+unfoldable pub freshWords : Layout → (P k : ℕ) → List ℕ
+freshWords layout P k = encoded layout (cond (ltb k P) (formattedRecord k) blankRecord)
 
 -- "… with 32 zero bytes; all other slots are … with bytes 255": the bytes of slot k, for w of them
 unfoldable pub freshBytes : (w P k : ℕ) → List ℕ
 freshBytes w P k = replicate w (cond (ltb k P) 0 255)
 
 module _ (P k : ℕ) where
-  pub length-freshWords : length (freshWords P k) ≡ 5
+  pub length-freshWords : (layout : Layout) → length (freshWords layout P k) ≡ strideOf layout
   unfolding freshWords
-  length-freshWords = words-length (cond (ltb k P) (formattedRecord k) blankRecord)
+  length-freshWords layout = encoded-length layout (cond (ltb k P) (formattedRecord k) blankRecord)
 
   pub length-freshBytes : (w : ℕ) → length (freshBytes w P k) ≡ w
   unfolding freshBytes
   length-freshBytes w = length-replicate w (cond (ltb k P) 0 255)
 
   -- a slot that holds a page
-  pub words-of-page : k < P → freshWords P k ≡ wordsOf (formattedRecord k)
+  pub words-of-page : (layout : Layout) → k < P → freshWords layout P k ≡ encoded layout (formattedRecord k)
   unfolding freshWords
-  words-of-page h = rw (lt-ltb k P h)
+  words-of-page layout h = rw (lt-ltb k P h)
 
   pub bytes-of-page : (w : ℕ) → k < P → freshBytes w P k ≡ replicate w 0
   unfolding freshBytes
   bytes-of-page w h = rw (lt-ltb k P h)
 
   -- a free slot
-  pub words-of-free : P ≤ k → freshWords P k ≡ wordsOf blankRecord
+  pub words-of-free : (layout : Layout) → P ≤ k → freshWords layout P k ≡ encoded layout blankRecord
   unfolding freshWords
-  words-of-free h = rw (le-ltb k P h)
+  words-of-free layout h = rw (le-ltb k P h)
 
   pub bytes-of-free : (w : ℕ) → P ≤ k → freshBytes w P k ≡ replicate w 255
   unfolding freshBytes
   bytes-of-free w h = rw (le-ltb k P h)
 
 -- all slots written
-pub words-formatted : (sizes : Sizes) (words : List ℕ) → length words ≡ 5 * sizes .slots → filled 5 (freshWords (sizes .pages)) (sizes .slots) words ≡ formattedWords sizes
+pub words-formatted : (layout : Layout) (sizes : Sizes) (words : List ℕ) → length words ≡ strideOf layout * sizes .slots → filled (strideOf layout) (freshWords layout (sizes .pages)) (sizes .slots) words ≡ formattedWords layout sizes
 unfolding formattedWords oneEach freshWords
-words-formatted sizes words e = filled-all 5 (freshWords (sizes .pages)) words (sizes .slots) e (length-freshWords (sizes .pages))
+words-formatted layout sizes words e = filled-all (strideOf layout) (freshWords layout (sizes .pages)) words (sizes .slots) e (λ k. length-freshWords (sizes .pages) k layout)
 
 pub contents-formatted : (sizes : Sizes) (contents : List ℕ) → length contents ≡ sizes .width * sizes .slots → filled (sizes .width) (freshBytes (sizes .width) (sizes .pages)) (sizes .slots) contents ≡ formattedContents sizes
 unfolding formattedContents freshBytes

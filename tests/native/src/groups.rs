@@ -9,17 +9,21 @@ pub mod runs;
 pub mod scripts;
 
 use crate::harness::Group;
+use crate::interface::Family;
+use crate::volume::Layout;
 
-/// A group's tests at a width, counted.
-pub type Tests = fn(&mut Group, u32);
+/// A group's tests of volumes of a layout, counted.
+pub type Tests = fn(&mut Group, Layout);
 
-/// Every group by its name, in the order in which they run.
-pub const GROUPS: [(&str, Tests); 7] = [
-    ("cases", cases::tests),
-    ("calls", calls::tests),
-    ("links", links::tests),
-    ("runs", runs::tests),
-    ("models", models::tests),
-    ("scripts", scripts::tests),
-    ("impostors", impostors::tests),
+/// Every group by its name, with the families that have it, in the order in which they run.
+pub const GROUPS: [(&str, &[Family], Tests); 7] = [
+    ("cases", BOTH, cases::tests),
+    ("calls", BOTH, calls::tests),
+    ("links", BOTH, links::tests),
+    ("runs", BOTH, runs::tests),
+    ("models", BOTH, models::tests),
+    ("scripts", &[Family::Bpcc], scripts::tests),
+    ("impostors", BOTH, impostors::tests),
 ];
+
+const BOTH: &[Family] = &[Family::Bpcc, Family::Scc];

@@ -1,10 +1,10 @@
 //! Volumes, states and arguments for the calls: reachable, sound, damaged and sheer garbage.
 
 use crate::implementations::reference::Reference;
-use crate::interface::{NONE, SLOT_WORDS, WIDTHS};
+use crate::interface::{NONE, WIDTHS};
 use crate::random::Random;
-use crate::rules::{entry, may_erase, records, set_entry, slot, slot_words, state_sound, table_sound, Entry, Record, LAST_VERSION};
-use crate::volume::{Call, Sizes, Volume};
+use crate::rules::{entry, set_entry, slot_words, state_sound, table_sound, Entry, Record, LAST_VERSION};
+use crate::volume::{Call, Layout, Sizes, Volume};
 
 /// Widths that no volume has.
 pub const WRONG_WIDTHS: [u32; 7] = [0, 31, 33, 63, 65, 96, NONE];
@@ -38,8 +38,8 @@ pub fn boundary(random: &mut Random, sizes: Sizes) -> u32 {
     ])
 }
 
-/// A volume of a width, and its state, for one round of calls.
-pub fn volume(random: &mut Random, width: u32) -> Volume {
+/// A volume of a layout, and its state, for one round of calls.
+pub fn volume(random: &mut Random, layout: Layout) -> Volume {
     let large = random.one_in(2000);
     let pages = if large {
         random.pick(&[255, 256])
@@ -49,7 +49,7 @@ pub fn volume(random: &mut Random, width: u32) -> Volume {
         1 + random.below(4)
     };
     let slots = if large { 1024 - random.below(2) } else { pages + random.below(9) };
-    let sizes = Sizes { pages, slots, width };
+    let sizes = layout.sizes(pages, slots);
     let mut v = match random.below(10) {
         0..=3 => reached(random, sizes),
         4..=5 => sound_table(random, sizes),
@@ -104,13 +104,13 @@ fn sound_record(random: &mut Random, pages: u32, p: u32) -> Record {
 
 /// Sound records and blank slots in any order, pages and versions repeated or missing.
 fn sound_table(random: &mut Random, sizes: Sizes) -> Volume {
-    let mut v = Volume::with_records(sizes, &[]);
+    let mut v = Volume::with_records(sizes, &[Record::BLANK]);
     v.contents = random.bytes(v.contents.len() as u32);
     for k in 0..sizes.slots {
         if !random.one_in(3) {
             let p = random.below(sizes.pages);
-            let five = sound_record(random, sizes.pages, p).words();
-            v.words[slot_words(k)].copy_from_slice(&five);
+            let record = sound_record(random, sizes.pages, p);
+            v.words[slot_words(sizes.family, k)].copy_from_slice(&record.words(sizes.family));
         }
     }
     v
@@ -138,10 +138,9 @@ fn linked_table(random: &mut Random, sizes: Sizes) -> Volume {
             held.push(Record { p, v, c: if v == 0 { 0 } else { random.below(v) }, np, nv });
         }
     }
-    let mut fives: Vec<[u32; SLOT_WORDS]> = held.iter().map(|r| r.words()).collect();
-    fives.resize(slots as usize, [NONE; SLOT_WORDS]);
-    random.shuffle(&mut fives);
-    Volume::with_records(sizes, &fives)
+    held.resize(slots as usize, Record::BLANK);
+    random.shuffle(&mut held);
+    Volume::with_records(sizes, &held)
 }
 
 fn garbage(random: &mut Random, sizes: Sizes) -> Volume {
@@ -166,7 +165,7 @@ fn choose_state(random: &mut Random, v: &mut Volume) {
 
 /// Any sound state, its committed versions often those of records.
 fn sound_state(random: &mut Random, v: &mut Volume) {
-    let (table, pages) = (records(&v.words), v.sizes.pages);
+    let (table, pages) = (v.records(), v.sizes.pages);
     let mut flying = random.subset(pages);
     if random.one_in(2) {
         flying.truncate(pages as usize / 2);
@@ -250,12 +249,12 @@ pub fn page_to_take(random: &mut Random, v: &Volume) -> u32 {
 
 /// Slots that may be erased, or any that hold an obsolete or exposed record, or any at all.
 pub fn slots_to_erase(random: &mut Random, v: &Volume) -> Vec<u32> {
-    let Sizes { pages, slots, .. } = v.sizes;
-    let sound = table_sound(pages, &v.words);
+    let Sizes { family, pages, slots, .. } = v.sizes;
+    let sound = table_sound(family, pages, &v.words);
     let tried: Vec<u32> = if slots > 64 { (0..20).map(|i| (i * 53 + random.below(53)) % slots).collect() } else { (0..slots).collect() };
     let how = random.below(8);
-    let goes = |k: u32| match slot(&v.words, k) {
-        Some(_) if how < 4 => may_erase(&v.words, &v.state, k),
+    let goes = |k: u32| match v.slot(k) {
+        Some(_) if how < 4 => v.may_erase(k),
         Some(r) => r.v != entry(&v.state, r.p).committed,
         None => false,
     };

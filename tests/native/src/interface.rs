@@ -13,35 +13,66 @@ pub fn other_width(width: u32) -> u32 {
     WIDTHS[usize::from(width == WIDTHS[0])]
 }
 
-/// Words of a slot in the slot table.
-pub const SLOT_WORDS: usize = 5;
+/// The families of calls, by the records that their volumes have.
+#[derive(Clone, Copy, Debug, Default, PartialEq, Eq, PartialOrd, Ord)]
+pub enum Family {
+    /// `bpcc_…`: five words, one of them a back pointer.
+    #[default]
+    Bpcc,
+    /// `scc_…`: four words.
+    Scc,
+}
+
+impl Family {
+    /// Words of a slot in the slot table.
+    pub fn slot_words(self) -> usize {
+        match self {
+            Family::Bpcc => 5,
+            Family::Scc => 4,
+        }
+    }
+
+    /// The calls of the family.
+    pub fn calls(self) -> impl Iterator<Item = Name> + Clone {
+        ROWS.iter().filter(move |(family, _)| *family == self).map(|&(_, name)| name)
+    }
+}
 
 /// Words of a page in the state (document 01: sheet).
 pub const PAGE_WORDS: usize = 4;
 
-/// Hands the calls to a macro, a row for each: its name, its name in C, and what it takes in the order of include/bpcc.h. A name in
-/// brackets is a buffer, in C a pointer and then a length.
+/// Hands the calls to a macro, a row for each: its family, its name, its name in C, and what it takes in the order of the header. A
+/// name in brackets is a buffer, in C a pointer and then a length.
 macro_rules! calls {
     ($to:ident) => {
         $to! {
-            Format   bpcc_format   (pages, slots, width, [words], [contents], [state])
-            Launch   bpcc_launch   (pages, slots, width, [state], [list])
-            Write    bpcc_write    (pages, slots, width, [words], [contents], [state], page, slot, [bytes])
-            Withdraw bpcc_withdraw (pages, slots, width, [state], page)
-            Erase    bpcc_erase    (pages, slots, width, [words], [contents], [state], [list])
-            Suggest  bpcc_suggest  (pages, slots, width, [words], [state])
-            Recover  bpcc_recover  (pages, slots, width, [words], [state])
-            Count    bpcc_count    ([bytes])
-            Read     bpcc_read     (pages, slots, width, [words], [contents], [state], page, [out])
+            Bpcc Format   bpcc_format   (pages, slots, width, [words], [contents], [state])
+            Bpcc Launch   bpcc_launch   (pages, slots, width, [state], [list])
+            Bpcc Write    bpcc_write    (pages, slots, width, [words], [contents], [state], page, slot, [bytes])
+            Bpcc Withdraw bpcc_withdraw (pages, slots, width, [state], page)
+            Bpcc Erase    bpcc_erase    (pages, slots, width, [words], [contents], [state], [list])
+            Bpcc Suggest  bpcc_suggest  (pages, slots, width, [words], [state])
+            Bpcc Recover  bpcc_recover  (pages, slots, width, [words], [state])
+            Bpcc Count    bpcc_count    ([bytes])
+            Bpcc Read     bpcc_read     (pages, slots, width, [words], [contents], [state], page, [out])
+            Scc  Format   scc_format    (pages, slots, width, [words], [contents], [state])
+            Scc  Launch   scc_launch    (pages, slots, width, [state], [list])
+            Scc  Write    scc_write     (pages, slots, width, [words], [contents], [state], page, slot, [bytes])
+            Scc  Withdraw scc_withdraw  (pages, slots, width, [state], page)
+            Scc  Erase    scc_erase     (pages, slots, width, [words], [contents], [state], [list])
+            Scc  Recover  scc_recover   (pages, slots, width, [words], [state])
+            Scc  Read     scc_read      (pages, slots, width, [words], [contents], [state], page, [out])
         }
     };
 }
 #[cfg(any(feature = "library", feature = "exports"))]
 pub(crate) use calls;
 
-/// What calls take: numbers, and buffers that they are lent. A call takes those of its row and leaves the others alone.
+/// What calls take: numbers, and buffers that they are lent. A call takes those of its row and leaves the others alone. The family
+/// says whose call it is.
 #[derive(Default)]
 pub struct Arguments<'a> {
+    pub family: Family,
     pub pages: u32,
     pub slots: u32,
     pub width: u32,
@@ -55,34 +86,35 @@ pub struct Arguments<'a> {
     pub out: &'a mut [u8],
 }
 
-macro_rules! names {
-    ($($name:ident $c:ident $takes:tt)*) => {
-        /// Which call.
-        #[derive(Clone, Copy, Debug, PartialEq, Eq, PartialOrd, Ord)]
-        pub enum Name {
-            $($name,)*
-        }
+/// Which call of a family.
+#[derive(Clone, Copy, Debug, PartialEq, Eq, PartialOrd, Ord)]
+pub enum Name {
+    Format,
+    Launch,
+    Write,
+    Withdraw,
+    Erase,
+    Suggest,
+    Recover,
+    Count,
+    Read,
+}
 
-        impl Name {
-            pub const ALL: &'static [Name] = &[$(Name::$name,)*];
+/// As in C, without the family's prefix.
+impl fmt::Display for Name {
+    fn fmt(&self, f: &mut fmt::Formatter) -> fmt::Result {
+        f.write_str(&format!("{self:?}").to_lowercase())
+    }
+}
 
-            pub fn in_c(self) -> &'static str {
-                match self {
-                    $(Name::$name => stringify!($c),)*
-                }
-            }
-        }
+macro_rules! rows {
+    ($($family:ident $name:ident $c:ident $takes:tt)*) => {
+        /// Every call with its family.
+        const ROWS: &[(Family, Name)] = &[$((Family::$family, Name::$name),)*];
     };
 }
 
-calls!(names);
-
-/// As in C, without the library's own prefix.
-impl fmt::Display for Name {
-    fn fmt(&self, f: &mut fmt::Formatter) -> fmt::Result {
-        f.write_str(self.in_c().trim_start_matches("bpcc_"))
-    }
-}
+calls!(rows);
 
 /// What a call gives back besides its buffers: the answer and the second number.
 #[derive(Clone, Copy, Debug, PartialEq, Eq)]

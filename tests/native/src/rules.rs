@@ -1,12 +1,14 @@
-//! Document 01's definitions on plain slices: records, the state, what may be erased, how recovery follows links. The width is any.
+//! Document 01's definitions on plain slices, and those of document 02's four-word records where they differ: records, the state, what
+//! a write would bury, what may be erased, how recovery follows links. The width is any.
 
-use crate::interface::{NONE, PAGE_WORDS, SLOT_WORDS};
+use crate::interface::{Family, NONE, PAGE_WORDS};
+use crate::volume::Layout;
 use std::ops::Range;
 
 /// The highest version there is.
 pub const LAST_VERSION: u32 = 4_294_967_294;
 
-/// A record: page, version, back pointer, next page and its version.
+/// A record: page, version, back pointer, next page and its version. One of four words has no back pointer; c is 0 there.
 #[derive(Clone, Copy, Debug, PartialEq, Eq, PartialOrd, Ord, Hash)]
 pub struct Record {
     pub p: u32,
@@ -16,12 +18,31 @@ pub struct Record {
     pub nv: u32,
 }
 
+impl From<[u32; 5]> for Record {
+    fn from([p, v, c, np, nv]: [u32; 5]) -> Record {
+        Record { p, v, c, np, nv }
+    }
+}
+
+impl From<[u32; 4]> for Record {
+    fn from([p, v, np, nv]: [u32; 4]) -> Record {
+        Record { p, v, c: 0, np, nv }
+    }
+}
+
 impl Record {
-    pub fn words(self) -> [u32; SLOT_WORDS] {
-        [self.p, self.v, self.c, self.np, self.nv]
+    /// The words of a blank slot.
+    pub const BLANK: Record = Record { p: NONE, v: NONE, c: NONE, np: NONE, nv: NONE };
+
+    pub fn words(self, family: Family) -> Vec<u32> {
+        match family {
+            Family::Bpcc => vec![self.p, self.v, self.c, self.np, self.nv],
+            Family::Scc => vec![self.p, self.v, self.np, self.nv],
+        }
     }
 
     /// "It is sound if p and np are below P, v, c and nv are at most 4,294,967,294, c is below v (or both are 0), and nv equals v where np equals p."
+    /// What is said of c holds where it is 0.
     pub fn is_sound(self, pages: u32) -> bool {
         self.p < pages
             && self.np < pages
@@ -36,10 +57,10 @@ impl Record {
     }
 }
 
-/// "Slot k has words 5k to 5k+4 …
-pub fn slot_words(k: u32) -> Range<usize> {
-    let at = SLOT_WORDS * k as usize;
-    at..at + SLOT_WORDS
+/// "Slot k has words 5k to 5k+4 …, or 4k to 4k+3,
+pub fn slot_words(family: Family, k: u32) -> Range<usize> {
+    let (words, k) = (family.slot_words(), k as usize);
+    words * k..words * (k + 1)
 }
 
 /// … and bytes 32k to 32k+31", or as many as the width says.
@@ -49,34 +70,36 @@ pub fn slot_bytes(width: u32, k: u32) -> Range<usize> {
 }
 
 /// Slot k's record, or nothing where the slot is blank.
-pub fn slot(words: &[u32], k: u32) -> Option<Record> {
-    match words[slot_words(k)] {
-        [NONE, NONE, NONE, NONE, NONE] => None,
+pub fn slot(family: Family, words: &[u32], k: u32) -> Option<Record> {
+    match words[slot_words(family, k)] {
+        [NONE, NONE, NONE, NONE, NONE] | [NONE, NONE, NONE, NONE] => None,
         [p, v, c, np, nv] => Some(Record { p, v, c, np, nv }),
+        [p, v, np, nv] => Some(Record { p, v, c: 0, np, nv }),
         _ => unreachable!(),
     }
 }
 
 /// Stores a record and its bytes in slot k, or blanks the slot.
-pub fn set_slot(width: u32, words: &mut [u32], contents: &mut [u8], k: u32, held: Option<(Record, &[u8])>) {
-    let (five, bytes) = (&mut words[slot_words(k)], &mut contents[slot_bytes(width, k)]);
+pub fn set_slot(layout: Layout, words: &mut [u32], contents: &mut [u8], k: u32, held: Option<(Record, &[u8])>) {
+    let Layout { family, width } = layout;
+    let (own, bytes) = (&mut words[slot_words(family, k)], &mut contents[slot_bytes(width, k)]);
     match held {
         Some((record, stored)) => {
-            five.copy_from_slice(&record.words());
+            own.copy_from_slice(&record.words(family));
             bytes.copy_from_slice(stored);
         }
         None => {
-            five.fill(NONE);
+            own.fill(NONE);
             bytes.fill(255);
         }
     }
 }
 
 /// The records of the table with their slots, rising.
-pub fn records(words: &[u32]) -> Vec<(u32, Record)> {
-    let slots = words.len() / SLOT_WORDS;
+pub fn records(family: Family, words: &[u32]) -> Vec<(u32, Record)> {
+    let slots = words.len() / family.slot_words();
     let mut held = Vec::with_capacity(slots);
-    held.extend((0..slots as u32).filter_map(|k| slot(words, k).map(|r| (k, r))));
+    held.extend((0..slots as u32).filter_map(|k| slot(family, words, k).map(|r| (k, r))));
     held
 }
 
@@ -110,8 +133,8 @@ pub fn sizes_fit(pages: u32, slots: u32) -> bool {
     (1..=256).contains(&pages) && (pages..=1024).contains(&slots)
 }
 
-pub fn words_fit(slots: u32, words: &[u32]) -> bool {
-    words.len() == SLOT_WORDS * slots as usize
+pub fn words_fit(family: Family, slots: u32, words: &[u32]) -> bool {
+    words.len() == family.slot_words() * slots as usize
 }
 
 pub fn contents_fit(slots: u32, width: u32, contents: &[u8]) -> bool {
@@ -123,8 +146,8 @@ pub fn state_fits(pages: u32, state: &[u32]) -> bool {
 }
 
 /// Every slot is blank or sound.
-pub fn table_sound(pages: u32, words: &[u32]) -> bool {
-    records(words).iter().all(|(_, r)| r.is_sound(pages))
+pub fn table_sound(family: Family, pages: u32, words: &[u32]) -> bool {
+    records(family, words).iter().all(|(_, r)| r.is_sound(pages))
 }
 
 /// The state's soundness, clause by clause.
@@ -154,25 +177,37 @@ pub fn cycle(state: &[u32], page: u32) -> Vec<u32> {
     pages
 }
 
-/// The record that a page in flight is to store: v = used of the page, c = its committed, np = its next, nv = used of np.
-pub fn planned(state: &[u32], page: u32) -> Record {
+/// The record that a page in flight is to store: v = used of the page, c = its committed if there is a c, np = its next, nv = used of np.
+pub fn planned(family: Family, state: &[u32], page: u32) -> Record {
     let e = entry(state, page);
-    Record { p: page, v: e.used, c: e.committed, np: e.next, nv: entry(state, e.next).used }
+    let c = if family == Family::Bpcc { e.committed } else { 0 };
+    Record { p: page, v: e.used, c, np: e.next, nv: entry(state, e.next).used }
+}
+
+/// Whether a record is exposed: its version is above its page's committed one.
+pub fn is_exposed(state: &[u32], r: Record) -> bool {
+    r.v > entry(state, r.p).committed
+}
+
+/// Whether the write of a page's planned record would bury one: "an exposed record with J.p = p and J.v < v, or J.np = p and J.nv < v."
+pub fn would_bury(table: &[(u32, Record)], state: &[u32], p: u32) -> bool {
+    let v = entry(state, p).used;
+    table.iter().any(|&(_, j)| is_exposed(state, j) && ((j.p == p && j.v < v) || (j.np == p && j.nv < v)))
 }
 
 /// "An obsolete K is needed if no record has the same page and c with a higher v, and some exposed record's link is straddled by K."
 fn is_needed(table: &[(u32, Record)], state: &[u32], k: Record) -> bool {
-    let exposed = |r: Record| r.v > entry(state, r.p).committed;
     let better = table.iter().any(|&(_, l)| l.p == k.p && l.c == k.c && l.v > k.v);
-    !better && table.iter().any(|&(_, i)| exposed(i) && k.straddles(i))
+    !better && table.iter().any(|&(_, i)| is_exposed(state, i) && k.straddles(i))
 }
 
 /// "A slot may be erased if it holds an obsolete record that is no needed straddler, or an exposed record other than one whose page is in flight with v = used."
-pub fn may_erase(words: &[u32], state: &[u32], k: u32) -> bool {
-    let Some(record) = slot(words, k) else { return false };
+/// Of four-word records "any obsolete record may be erased".
+pub fn may_erase(family: Family, words: &[u32], state: &[u32], k: u32) -> bool {
+    let Some(record) = slot(family, words, k) else { return false };
     let e = entry(state, record.p);
     if record.v < e.committed {
-        !is_needed(&records(words), state, record)
+        family == Family::Scc || !is_needed(&records(family, words), state, record)
     } else if record.v > e.committed {
         !(e.in_flight() && record.v == e.used)
     } else {
@@ -181,8 +216,8 @@ pub fn may_erase(words: &[u32], state: &[u32], k: u32) -> bool {
 }
 
 /// The lowest slot that holds a page at a version.
-pub fn lowest_slot(words: &[u32], page: u32, version: u32) -> Option<u32> {
-    records(words).iter().find(|(_, r)| r.p == page && r.v == version).map(|&(k, _)| k)
+pub fn lowest_slot(family: Family, words: &[u32], page: u32, version: u32) -> Option<u32> {
+    records(family, words).iter().find(|(_, r)| r.p == page && r.v == version).map(|&(k, _)| k)
 }
 
 /// Each page's highest record, or nothing where a page has no record.
@@ -203,8 +238,9 @@ pub struct Walk {
     pub end: End,
 }
 
-/// The three cases of recovery from one start; `highest` has each page's highest record.
-pub fn follow(table: &[(u32, Record)], highest: &[Record], start: u32) -> Walk {
+/// The three cases of recovery from one start; `highest` has each page's highest record. Of four-word records "case 1 of recovery means
+/// committed".
+pub fn follow(family: Family, table: &[(u32, Record)], highest: &[Record], start: u32) -> Walk {
     let mut compared = Vec::new();
     let mut at = start;
     let end = loop {
@@ -212,7 +248,7 @@ pub fn follow(table: &[(u32, Record)], highest: &[Record], start: u32) -> Walk {
         let j = highest[at as usize];
         let hv = highest[j.np as usize].v;
         if j.nv < hv {
-            let straddled = table.iter().any(|&(_, k)| k.straddles(j));
+            let straddled = family == Family::Bpcc && table.iter().any(|&(_, k)| k.straddles(j));
             break if straddled { End::Uncommitted } else { End::Committed };
         }
         if j.nv > hv {
@@ -227,4 +263,19 @@ pub fn follow(table: &[(u32, Record)], highest: &[Record], start: u32) -> Walk {
         at = j.np;
     };
     Walk { compared, end }
+}
+
+/// The committed version of a page whose highest record is not committed: "the c of p's highest record", or of four-word records "the
+/// second highest version", if there is one.
+pub fn committed_before(family: Family, table: &[(u32, Record)], highest: Record) -> Option<u32> {
+    match family {
+        Family::Bpcc => Some(highest.c),
+        Family::Scc => table.iter().map(|&(_, r)| r).filter(|r| r.p == highest.p && r.v < highest.v).map(|r| r.v).max(),
+    }
+}
+
+/// "Used = the highest of all v with that p and all nv with that np", of a page with a record.
+pub fn used_version(table: &[(u32, Record)], p: u32) -> u32 {
+    let mentioned = table.iter().flat_map(|(_, r)| [(r.p, r.v), (r.np, r.nv)]);
+    mentioned.filter(|&(q, _)| q == p).map(|(_, version)| version).max().unwrap()
 }

@@ -1,25 +1,53 @@
 //! A volume with its state, and the calls that a run makes on it.
 
-use crate::interface::{Arguments, Calls, Name, Reply, NONE, PAGE_WORDS, SLOT_WORDS};
-use crate::rules::{slot, slot_bytes, slot_words};
+use crate::interface::{Arguments, Calls, Family, Name, Reply, NONE, PAGE_WORDS};
+use crate::rules::{is_exposed, may_erase, records, slot, slot_bytes, slot_words, Record};
+use std::fmt;
 
-/// A volume's sizes: its pages, its slots, and the bytes of contents for each slot.
+/// How slots lie in a volume's buffers: the family, by which a record has five words or four, and the bytes of contents for each slot.
+#[derive(Clone, Copy, Debug, PartialEq, Eq)]
+pub struct Layout {
+    pub family: Family,
+    pub width: u32,
+}
+
+impl Layout {
+    pub fn sizes(self, pages: u32, slots: u32) -> Sizes {
+        let Layout { family, width } = self;
+        Sizes { family, pages, slots, width }
+    }
+}
+
+impl fmt::Display for Layout {
+    fn fmt(&self, f: &mut fmt::Formatter) -> fmt::Result {
+        write!(f, "records of {} words, width {}", self.family.slot_words(), self.width)
+    }
+}
+
+/// A volume's sizes: the words of its records, by its family, its pages, its slots, and the bytes of contents for each slot.
 #[derive(Clone, Copy, Debug, PartialEq, Eq)]
 pub struct Sizes {
+    pub family: Family,
     pub pages: u32,
     pub slots: u32,
     pub width: u32,
 }
 
 impl Sizes {
-    pub fn new(pages: u32, slots: u32, width: u32) -> Sizes {
-        Sizes { pages, slots, width }
+    pub fn layout(self) -> Layout {
+        Layout { family: self.family, width: self.width }
+    }
+}
+
+impl Arguments<'_> {
+    pub fn layout(&self) -> Layout {
+        Layout { family: self.family, width: self.width }
     }
 }
 
 /// The records of a ring: the listed pages at version 1, each linked to the next of the list, the last to the first.
-pub fn ring(list: &[u32]) -> Vec<[u32; SLOT_WORDS]> {
-    list.iter().zip(list.iter().cycle().skip(1)).map(|(&p, &np)| [p, 1, 0, np, 1]).collect()
+pub fn ring(list: &[u32]) -> Vec<Record> {
+    list.iter().zip(list.iter().cycle().skip(1)).map(|(&p, &np)| Record { p, v: 1, c: 0, np, nv: 1 }).collect()
 }
 
 /// A call of a run, with its arguments.
@@ -44,7 +72,12 @@ impl Volume {
     /// A volume of the sizes' lengths whose words and bytes are all zero.
     pub fn zeroed(sizes: Sizes) -> Volume {
         let [pages, slots, width] = [sizes.pages, sizes.slots, sizes.width].map(|n| n as usize);
-        Volume { sizes, words: vec![0; SLOT_WORDS * slots], contents: vec![0; width * slots], state: vec![0; PAGE_WORDS * pages] }
+        Volume {
+            sizes,
+            words: vec![0; sizes.family.slot_words() * slots],
+            contents: vec![0; width * slots],
+            state: vec![0; PAGE_WORDS * pages],
+        }
     }
 
     /// A freshly formatted volume.
@@ -56,25 +89,30 @@ impl Volume {
 
     /// A copy of what a call is lent.
     pub fn copied(a: &Arguments) -> Volume {
-        let sizes = Sizes::new(a.pages, a.slots, a.width);
-        Volume { sizes, words: a.words.to_vec(), contents: a.contents.to_vec(), state: a.state.to_vec() }
+        Volume {
+            sizes: a.layout().sizes(a.pages, a.slots),
+            words: a.words.to_vec(),
+            contents: a.contents.to_vec(),
+            state: a.state.to_vec(),
+        }
     }
 
     /// A volume with the given records in its lowest slots, the other slots blank, and the state lost.
-    pub fn with_records(sizes: Sizes, held: &[[u32; SLOT_WORDS]]) -> Volume {
+    pub fn with_records(sizes: Sizes, held: &[impl Into<Record> + Copy]) -> Volume {
         let mut v = Volume::zeroed(sizes);
         v.words.fill(NONE);
         v.contents.fill(255);
         v.state.fill(NONE);
-        for (k, five) in (0..).zip(held) {
-            v.words[slot_words(k)].copy_from_slice(five);
+        for (k, &record) in (0..).zip(held) {
+            v.words[slot_words(sizes.family, k)].copy_from_slice(&record.into().words(sizes.family));
             v.contents[slot_bytes(sizes.width, k)].fill(k as u8);
         }
         v
     }
 
     /// The one-ring table, on which recovery follows P×P links, the most of all tables with P pages: slot p below P holds
-    /// (p, 1, 0, p + 1, 1), of the last page (p, 1, 0, 0, 1), the other slots are blank, and the state is lost.
+    /// (p, 1, 0, p + 1, 1), of the last page (p, 1, 0, 0, 1), without the third word where there is no c; the other slots are blank,
+    /// and the state is lost.
     pub fn one_ring(sizes: Sizes) -> Volume {
         let pages: Vec<u32> = (0..sizes.pages).collect();
         Volume::with_records(sizes, &ring(&pages))
@@ -82,8 +120,8 @@ impl Volume {
 
     /// The volume lent to a call, the call's own arguments left out.
     pub fn arguments(&mut self) -> Arguments<'_> {
-        let Volume { sizes: Sizes { pages, slots, width }, words, contents, state } = self;
-        Arguments { pages: *pages, slots: *slots, width: *width, words, contents, state, ..Arguments::default() }
+        let Volume { sizes: Sizes { family, pages, slots, width }, words, contents, state } = self;
+        Arguments { family: *family, pages: *pages, slots: *slots, width: *width, words, contents, state, ..Arguments::default() }
     }
 
     pub fn call(&mut self, calls: &dyn Calls, call: &Call) -> Reply {
@@ -111,12 +149,38 @@ impl Volume {
 
     /// The blank slots, rising.
     pub fn blank_slots(&self) -> Vec<u32> {
-        (0..self.sizes.slots).filter(|&k| slot(&self.words, k).is_none()).collect()
+        (0..self.sizes.slots).filter(|&k| self.slot(k).is_none()).collect()
+    }
+
+    /// Slot k's record, or nothing where the slot is blank.
+    pub fn slot(&self, k: u32) -> Option<Record> {
+        slot(self.sizes.family, &self.words, k)
+    }
+
+    /// The records with their slots, rising.
+    pub fn records(&self) -> Vec<(u32, Record)> {
+        records(self.sizes.family, &self.words)
+    }
+
+    /// Whether slot k may be erased.
+    pub fn may_erase(&self, k: u32) -> bool {
+        may_erase(self.sizes.family, &self.words, &self.state, k)
+    }
+
+    /// The slots of the exposed records other than those whose page is in flight with v = used.
+    pub fn left_exposed(&self) -> Vec<u32> {
+        self.records().into_iter().filter(|&(k, r)| is_exposed(&self.state, r) && self.may_erase(k)).map(|(k, _)| k).collect()
+    }
+
+    /// A write that would bury a record is done when those exposed records are erased.
+    pub fn assert_cured(&mut self, calls: &dyn Calls, write: &Call) {
+        let answers = [&Call::Erase(self.left_exposed()), write].map(|call| self.call(calls, call).answer);
+        assert_eq!(answers, [0, 0], "erase of the exposed records and again {write:?}");
     }
 
     /// Makes slot k what it is in another volume of the same sizes.
     pub fn copy_slot(&mut self, from: &Volume, k: u32) {
-        let (words, bytes) = (slot_words(k), slot_bytes(self.sizes.width, k));
+        let (words, bytes) = (slot_words(self.sizes.family, k), slot_bytes(self.sizes.width, k));
         self.words[words.clone()].copy_from_slice(&from.words[words]);
         self.contents[bytes.clone()].copy_from_slice(&from.contents[bytes]);
     }

@@ -9,20 +9,19 @@ use lib.ListN.{length, getD}
 use Rattle.bounded.specs.Choice.{on-eq, on-test}
 use Rattle.record.specs.declared.Record.{Record}
 use Rattle.record.specs.declared.Slot.the-variants.{Blank, Holds}
-use Rattle.record.specs.Slot.{slotAt, bytesAt}
-use Rattle.record.specs.Flash.{Flash, Step, applyAll}
-use Rattle.record.specs.FlashLaws.{Sized, blanks-listed, blanks-unlisted}
+use Rattle.record.specs.Slot.{slotIn, bytesAt}
+use Rattle.record.specs.Flash.{Flash, Step, applyAllIn}
+use Rattle.record.specs.FlashLaws.{SizedIn, blanks-listed, blanks-unlisted}
 use Rattle.state.specs.declared.PageState.{PageState}
 use Rattle.table.specs.TableLaws.{blank-holds}
-use Rattle.rules.specs.Permission.{mayErase}
 use Rattle.protocol.specs.View.{NoTwins, finds-in-slots}
-use Rattle.protocol.specs.Permitted.{may-erase-permitted}
-use Rattle.protocol.specs.Fewer.{Erased}
+use Rattle.atomicity.specs.Family.{Family}
 use Rattle.atomicity.specs.Run.{doneOf}
+use Rattle.atomicity.specs.steps.Theory.{Theory, ErasedBy}
 use Rattle.atomicity.specs.steps.Invariant.{Held}
 
 -- a number stands in a list, or not
-listed? : (k : ℕ) (l : List ℕ) → List·Memᴰ k l ⊎ ¬ (List·Memᴰ k l)
+pub listed? : (k : ℕ) (l : List ℕ) → List·Memᴰ k l ⊎ ¬ (List·Memᴰ k l)
 listed? k [] = inr List·Memᴰ·not-nil
 listed? k (x ∷ l) = on-eq k x (λ e. inl (List·Memᴰ·head e)) (λ d. by d (listed? k l))
   where
@@ -66,37 +65,37 @@ chosen-listed done i (x ∷ slots) k m =
 
 -- ---- the set after blanking
 
-module _ (w S : ℕ) (f : Flash) (size : Sized w S f) (slots : List ℕ) (inside : (k : ℕ) → List·Memᴰ k slots → k < S) where
+module _ {F : Family} (T : Theory F) (w S : ℕ) (f : Flash) (size : SizedIn (F .layout) w S f) (slots : List ℕ) (inside : (k : ℕ) → List·Memᴰ k slots → k < S) where
   abbrev blanked : Flash
-  blanked = applyAll w f (map Step.Blank slots)
+  blanked = applyAllIn (F .layout) w f (map Step.Blank slots)
 
   -- a slot that holds a record is not listed, and held it before
-  held-before : (k : ℕ) (r : Record) → slotAt (blanked .words) k ≡ Holds r → (slotAt (f .words) k ≡ Holds r) × (bytesAt w (blanked .contents) k ≡ bytesAt w (f .contents) k)
+  held-before : (k : ℕ) (r : Record) → slotIn (F .layout) (blanked .words) k ≡ Holds r → (slotIn (F .layout) (f .words) k ≡ Holds r) × (bytesAt w (blanked .contents) k ≡ bytesAt w (f .contents) k)
   held-before k r e =
       ⊎-elim
-      (λ m. absurd (blank-holds (blanks-listed w S slots f k size inside m .slot-blank) e))
-      (λ n. let s = blanks-unlisted w S slots f k size inside n in (sym (s .same-slot) ∙ e, s .same-bytes))
+      (λ m. absurd (blank-holds (blanks-listed (F .layout) w S slots f k size inside m .slot-blank) e))
+      (λ n. let s = blanks-unlisted (F .layout) w S slots f k size inside n in (sym (s .same-slot) ∙ e, s .same-bytes))
       (listed? k slots)
 
-  blanking-fewer : (r : Record) (b : List ℕ) → Held w S blanked r b → Held w S f r b
+  blanking-fewer : (r : Record) (b : List ℕ) → Held F w S blanked r b → Held F w S f r b
   blanking-fewer r b h = let u = held-before (h .0) r (h .2) in (h .0, h .1, u .0, sym (u .1) ∙ h .3)
 
-  pub blanking-apart : NoTwins S (slotAt (f .words)) → NoTwins S (slotAt (blanked .words))
+  pub blanking-apart : NoTwins S (slotIn (F .layout) (f .words)) → NoTwins S (slotIn (F .layout) (blanked .words))
   blanking-apart apart j k a b lj lk ea eb = apart j k a b lj lk (held-before j a ea .0) (held-before k b eb .0)
 
   -- where each blanked slot may be erased, every record stays or is permitted to go
   pub blanking-erases :
       (st : ℕ → PageState)
-      → ((k : ℕ) → List·Memᴰ k slots → mayErase S (slotAt (f .words)) st k ≡ true)
-      → Erased (Held w S f) (Held w S blanked) st
+      → ((k : ℕ) → List·Memᴰ k slots → T .mayErase S (slotIn (F .layout) (f .words)) st k ≡ true)
+      → ErasedBy (T .Permitted) (Held F w S f) (Held F w S blanked) st
   blanking-erases st allowed =
       record {
         fewer = blanking-fewer;
-        finds-before = finds-in-slots S (slotAt (f .words)) (bytesAt w (f .contents));
-        finds = finds-in-slots S (slotAt (blanked .words)) (bytesAt w (blanked .contents));
+        finds-before = finds-in-slots S (slotIn (F .layout) (f .words)) (bytesAt w (f .contents));
+        finds = finds-in-slots S (slotIn (F .layout) (blanked .words)) (bytesAt w (blanked .contents));
         stays-or-permitted = λ r b h.
             ⊎-elim
-            (λ m. inr (may-erase-permitted S (slotAt (f .words)) (bytesAt w (f .contents)) st (h .0) r (allowed (h .0) m) (h .2)))
-            (λ n. let s = blanks-unlisted w S slots f (h .0) size inside n in inl (h .0, h .1, s .same-slot ∙ h .2, s .same-bytes ∙ h .3))
+            (λ m. inr (T .permits S (slotIn (F .layout) (f .words)) (bytesAt w (f .contents)) st (h .0) r (allowed (h .0) m) (h .2)))
+            (λ n. let s = blanks-unlisted (F .layout) w S slots f (h .0) size inside n in inl (h .0, h .1, s .same-slot ∙ h .2, s .same-bytes ∙ h .3))
             (listed? (h .0) slots);
       }

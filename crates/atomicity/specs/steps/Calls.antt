@@ -11,24 +11,23 @@ use Rattle.outcome.specs.Outcome.{Outcome}
 use Rattle.sizes.specs.declared.Sizes.{Sizes}
 use Rattle.record.specs.declared.Slot.{Slot}
 use Rattle.record.specs.declared.Slot.the-variants.{Blank, Holds}
-use Rattle.record.specs.Slot.{slotAt, isBlank}
-use Rattle.record.specs.Flash.{Flash, apply}
-use Rattle.record.specs.FlashLaws.{Sized, store-sized}
+use Rattle.record.specs.Slot.{slotIn, isBlank}
+use Rattle.record.specs.Flash.{Flash, Step, applyIn}
+use Rattle.record.specs.FlashLaws.{SizedIn, store-sized}
 use Rattle.state.specs.State.{stateAt}
 use Rattle.state.specs.StateLaws.{length-stateWords}
 use Rattle.state.specs.Change.{launched, withdrawn, afterWrite}
 use Rattle.state.specs.CycleLaws.{Flies}
 use Rattle.rules.specs.Volume.{Volume}
 use Rattle.rules.specs.Launch.{launchAnswer}
-use Rattle.rules.specs.Write.{planOf, writeAnswer, writeStep, writeChange}
 use Rattle.rules.specs.Withdraw.{withdrawAnswer}
-use Rattle.rules.specs.laws.Outcomes.{launch-done, write-done, withdraw-done, erase-done}
-use Rattle.rules.specs.Erase.{eraseAnswer, eraseSteps}
-use Rattle.rules.specs.Recover.{recoverAnswer}
-use Rattle.rules.specs.laws.Recover.{recover-fills}
-use Rattle.rules.specs.laws.Accepted.{launch-tests, withdraw-tests, write-tests, erase-tests}
+use Rattle.rules.specs.laws.Outcomes.{launch-done, withdraw-done}
+use Rattle.rules.specs.Erase.{eraseSteps}
+use Rattle.rules.specs.laws.Accepted.{launch-tests, withdraw-tests}
+use Rattle.atomicity.specs.Family.{Family}
 use Rattle.atomicity.specs.Call.{Call, withState, withFlash, perform}
 use Rattle.atomicity.specs.Model.{Model, accept, closeAll, enter}
+use Rattle.atomicity.specs.steps.Theory.{Theory, written, write-done, erase-done, recover-done}
 use Rattle.atomicity.specs.steps.Stages.{answer-is}
 use Rattle.atomicity.specs.steps.Invariant.{Known}
 use Rattle.atomicity.specs.steps.StateWords.{live-words}
@@ -38,49 +37,49 @@ use Rattle.atomicity.specs.steps.Erase.{erasable-free, erased-sized, era
 use Rattle.atomicity.specs.steps.Recover.{accepts, found-fits, found-again}
 use Rattle.atomicity.specs.steps.Write.{written-live}
 
-module _ (widths : Widths) (sizes : Sizes) (v : Volume) (m : Model) (k : Known widths sizes v m) where
+module _ {F : Family} (T : Theory F) (widths : Widths) (sizes : Sizes) (v : Volume) (m : Model) (k : Known T widths sizes v m) where
   small : (sizes .pages) ≤ noNumber
   small = let l = k .fits .bounds .pages-most in omega arith
 
-  launch-accepted : (pages : List ℕ) → launchAnswer widths sizes (v .state) pages ≡ 0 → Known widths sizes (perform widths sizes v (Call.Launch pages) .left) (accept m (Call.Launch pages))
+  launch-accepted : (pages : List ℕ) → launchAnswer widths sizes (v .state) pages ≡ 0 → Known T widths sizes (perform F widths sizes v (Call.Launch pages) .left) (accept m (Call.Launch pages))
   unfolding perform withState
   launch-accepted pages e =
       let a = launch-tests widths sizes (v .state) pages e in
       let ok = listed-launchable (sizes .pages) (stateAt (v .state)) pages (k .live .sound) (a .listed) (a .none-flying) (a .none-used-up) in
-      let l = launched-live sizes small (v .flash) (stateAt (v .state)) m (k .live) pages (listed-some (sizes .pages) pages (a .listed)) ok in
-      subst (λ (o : Outcome (List ℕ)). Known widths sizes (record { flash = v .flash; state = o .left }) (accept m (Call.Launch pages))) (sym (launch-done widths sizes (v .state) pages e))
+      let l = launched-live T sizes small (v .flash) (stateAt (v .state)) m (k .live) pages (listed-some (sizes .pages) pages (a .listed)) ok in
+      subst (λ (o : Outcome (List ℕ)). Known T widths sizes (record { flash = v .flash; state = o .left }) (accept m (Call.Launch pages))) (sym (launch-done widths sizes (v .state) pages e))
       (record {
         fits = record { bounds = k .fits .bounds; allowed = k .fits .allowed; flash-sized = k .fits .flash-sized; state-sized = length-stateWords (sizes .pages) (launched pages (stateAt (v .state))) };
-        live = live-words sizes (v .flash) (launched pages (stateAt (v .state))) (accept m (Call.Launch pages)) l;
+        live = live-words T sizes (v .flash) (launched pages (stateAt (v .state))) (accept m (Call.Launch pages)) l;
       })
 
-  withdraw-accepted : (page : ℕ) → withdrawAnswer widths sizes (v .state) page ≡ 0 → Known widths sizes (perform widths sizes v (Call.Withdraw page) .left) (accept m (Call.Withdraw page))
+  withdraw-accepted : (page : ℕ) → withdrawAnswer widths sizes (v .state) page ≡ 0 → Known T widths sizes (perform F widths sizes v (Call.Withdraw page) .left) (accept m (Call.Withdraw page))
   unfolding perform withState
   withdraw-accepted page e =
       let a = withdraw-tests widths sizes (v .state) page e in
       let y : Flies (sizes .pages) (stateAt (v .state)) page = record { below = a .page-below; flies = a .flying } in
-      subst (λ (o : Outcome (List ℕ)). Known widths sizes (record { flash = v .flash; state = o .left }) (accept m (Call.Withdraw page))) (sym (withdraw-done widths sizes (v .state) page e))
+      subst (λ (o : Outcome (List ℕ)). Known T widths sizes (record { flash = v .flash; state = o .left }) (accept m (Call.Withdraw page))) (sym (withdraw-done widths sizes (v .state) page e))
       (record {
         fits = record { bounds = k .fits .bounds; allowed = k .fits .allowed; flash-sized = k .fits .flash-sized; state-sized = length-stateWords (sizes .pages) (withdrawn (sizes .pages) (stateAt (v .state)) page) };
-        live = live-words sizes (v .flash) (withdrawn (sizes .pages) (stateAt (v .state)) page) (accept m (Call.Withdraw page)) (withdrawn-live sizes (v .flash) (stateAt (v .state)) m (k .live) page y);
+        live = live-words T sizes (v .flash) (withdrawn (sizes .pages) (stateAt (v .state)) page) (accept m (Call.Withdraw page)) (withdrawn-live T sizes (v .flash) (stateAt (v .state)) m (k .live) page y);
       })
 
-  erase-accepted : (slots : List ℕ) → eraseAnswer widths sizes v slots ≡ 0 → Known widths sizes (perform widths sizes v (Call.Erase slots) .left) (accept m (Call.Erase slots))
+  erase-accepted : (slots : List ℕ) → T .eraseAnswer widths sizes v slots ≡ 0 → Known T widths sizes (perform F widths sizes v (Call.Erase slots) .left) (accept m (Call.Erase slots))
   unfolding perform withFlash eraseSteps accept
   erase-accepted slots e =
-      let free = erasable-free widths sizes v slots (erase-tests widths sizes v slots e) in
-      subst (λ (o : Outcome Flash). Known widths sizes (record { flash = o .left; state = v .state }) m) (sym (erase-done widths sizes v slots e))
+      let free = erasable-free T widths sizes v slots e in
+      subst (λ (o : Outcome Flash). Known T widths sizes (record { flash = o .left; state = v .state }) m) (sym (erase-done T widths sizes v slots e))
       (record {
-        fits = record { bounds = k .fits .bounds; allowed = k .fits .allowed; flash-sized = erased-sized sizes v m (k .fits .flash-sized) slots free; state-sized = k .fits .state-sized };
-        live = erased-live sizes v m (k .fits .flash-sized) slots free (k .live);
+        fits = record { bounds = k .fits .bounds; allowed = k .fits .allowed; flash-sized = erased-sized T sizes v m (k .fits .flash-sized) slots free; state-sized = k .fits .state-sized };
+        live = erased-live T sizes v m (k .fits .flash-sized) slots free (k .live);
       })
 
-  write-accepted : (page slot : ℕ) (bytes : List ℕ) → writeAnswer widths sizes v page slot bytes ≡ 0 → Known widths sizes (writeChange sizes v page slot bytes) (enter page bytes (m .kept) (m .rings))
-  unfolding writeChange writeStep isBlank
+  write-accepted : (page slot : ℕ) (bytes : List ℕ) → T .writeAnswer widths sizes v page slot bytes ≡ 0 → Known T widths sizes (written F sizes v page slot bytes) (enter page bytes (m .kept) (m .rings))
+  unfolding isBlank
   write-accepted page slot bytes e =
-      let a = write-tests widths sizes v page slot bytes e in
+      let a = T .write-tested widths sizes v page slot bytes e in
       let y : Flies (sizes .pages) (stateAt (v .state)) page = record { below = a .page-below; flies = a .flying } in
-      let free = blank-exactly (slotAt (v .flash .words) slot) (a .free) in
+      let free = blank-exactly (slotIn (F .layout) (v .flash .words) slot) (a .free) in
       record {
         fits = record {
           bounds = k .fits .bounds;
@@ -88,35 +87,35 @@ module _ (widths : Widths) (sizes : Sizes) (v : Volume) (m : Model) (k : Known w
           flash-sized = stored-sized page slot bytes (a .slot-below) (a .whole);
           state-sized = length-stateWords (sizes .pages) (afterWrite (sizes .pages) (stateAt (v .state)) page);
         };
-        live = live-words sizes (apply (sizes .width) (v .flash) (writeStep (stateAt (v .state)) page slot bytes)) (afterWrite (sizes .pages) (stateAt (v .state)) page) (enter page bytes (m .kept) (m .rings))
-            (written-live sizes (v .flash) (k .fits .flash-sized) (stateAt (v .state)) m (k .live) page slot bytes y (a .unwritten) (a .slot-below) (a .whole) free);
+        live = live-words T sizes (applyIn (F .layout) (sizes .width) (v .flash) (Step.Store slot (F .plan (stateAt (v .state)) page) bytes)) (afterWrite (sizes .pages) (stateAt (v .state)) page) (enter page bytes (m .kept) (m .rings))
+            (written-live T sizes (v .flash) (k .fits .flash-sized) (stateAt (v .state)) m (k .live) page slot bytes y (a .unwritten) (a .slot-below) (a .whole) free (T .write-fresh widths sizes v page slot bytes e _));
       }
     where
       blank-exactly : (s : Slot) → isBlank s ≡ true → s ≡ Blank
       blank-exactly Blank e = refl
       blank-exactly (Holds r) e = absurd (never refl (sym e))
 
-      stored-sized : (page slot : ℕ) (bytes : List ℕ) → slot < (sizes .slots) → length bytes ≡ sizes .width → Sized (sizes .width) (sizes .slots) (apply (sizes .width) (v .flash) (writeStep (stateAt (v .state)) page slot bytes))
-      stored-sized page slot bytes h e = store-sized (sizes .width) (sizes .slots) (v .flash) (k .fits .flash-sized) slot h (planOf (stateAt (v .state)) page) bytes e
+      stored-sized : (page slot : ℕ) (bytes : List ℕ) → slot < (sizes .slots) → length bytes ≡ sizes .width → SizedIn (F .layout) (sizes .width) (sizes .slots) (applyIn (F .layout) (sizes .width) (v .flash) (Step.Store slot (F .plan (stateAt (v .state)) page) bytes))
+      stored-sized page slot bytes h e = store-sized (F .layout) (sizes .width) (sizes .slots) (v .flash) (k .fits .flash-sized) slot h (F .plan (stateAt (v .state)) page) bytes e
 
-  recover-accepted : Known widths sizes (perform widths sizes v Call.Recover .left) (accept m Call.Recover) × (recoverAnswer widths sizes (v .flash .words) (v .state) ≡ 0)
+  recover-accepted : Known T widths sizes (perform F widths sizes v Call.Recover .left) (accept m Call.Recover) × (T .recoverAnswer widths sizes (v .flash .words) (v .state) ≡ 0)
   unfolding perform withState accept
   recover-accepted =
-      let e = accepts widths sizes (v .flash) (k .fits .bounds) (k .fits .allowed) (k .fits .flash-sized) (k .live .no-twins) (k .live .core) (v .state) (k .fits .state-sized) in (
-        subst (λ (o : Outcome (List ℕ)). Known widths sizes (record { flash = v .flash; state = o .left }) (closeAll m)) (sym (recover-fills widths sizes (v .flash .words) (v .state) e))
+      let e = accepts T widths sizes (v .flash) (k .fits .bounds) (k .fits .allowed) (k .fits .flash-sized) (k .live .no-twins) (k .live .core) (v .state) (k .fits .state-sized) in (
+        subst (λ (o : Outcome (List ℕ)). Known T widths sizes (record { flash = v .flash; state = o .left }) (closeAll m)) (sym (recover-done T widths sizes (v .flash .words) (v .state) e))
             (record {
-              fits = found-fits widths sizes (v .flash) (k .fits .bounds) (k .fits .allowed) (k .fits .flash-sized) (k .live .no-twins) (k .live .core) (v .state) (k .fits .state-sized);
-              live = found-again widths sizes (v .flash) (k .fits .bounds) (k .fits .allowed) (k .fits .flash-sized) (k .live .no-twins) (k .live .core) (v .state) (k .fits .state-sized) m refl;
+              fits = found-fits T widths sizes (v .flash) (k .fits .bounds) (k .fits .allowed) (k .fits .flash-sized) (k .live .no-twins) (k .live .core) (v .state) (k .fits .state-sized);
+              live = found-again T widths sizes (v .flash) (k .fits .bounds) (k .fits .allowed) (k .fits .flash-sized) (k .live .no-twins) (k .live .core) (v .state) (k .fits .state-sized) m refl;
             }),
         e,
       )
 
   -- an accepted call keeps the invariant, the model told of it
-  pub accepted : (call : Call) → answer-is widths sizes v call ≡ 0 → Known widths sizes (perform widths sizes v call .left) (accept m call)
+  pub accepted : (call : Call) → answer-is T widths sizes v call ≡ 0 → Known T widths sizes (perform F widths sizes v call .left) (accept m call)
   unfolding answer-is perform accept
   accepted (Call.Launch pages) e = launch-accepted pages e
   accepted (Call.Write page slot bytes) e =
-      subst (λ (o : Outcome Volume). Known widths sizes (o .left) (enter page bytes (m .kept) (m .rings))) (sym (write-done widths sizes v page slot bytes e)) (write-accepted page slot bytes e)
+      subst (λ (o : Outcome Volume). Known T widths sizes (o .left) (enter page bytes (m .kept) (m .rings))) (sym (write-done T widths sizes v page slot bytes e)) (write-accepted page slot bytes e)
   accepted (Call.Withdraw page) e = withdraw-accepted page e
   accepted (Call.Erase slots) e = erase-accepted slots e
   accepted Call.Recover e = recover-accepted .0

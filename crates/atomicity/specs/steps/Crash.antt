@@ -9,92 +9,91 @@ use Rattle.bounded.specs.Limits.{Widths}
 use Rattle.bounded.specs.Choice.{on-eq, on-test}
 use Rattle.outcome.specs.Outcome.{Outcome}
 use Rattle.sizes.specs.declared.Sizes.{Sizes}
-use Rattle.record.specs.Flash.{Flash, Step, applyAll}
-use Rattle.record.specs.FlashLaws.{Sized}
+use Rattle.record.specs.Flash.{Flash, Step, applyAllIn, applyAll}
+use Rattle.record.specs.FlashLaws.{SizedIn}
 use Rattle.state.specs.State.{stateAt}
 use Rattle.rules.specs.Volume.{Volume}
 use Rattle.rules.specs.Erase.{eraseSteps}
-use Rattle.rules.specs.Write.{writeStep, writeChange}
-use Rattle.rules.specs.laws.Outcomes.{write-done}
-use Rattle.rules.specs.laws.Accepted.{erase-tests}
 use Rattle.protocol.specs.Shared.{commOf}
+use Rattle.atomicity.specs.Family.{Family}
 use Rattle.atomicity.specs.Call.{Call, perform, plannedStages, flashStages}
 use Rattle.atomicity.specs.Run.{doneOf, cutShort, wasDone}
 use Rattle.atomicity.specs.Model.{Told, Model, accept, closeAll, enter, learns}
 use Rattle.atomicity.specs.Promise.{toldOfCrash}
+use Rattle.atomicity.specs.steps.Theory.{Theory, write-done}
 use Rattle.atomicity.specs.steps.Stages.{answer-is, performs, refused-stages, accepted-stages, cut-one}
 use Rattle.atomicity.specs.steps.Invariant.{Lost, Known}
 use Rattle.atomicity.specs.steps.Blanking.{chosen, done-blanks, chosen-listed}
 use Rattle.atomicity.specs.steps.Erase.{Free, erasable-free, erased-sized, erased-core, erased-apart}
 use Rattle.atomicity.specs.steps.Calls.{accepted}
 
-module _ (sizes : Sizes) where
+module _ {F : Family} (T : Theory F) (sizes : Sizes) where
   -- what is left of a volume by a crash: its flash
   pub record Crashed (f : Flash) (m : Model) : Type 0 where
-    pub sized : Sized (sizes .width) (sizes .slots) f
-    pub lost : Lost sizes f m
+    pub sized : SizedIn (F .layout) (sizes .width) (sizes .slots) f
+    pub lost : Lost T sizes f m
 
   pub crash-lost : (f : Flash) (m : Model) → Crashed f m → Crashed f (closeAll m)
   unfolding closeAll
   crash-lost f m c = record { sized = c .sized; lost = record { comm = c .lost .comm; no-twins = c .lost .no-twins; core = c .lost .core; closed = refl } }
 
-module _ (widths : Widths) (sizes : Sizes) where
-  pub crash-known : (v : Volume) (m : Model) → Known widths sizes v m → Crashed sizes (v .flash) (closeAll m)
+module _ {F : Family} (T : Theory F) (widths : Widths) (sizes : Sizes) where
+  pub crash-known : (v : Volume) (m : Model) → Known T widths sizes v m → Crashed T sizes (v .flash) (closeAll m)
   unfolding closeAll
   crash-known v m k = record { sized = k .fits .flash-sized; lost = record { comm = commOf (stateAt (v .state)); no-twins = k .live .no-twins; core = k .live .core; closed = refl } }
 
   -- the flash after the steps done of a call
   abbrev pub crashFlash : Volume → Call → (stage : ℕ) (done : ℕ → Bool) → Flash
-  crashFlash v call stage done = applyAll (sizes .width) (v .flash) (cutShort stage done (flashStages widths sizes v call))
+  crashFlash v call stage done = applyAllIn (F .layout) (sizes .width) (v .flash) (cutShort stage done (flashStages F widths sizes v call))
 
   -- a call that has no stages leaves the flash as it was: one that is refused, and one that plans none
-  unstaged : (v : Volume) (call : Call) (stage : ℕ) (done : ℕ → Bool) → flashStages widths sizes v call ≡ [] → crashFlash v call stage done ≡ v .flash
-  unfolding cutShort applyAll
+  unstaged : (v : Volume) (call : Call) (stage : ℕ) (done : ℕ → Bool) → flashStages F widths sizes v call ≡ [] → crashFlash v call stage done ≡ v .flash
+  unfolding cutShort applyAllIn
   unstaged v call stage done e = rw e
 
-  refused-flash : (v : Volume) (call : Call) (stage : ℕ) (done : ℕ → Bool) → ¬ (answer-is widths sizes v call ≡ 0) → crashFlash v call stage done ≡ v .flash
-  refused-flash v call stage done n = unstaged v call stage done (refused-stages widths sizes v call n)
+  refused-flash : (v : Volume) (call : Call) (stage : ℕ) (done : ℕ → Bool) → ¬ (answer-is T widths sizes v call ≡ 0) → crashFlash v call stage done ≡ v .flash
+  refused-flash v call stage done n = unstaged v call stage done (refused-stages T widths sizes v call n)
 
-  pub no-stages : (v : Volume) (call : Call) (stage : ℕ) (done : ℕ → Bool) → plannedStages v call ≡ [] → crashFlash v call stage done ≡ v .flash
+  pub no-stages : (v : Volume) (call : Call) (stage : ℕ) (done : ℕ → Bool) → plannedStages F v call ≡ [] → crashFlash v call stage done ≡ v .flash
   no-stages v call stage done e =
-      on-eq (answer-is widths sizes v call) 0
-      (λ a. unstaged v call stage done (accepted-stages widths sizes v call a ∙ e))
+      on-eq (answer-is T widths sizes v call) 0
+      (λ a. unstaged v call stage done (accepted-stages T widths sizes v call a ∙ e))
       (λ n. refused-flash v call stage done n)
 
   -- an accepted call with one stage: the steps of it that were done
   one-stage :
       (v : Volume) (call : Call) (stage : ℕ) (done : ℕ → Bool) (steps : List Step)
-      → answer-is widths sizes v call ≡ 0
-      → plannedStages v call ≡ steps ∷ []
-      → crashFlash v call stage done ≡ applyAll (sizes .width) (v .flash) (doneOf (wasDone stage done 0) 0 steps)
+      → answer-is T widths sizes v call ≡ 0
+      → plannedStages F v call ≡ steps ∷ []
+      → crashFlash v call stage done ≡ applyAllIn (F .layout) (sizes .width) (v .flash) (doneOf (wasDone stage done 0) 0 steps)
   one-stage v call stage done steps a e =
-      ap (λ (l : List (List Step)). applyAll (sizes .width) (v .flash) (cutShort stage done l)) (accepted-stages widths sizes v call a ∙ e)
-      ∙ ap (applyAll (sizes .width) (v .flash)) (cut-one stage done steps)
+      ap (λ (l : List (List Step)). applyAllIn (F .layout) (sizes .width) (v .flash) (cutShort stage done l)) (accepted-stages T widths sizes v call a ∙ e)
+      ∙ ap (applyAllIn (F .layout) (sizes .width) (v .flash)) (cut-one stage done steps)
 
   -- a crash that leaves the flash as it was, with every open ring closed
-  leaves-flash : (v : Volume) (m : Model) (f : Flash) → Known widths sizes v m → f ≡ v .flash → Crashed sizes f (closeAll m)
-  leaves-flash v m f k e = subst (λ (x : Flash). Crashed sizes x (closeAll m)) (sym e) (crash-known v m k)
+  leaves-flash : (v : Volume) (m : Model) (f : Flash) → Known T widths sizes v m → f ≡ v .flash → Crashed T sizes f (closeAll m)
+  leaves-flash v m f k e = subst (λ (x : Flash). Crashed T sizes x (closeAll m)) (sym e) (crash-known v m k)
 
   -- a crashed erasure: any part of the listed slots is blanked
-  crash-erase : (v : Volume) (m : Model) (slots : List ℕ) (stage : ℕ) (done : ℕ → Bool) → Known widths sizes v m → Crashed sizes (crashFlash v (Call.Erase slots) stage done) (closeAll m)
+  crash-erase : (v : Volume) (m : Model) (slots : List ℕ) (stage : ℕ) (done : ℕ → Bool) → Known T widths sizes v m → Crashed T sizes (crashFlash v (Call.Erase slots) stage done) (closeAll m)
   unfolding closeAll plannedStages eraseSteps answer-is
   crash-erase v m slots stage done k =
-      on-eq (answer-is widths sizes v (Call.Erase slots)) 0
-      (λ e. let all = erasable-free widths sizes v slots (erase-tests widths sizes v slots e) in
+      on-eq (answer-is T widths sizes v (Call.Erase slots)) 0
+      (λ e. let all = erasable-free T widths sizes v slots e in
       let part : List ℕ = chosen (wasDone stage done 0) 0 slots in
-      let free : Free (sizes .slots) v part = record {
+      let free : Free T (sizes .slots) v part = record {
         inside = λ i l. all .inside i (chosen-listed (wasDone stage done 0) 0 slots i l);
         allowed = λ i l. all .allowed i (chosen-listed (wasDone stage done 0) 0 slots i l);
       } in
-      let is : crashFlash v (Call.Erase slots) stage done ≡ applyAll (sizes .width) (v .flash) (map Step.Blank part) =
-      one-stage v (Call.Erase slots) stage done (eraseSteps slots) e refl ∙ ap (applyAll (sizes .width) (v .flash)) (done-blanks (wasDone stage done 0) 0 slots) in
-      subst (λ (x : Flash). Crashed sizes x (closeAll m)) (sym is)
+      let is : crashFlash v (Call.Erase slots) stage done ≡ applyAllIn (F .layout) (sizes .width) (v .flash) (map Step.Blank part) =
+      one-stage v (Call.Erase slots) stage done (eraseSteps slots) e refl ∙ ap (applyAllIn (F .layout) (sizes .width) (v .flash)) (done-blanks (wasDone stage done 0) 0 slots) in
+      subst (λ (x : Flash). Crashed T sizes x (closeAll m)) (sym is)
       (record {
-        sized = erased-sized sizes v m (k .fits .flash-sized) part free;
+        sized = erased-sized T sizes v m (k .fits .flash-sized) part free;
         lost = record {
           comm = commOf (stateAt (v .state));
-          no-twins = erased-apart sizes v m (k .fits .flash-sized) part free (k .live);
-          core = erased-core sizes v m (k .fits .flash-sized) part free (k .live);
+          no-twins = erased-apart T sizes v m (k .fits .flash-sized) part free (k .live);
+          core = erased-core T sizes v m (k .fits .flash-sized) part free (k .live);
           closed = refl;
         };
       }))
@@ -103,22 +102,22 @@ module _ (widths : Widths) (sizes : Sizes) where
   -- a crashed write: its slot is stored whole, or left as it was
   crash-write :
       (v : Volume) (m : Model) (page slot : ℕ) (bytes : List ℕ) (stage : ℕ) (done : ℕ → Bool)
-      → Known widths sizes v m
-      → Crashed sizes (crashFlash v (Call.Write page slot bytes) stage done) (learns m (Told.CrashedWrite page bytes (eqb (perform widths sizes v (Call.Write page slot bytes) .answer) 0 && wasDone stage done 0 0)))
-  unfolding learns answer-is plannedStages doneOf applyAll perform writeChange accept
+      → Known T widths sizes v m
+      → Crashed T sizes (crashFlash v (Call.Write page slot bytes) stage done) (learns m (Told.CrashedWrite page bytes (eqb (perform F widths sizes v (Call.Write page slot bytes) .answer) 0 && wasDone stage done 0 0)))
+  unfolding learns answer-is plannedStages doneOf applyAllIn perform accept
   crash-write v m page slot bytes stage done k =
-      on-eq (answer-is widths sizes v call) 0
-      (λ e. let t = eq-eqb (perform widths sizes v call .answer) 0 (performs widths sizes v call ∙ e) in
-      let steps = one-stage v call stage done (writeStep (stateAt (v .state)) page slot bytes ∷ []) e refl in
+      on-eq (answer-is T widths sizes v call) 0
+      (λ e. let t = eq-eqb (perform F widths sizes v call .answer) 0 (performs T widths sizes v call ∙ e) in
+      let steps = one-stage v call stage done (Step.Store slot (F .plan (stateAt (v .state)) page) bytes ∷ []) e refl in
       on-test (wasDone stage done 0 0)
       (λ d. let q : stored ≡ true = rw (t, d) in
-      let is : crashed ≡ perform widths sizes v call .left .flash = steps ∙ rw d (sym (ap (λ (o : Outcome Volume). o .left .flash) (write-done widths sizes v page slot bytes e))) in
-      told-of q (subst (λ (x : Flash). Crashed sizes x (closeAll (enter page bytes (m .kept) (m .rings)))) (sym is)
-      (crash-known (perform widths sizes v call .left) (enter page bytes (m .kept) (m .rings)) (accepted widths sizes v m k call e))))
+      let is : crashed ≡ perform F widths sizes v call .left .flash = steps ∙ rw d (sym (ap (λ (o : Outcome Volume). o .left .flash) (write-done T widths sizes v page slot bytes e))) in
+      told-of q (subst (λ (x : Flash). Crashed T sizes x (closeAll (enter page bytes (m .kept) (m .rings)))) (sym is)
+      (crash-known (perform F widths sizes v call .left) (enter page bytes (m .kept) (m .rings)) (accepted T widths sizes v m k call e))))
       (λ d. let q : stored ≡ false = rw (t, d) in
       let is : crashed ≡ v .flash = steps ∙ rw d in
       told-of q (leaves-flash v m crashed k is)))
-      (λ n. let q : stored ≡ false = rw (ne-eqb (perform widths sizes v call .answer) 0 (λ e. n (sym (performs widths sizes v call) ∙ e))) in
+      (λ n. let q : stored ≡ false = rw (ne-eqb (perform F widths sizes v call .answer) 0 (λ e. n (sym (performs T widths sizes v call) ∙ e))) in
       told-of q (leaves-flash v m crashed k (refused-flash v call stage done n)))
     where
       call : Call
@@ -128,12 +127,12 @@ module _ (widths : Widths) (sizes : Sizes) where
       crashed = crashFlash v call stage done
 
       stored : Bool
-      stored = eqb (perform widths sizes v call .answer) 0 && wasDone stage done 0 0
+      stored = eqb (perform F widths sizes v call .answer) 0 && wasDone stage done 0 0
 
-      told-of : {b : Bool} → stored ≡ b → Crashed sizes crashed (closeAll (cond b (enter page bytes (m .kept) (m .rings)) m)) → Crashed sizes crashed (closeAll (cond stored (enter page bytes (m .kept) (m .rings)) m))
-      told-of q c = subst (λ (b : Bool). Crashed sizes crashed (closeAll (cond b (enter page bytes (m .kept) (m .rings)) m))) (sym q) c
+      told-of : {b : Bool} → stored ≡ b → Crashed T sizes crashed (closeAll (cond b (enter page bytes (m .kept) (m .rings)) m)) → Crashed T sizes crashed (closeAll (cond stored (enter page bytes (m .kept) (m .rings)) m))
+      told-of q c = subst (λ (b : Bool). Crashed T sizes crashed (closeAll (cond b (enter page bytes (m .kept) (m .rings)) m))) (sym q) c
 
-  pub crash-in : (v : Volume) (m : Model) (call : Call) (stage : ℕ) (done : ℕ → Bool) → Known widths sizes v m → Crashed sizes (crashFlash v call stage done) (learns m (toldOfCrash call (perform widths sizes v call .answer) stage done))
+  pub crash-in : (v : Volume) (m : Model) (call : Call) (stage : ℕ) (done : ℕ → Bool) → Known T widths sizes v m → Crashed T sizes (crashFlash v call stage done) (learns m (toldOfCrash call (perform F widths sizes v call .answer) stage done))
   unfolding learns toldOfCrash plannedStages
   crash-in v m (Call.Launch pages) stage done k = leaves-flash v m (crashFlash v (Call.Launch pages) stage done) k (no-stages v (Call.Launch pages) stage done refl)
   crash-in v m (Call.Write page slot bytes) stage done k = crash-write v m page slot bytes stage done k

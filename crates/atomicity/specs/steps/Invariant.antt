@@ -6,47 +6,48 @@ use mathlib.Core.Bool.{true, false}
 use Rattle.bounded.specs.Limits.{Widths}
 use Rattle.sizes.specs.declared.Sizes.{Sizes}
 use Rattle.record.specs.declared.Record.{Record}
-use Rattle.record.specs.Slot.{slotAt, bytesAt}
+use Rattle.record.specs.Slot.{slotIn, bytesAt}
 use Rattle.record.specs.Flash.{Flash}
 use Rattle.state.specs.declared.PageState.{PageState}
 use Rattle.state.specs.State.{stateAt}
 use Rattle.state.specs.StateLaws.{StateFacts}
 use Rattle.rules.specs.Volume.{Volume}
-use Rattle.rules.specs.laws.Volume.{Fits}
-use Rattle.protocol.specs.View.{InSlots, NoTwins, recordView}
+use Rattle.rules.specs.laws.Volume.{FitsIn}
+use Rattle.protocol.specs.View.{InSlots, NoTwins, pointingView}
 use Rattle.protocol.specs.Shared.{SharedLive, commOf}
-use Rattle.protocol.specs.BackPointer.{Core}
+use Rattle.atomicity.specs.Family.{Family}
 use Rattle.atomicity.specs.Run.{World}
 use Rattle.atomicity.specs.Model.{Model}
+use Rattle.atomicity.specs.steps.Theory.{Theory}
 use Rattle.atomicity.specs.rings.Match.{IsEntered, RingsMatch}
 
 -- the (record, contents) pairs that the slots of a flash hold
-abbrev pub Held : (w S : ℕ) → Flash → Record → List ℕ → Type 0
-Held w S f = InSlots S (slotAt (f .words)) (bytesAt w (f .contents))
+abbrev pub Held : Family → (w S : ℕ) → Flash → Record → List ℕ → Type 0
+Held F w S f = InSlots S (slotIn (F .layout) (f .words)) (bytesAt w (f .contents))
 
-module _ (sizes : Sizes) where
+module _ {F : Family} (T : Theory F) (sizes : Sizes) where
   -- The state st is known: it is sound, its committed versions are those of the records, and its flights are the model's open rings.
   pub record Live (f : Flash) (st : ℕ → PageState) (m : Model) : Type 0 where
     pub sound : StateFacts (sizes .pages) st
-    pub no-twins : NoTwins (sizes .slots) (slotAt (f .words))
-    pub core : Core (Held (sizes .width) (sizes .slots) f) (commOf st) (sizes .pages) (m .kept)
-    pub live : SharedLive recordView (sizes .pages) (Held (sizes .width) (sizes .slots) f) st (IsEntered (m .rings))
+    pub no-twins : NoTwins (sizes .slots) (slotIn (F .layout) (f .words))
+    pub core : T .Core (Held F (sizes .width) (sizes .slots) f) (commOf st) (sizes .pages) (m .kept)
+    pub live : SharedLive (pointingView (T .back)) (sizes .pages) (Held F (sizes .width) (sizes .slots) f) st (IsEntered (m .rings))
     pub rings : RingsMatch (sizes .pages) st (m .rings)
 
   -- The state is lost: some committed versions are those of the records, and the model has no open ring.
   pub record Lost (f : Flash) (m : Model) : Type 0 where
     pub comm : ℕ → ℕ
-    pub no-twins : NoTwins (sizes .slots) (slotAt (f .words))
-    pub core : Core (Held (sizes .width) (sizes .slots) f) comm (sizes .pages) (m .kept)
+    pub no-twins : NoTwins (sizes .slots) (slotIn (F .layout) (f .words))
+    pub core : T .Core (Held F (sizes .width) (sizes .slots) f) comm (sizes .pages) (m .kept)
     pub closed : m .rings ≡ []
 
-module _ (widths : Widths) (sizes : Sizes) where
+module _ {F : Family} (T : Theory F) (widths : Widths) (sizes : Sizes) where
   -- the invariant of a volume whose state is known
   pub record Known (v : Volume) (m : Model) : Type 0 where
-    pub fits : Fits widths sizes v
-    pub live : Live sizes (v .flash) (stateAt (v .state)) m
+    pub fits : FitsIn (F .layout) widths sizes v
+    pub live : Live T sizes (v .flash) (stateAt (v .state)) m
 
   -- the invariant of a run
   pub data Holding (x : World) (m : Model) : Type 0 where
-    known : x .lost ≡ false → Fits widths sizes (x .volume) → Live sizes (x .volume .flash) (stateAt (x .volume .state)) m → Holding x m
-    unknown : x .lost ≡ true → Fits widths sizes (x .volume) → Lost sizes (x .volume .flash) m → Holding x m
+    known : x .lost ≡ false → FitsIn (F .layout) widths sizes (x .volume) → Live T sizes (x .volume .flash) (stateAt (x .volume .state)) m → Holding x m
+    unknown : x .lost ≡ true → FitsIn (F .layout) widths sizes (x .volume) → Lost T sizes (x .volume .flash) m → Holding x m

@@ -22,12 +22,14 @@ use Rattle.state.specs.Change.{following, launchedPage, launched}
 use Rattle.state.specs.Walk.{Launchable}
 use Rattle.state.specs.LaunchLaws.{launched-sound}
 use Rattle.rules.specs.Launch.{somePage, usedUp}
-use Rattle.protocol.specs.View.{recordView}
-use Rattle.protocol.specs.SameSet.{core-same, StateChanges, live-changes}
+use Rattle.protocol.specs.View.{pointingView}
+use Rattle.protocol.specs.SameSet.{StateChanges, live-changes}
+use Rattle.atomicity.specs.Family.{Family}
 use Rattle.atomicity.specs.Call.{Call}
 use Rattle.atomicity.specs.Model.{Model, newRing, accept}
 use Rattle.atomicity.specs.rings.Match.{IsEntered}
 use Rattle.atomicity.specs.rings.Launch.{launched-listed, launched-cases, launched-flying, launch-match, launch-entered}
+use Rattle.atomicity.specs.steps.Theory.{Theory}
 use Rattle.atomicity.specs.steps.Invariant.{Live}
 
 -- ---- a launch that is accepted
@@ -68,7 +70,7 @@ listed-launchable P st pages sound ok rest left = record {
 
 -- ---- the step
 
-module _ (sizes : Sizes) (fits : (sizes .pages) ≤ noNumber) (f : Flash) (st : ℕ → PageState) (m : Model) (l : Live sizes f st m)
+module _ {F : Family} (T : Theory F) (sizes : Sizes) (fits : (sizes .pages) ≤ noNumber) (f : Flash) (st : ℕ → PageState) (m : Model) (l : Live T sizes f st m)
     (pages : List ℕ) (some : 1 ≤ length pages) (ok : Launchable (sizes .pages) st pages) where
   -- a listed page's state is the launched one
   listed-is : (p i : ℕ) → i < length pages → getD pages i 0 ≡ p → launched pages st p ≡ launchedPage (st p) (following pages i)
@@ -104,13 +106,13 @@ module _ (sizes : Sizes) (fits : (sizes .pages) ≤ noNumber) (f : Flash) (st : 
             }));
       }
 
-  pub launched-live : Live sizes f (launched pages st) (accept m (Call.Launch pages))
+  pub launched-live : Live T sizes f (launched pages st) (accept m (Call.Launch pages))
   unfolding accept
   launched-live =
       record {
         sound = launched-sound (sizes .pages) fits st (l .sound) pages ok;
         no-twins = l .no-twins;
-        core = core-same (record { forth = λ r b h. h; back = λ r b h. h; same-comm = same-comm; same-kept = λ p h. refl }) (l .core);
-        live = live-changes recordView changes (l .core .shared .all-sound) (l .live);
+        core = T .same _ _ _ _ _ _ _ (record { forth = λ r b h. h; back = λ r b h. h; same-comm = same-comm; same-kept = λ p h. refl }) (l .core);
+        live = live-changes (pointingView (T .back)) changes (T .shared _ _ _ _ (l .core) .all-sound) (l .live);
         rings = launch-match (sizes .pages) st pages ok some fits (m .rings) (l .rings);
       }

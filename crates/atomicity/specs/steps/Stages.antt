@@ -14,52 +14,50 @@ use Rattle.sizes.specs.declared.Sizes.{Sizes}
 use Rattle.record.specs.Flash.{Flash, Step}
 use Rattle.rules.specs.Volume.{Volume}
 use Rattle.rules.specs.Launch.{launchAnswer, launchOutcome}
-use Rattle.rules.specs.Write.{writeAnswer, writeOutcome}
 use Rattle.rules.specs.Withdraw.{withdrawAnswer, withdrawOutcome}
-use Rattle.rules.specs.Erase.{eraseAnswer, eraseOutcome}
-use Rattle.rules.specs.Recover.{recoverAnswer, recoverOutcome}
-use Rattle.rules.specs.laws.Outcomes.{launch-refused, write-refused, withdraw-refused, erase-refused}
-use Rattle.rules.specs.laws.Recover.{recover-refused}
+use Rattle.rules.specs.laws.Outcomes.{launch-refused, withdraw-refused}
+use Rattle.atomicity.specs.Family.{Family}
 use Rattle.atomicity.specs.Call.{Call, withState, withFlash, perform, plannedStages, flashStages}
 use Rattle.atomicity.specs.Run.{doneOf, cutShort, wasDone}
+use Rattle.atomicity.specs.steps.Theory.{Theory, write-refused, erase-refused, recover-refused}
 use Rattle.atomicity.specs.Companions.{doneIn}
 
 -- ---- a call in a run
 
-module _ (widths : Widths) (sizes : Sizes) (v : Volume) where
+module _ {F : Family} (T : Theory F) (widths : Widths) (sizes : Sizes) (v : Volume) where
   -- a call's answer in a run is the call's own
   unfoldable pub answer-is : (call : Call) → ℕ
   answer-is (Call.Launch pages) = launchAnswer widths sizes (v .state) pages
-  answer-is (Call.Write page slot bytes) = writeAnswer widths sizes v page slot bytes
+  answer-is (Call.Write page slot bytes) = T .writeAnswer widths sizes v page slot bytes
   answer-is (Call.Withdraw page) = withdrawAnswer widths sizes (v .state) page
-  answer-is (Call.Erase slots) = eraseAnswer widths sizes v slots
-  answer-is Call.Recover = recoverAnswer widths sizes (v .flash .words) (v .state)
+  answer-is (Call.Erase slots) = T .eraseAnswer widths sizes v slots
+  answer-is Call.Recover = T .recoverAnswer widths sizes (v .flash .words) (v .state)
 
-  pub performs : (call : Call) → perform widths sizes v call .answer ≡ answer-is call
-  unfolding perform withState withFlash answer-is launchOutcome writeOutcome withdrawOutcome eraseOutcome recoverOutcome
+  pub performs : (call : Call) → perform F widths sizes v call .answer ≡ answer-is call
+  unfolding perform withState withFlash answer-is launchOutcome withdrawOutcome
   performs (Call.Launch pages) = settled-answer (launchAnswer widths sizes (v .state) pages) _ _ _ _
-  performs (Call.Write page slot bytes) = settled-answer (writeAnswer widths sizes v page slot bytes) _ _ _ _
+  performs (Call.Write page slot bytes) = ap (λ (o : Outcome Volume). o .answer) (T .write-is widths sizes v page slot bytes) ∙ settled-answer (T .writeAnswer widths sizes v page slot bytes) _ _ _ _
   performs (Call.Withdraw page) = settled-answer (withdrawAnswer widths sizes (v .state) page) _ _ _ _
-  performs (Call.Erase slots) = settled-answer (eraseAnswer widths sizes v slots) _ _ _ _
-  performs Call.Recover = settled-answer (recoverAnswer widths sizes (v .flash .words) (v .state)) _ _ _ _
+  performs (Call.Erase slots) = ap (λ (o : Outcome Flash). o .answer) (T .erase-is widths sizes v slots) ∙ settled-answer (T .eraseAnswer widths sizes v slots) _ _ _ _
+  performs Call.Recover = ap (λ (o : Outcome (List ℕ)). o .answer) (T .recover-is widths sizes (v .flash .words) (v .state)) ∙ settled-answer (T .recoverAnswer widths sizes (v .flash .words) (v .state)) _ _ _ _
 
   -- a refused call leaves the volume as it was
-  pub refused-leaves : (call : Call) → ¬ (answer-is call ≡ 0) → perform widths sizes v call .left ≡ v
+  pub refused-leaves : (call : Call) → ¬ (answer-is call ≡ 0) → perform F widths sizes v call .left ≡ v
   unfolding perform withState withFlash answer-is
   refused-leaves (Call.Launch pages) n = ap (λ (o : Outcome (List ℕ)). record { flash = v .flash; state = o .left }) (launch-refused widths sizes (v .state) pages n)
-  refused-leaves (Call.Write page slot bytes) n = ap (λ (o : Outcome Volume). o .left) (write-refused widths sizes v page slot bytes n)
+  refused-leaves (Call.Write page slot bytes) n = ap (λ (o : Outcome Volume). o .left) (write-refused T widths sizes v page slot bytes n)
   refused-leaves (Call.Withdraw page) n = ap (λ (o : Outcome (List ℕ)). record { flash = v .flash; state = o .left }) (withdraw-refused widths sizes (v .state) page n)
-  refused-leaves (Call.Erase slots) n = ap (λ (o : Outcome Flash). record { flash = o .left; state = v .state }) (erase-refused widths sizes v slots n)
-  refused-leaves Call.Recover n = ap (λ (o : Outcome (List ℕ)). record { flash = v .flash; state = o .left }) (recover-refused widths sizes (v .flash .words) (v .state) n)
+  refused-leaves (Call.Erase slots) n = ap (λ (o : Outcome Flash). record { flash = o .left; state = v .state }) (erase-refused T widths sizes v slots n)
+  refused-leaves Call.Recover n = ap (λ (o : Outcome (List ℕ)). record { flash = v .flash; state = o .left }) (recover-refused T widths sizes (v .flash .words) (v .state) n)
 
   -- it has no stages, and an accepted one those planned
-  pub refused-stages : (call : Call) → ¬ (answer-is call ≡ 0) → flashStages widths sizes v call ≡ []
+  pub refused-stages : (call : Call) → ¬ (answer-is call ≡ 0) → flashStages F widths sizes v call ≡ []
   unfolding flashStages
-  refused-stages call n = rw (ne-eqb (perform widths sizes v call .answer) 0 (λ e. n (sym (performs call) ∙ e)))
+  refused-stages call n = rw (ne-eqb (perform F widths sizes v call .answer) 0 (λ e. n (sym (performs call) ∙ e)))
 
-  pub accepted-stages : (call : Call) → answer-is call ≡ 0 → flashStages widths sizes v call ≡ plannedStages v call
+  pub accepted-stages : (call : Call) → answer-is call ≡ 0 → flashStages F widths sizes v call ≡ plannedStages F v call
   unfolding flashStages
-  accepted-stages call e = rw (eq-eqb (perform widths sizes v call .answer) 0 (performs call ∙ e))
+  accepted-stages call e = rw (eq-eqb (perform F widths sizes v call .answer) 0 (performs call ∙ e))
 
 -- ---- steps done
 

@@ -9,14 +9,16 @@ use Rattle.record.specs.Flash.{Flash}
 use Rattle.state.specs.declared.PageState.{PageState}
 use Rattle.state.specs.State.{stateAt, stateWords, inFlight}
 use Rattle.state.specs.StateLaws.{StateFacts, facts-cong, stateAt-words}
-use Rattle.protocol.specs.View.{recordView}
-use Rattle.protocol.specs.SameSet.{core-same, StateChanges, live-changes}
+use Rattle.protocol.specs.View.{pointingView}
+use Rattle.protocol.specs.SameSet.{StateChanges, live-changes}
+use Rattle.atomicity.specs.Family.{Family}
 use Rattle.atomicity.specs.Model.{Model}
 use Rattle.atomicity.specs.rings.Match.{IsEntered}
 use Rattle.atomicity.specs.rings.Cycle.{rings-match-cong}
+use Rattle.atomicity.specs.steps.Theory.{Theory}
 use Rattle.atomicity.specs.steps.Invariant.{Live}
 
-module _ (sizes : Sizes) (st st′ : ℕ → PageState) (same : (p : ℕ) → p < (sizes .pages) → st′ p ≡ st p) where
+module _ {F : Family} (T : Theory F) (sizes : Sizes) (st st′ : ℕ → PageState) (same : (p : ℕ) → p < (sizes .pages) → st′ p ≡ st p) where
   goes-on : StateFacts (sizes .pages) st → (E : ℕ → List ℕ → Type 0) → StateChanges (sizes .pages) st st′ E E
   goes-on s E =
       record {
@@ -31,16 +33,16 @@ module _ (sizes : Sizes) (st st′ : ℕ → PageState) (same : (p : ℕ) → p 
             });
       }
 
-  live-below : (f : Flash) (m : Model) → Live sizes f st m → Live sizes f st′ m
+  live-below : (f : Flash) (m : Model) → Live T sizes f st m → Live T sizes f st′ m
   live-below f m l =
       record {
         sound = facts-cong (sizes .pages) st st′ (λ p h. sym (same p h)) (l .sound);
         no-twins = l .no-twins;
-        core = core-same (record { forth = λ r b h. h; back = λ r b h. h; same-comm = λ p h. sym (ap (λ (x : PageState). x .committed) (same p h)); same-kept = λ p h. refl }) (l .core);
-        live = live-changes recordView (goes-on (l .sound) (IsEntered (m .rings))) (l .core .shared .all-sound) (l .live);
+        core = T .same _ _ _ _ _ _ _ (record { forth = λ r b h. h; back = λ r b h. h; same-comm = λ p h. sym (ap (λ (x : PageState). x .committed) (same p h)); same-kept = λ p h. refl }) (l .core);
+        live = live-changes (pointingView (T .back)) (goes-on (l .sound) (IsEntered (m .rings))) (T .shared _ _ _ _ (l .core) .all-sound) (l .live);
         rings = rings-match-cong (sizes .pages) st (m .rings) (l .rings) st′ same;
       }
 
 -- the state that the words of st say
-pub live-words : (sizes : Sizes) (f : Flash) (st : ℕ → PageState) (m : Model) → Live sizes f st m → Live sizes f (stateAt (stateWords (sizes .pages) st)) m
-live-words sizes f st m l = live-below sizes st (stateAt (stateWords (sizes .pages) st)) (λ p h. stateAt-words (sizes .pages) st p h) f m l
+pub live-words : {F : Family} (T : Theory F) (sizes : Sizes) (f : Flash) (st : ℕ → PageState) (m : Model) → Live T sizes f st m → Live T sizes f (stateAt (stateWords (sizes .pages) st)) m
+live-words T sizes f st m l = live-below T sizes st (stateAt (stateWords (sizes .pages) st)) (λ p h. stateAt-words (sizes .pages) st p h) f m l

@@ -13,15 +13,17 @@ use Rattle.state.specs.Cycle.{onCycle}
 use Rattle.state.specs.Change.{atRest, withdrawnPage, withdrawn}
 use Rattle.state.specs.CycleLaws.{Flies, on-cycle-next}
 use Rattle.state.specs.ChangeLaws.{withdrawn-sound}
-use Rattle.protocol.specs.View.{recordView}
-use Rattle.protocol.specs.SameSet.{core-same, StateChanges, live-changes}
+use Rattle.protocol.specs.View.{pointingView}
+use Rattle.protocol.specs.SameSet.{StateChanges, live-changes}
+use Rattle.atomicity.specs.Family.{Family}
 use Rattle.atomicity.specs.Call.{Call}
 use Rattle.atomicity.specs.Model.{Model, closeRing, accept}
 use Rattle.atomicity.specs.rings.Match.{IsEntered}
 use Rattle.atomicity.specs.rings.Close.{close-entered, withdraw-match}
+use Rattle.atomicity.specs.steps.Theory.{Theory}
 use Rattle.atomicity.specs.steps.Invariant.{Live}
 
-module _ (sizes : Sizes) (f : Flash) (st : ℕ → PageState) (m : Model) (l : Live sizes f st m) (page : ℕ) (y : Flies (sizes .pages) st page) where
+module _ {F : Family} (T : Theory F) (sizes : Sizes) (f : Flash) (st : ℕ → PageState) (m : Model) (l : Live T sizes f st m) (page : ℕ) (y : Flies (sizes .pages) st page) where
   on-it : (q : ℕ) → onCycle (sizes .pages) st page q ≡ true → withdrawn (sizes .pages) st page q ≡ withdrawnPage (st q)
   unfolding withdrawn
   on-it q e = rw e
@@ -59,13 +61,13 @@ module _ (sizes : Sizes) (f : Flash) (st : ℕ → PageState) (m : Model) (l : L
             });
       }
 
-  pub withdrawn-live : Live sizes f (withdrawn (sizes .pages) st page) (accept m (Call.Withdraw page))
+  pub withdrawn-live : Live T sizes f (withdrawn (sizes .pages) st page) (accept m (Call.Withdraw page))
   unfolding accept
   withdrawn-live =
       record {
         sound = withdrawn-sound (sizes .pages) st (l .sound) page y;
         no-twins = l .no-twins;
-        core = core-same (record { forth = λ r b h. h; back = λ r b h. h; same-comm = λ p h. sym (same-versions p .0); same-kept = λ p h. refl }) (l .core);
-        live = live-changes recordView changes (l .core .shared .all-sound) (l .live);
+        core = T .same _ _ _ _ _ _ _ (record { forth = λ r b h. h; back = λ r b h. h; same-comm = λ p h. sym (same-versions p .0); same-kept = λ p h. refl }) (l .core);
+        live = live-changes (pointingView (T .back)) changes (T .shared _ _ _ _ (l .core) .all-sound) (l .live);
         rings = withdraw-match (sizes .pages) st (m .rings) (l .sound) (l .rings) page y;
       }

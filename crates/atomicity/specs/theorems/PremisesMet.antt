@@ -10,15 +10,17 @@ use Rattle.bounded.specs.Choice.{both, both-left, both-right, not-yes}
 use Rattle.outcome.specs.OutcomeLaws.{settled-answer}
 use Rattle.sizes.specs.declared.Sizes.{Sizes}
 use Rattle.rules.specs.Volume.{Volume}
-use Rattle.rules.specs.laws.Volume.{Fits, fits-test}
-use Rattle.rules.specs.Format.{formatted, formatAnswer, formatOutcome}
+use Rattle.rules.specs.laws.Volume.{FitsIn, fits-in-test}
+use Rattle.rules.specs.Format.{formattedIn, formatAnswerIn, formatOutcomeIn}
+use Rattle.atomicity.specs.Family.{Family}
 use Rattle.atomicity.specs.Call.{Call, withState, perform}
 use Rattle.atomicity.specs.Run.{Event, World, isRecover, stillLost, happens, started, after, keepsTo, keepsPremises}
 use Rattle.atomicity.specs.Promise.{Premises}
 use Rattle.atomicity.specs.Companions.{MayFollow, StateKnown, PremisesMet}
+use Rattle.atomicity.specs.steps.Theory.{Theory}
 use Rattle.atomicity.specs.theorems.Promise.{own-state}
 
-module _ (widths : Widths) (sizes : Sizes) where
+module _ {F : Family} (T : Theory F) (widths : Widths) (sizes : Sizes) where
   -- ---- event by event
 
   call-kept : (lost : Bool) (c : Call) → lost ≡ false → cond lost (isRecover c) true ≡ true
@@ -29,61 +31,61 @@ module _ (widths : Widths) (sizes : Sizes) where
   recover-kept true = refl
   recover-kept false = refl
 
-  still-known : (x : World) (c : Call) → x .lost ≡ false → happens widths sizes x (Event.Returns c) .lost ≡ false
+  still-known : (x : World) (c : Call) → x .lost ≡ false → happens F widths sizes x (Event.Returns c) .lost ≡ false
   unfolding happens stillLost
   still-known x c e = rw e
 
   -- calls alone never lose the state, so a list of them keeps to the premises
-  calls-keep : (x : World) (list : List Call) → x .lost ≡ false → keepsPremises widths sizes x (map Event.Returns list) ≡ true
+  calls-keep : (x : World) (list : List Call) → x .lost ≡ false → keepsPremises F widths sizes x (map Event.Returns list) ≡ true
   unfolding keepsPremises keepsTo
   calls-keep x [] e = refl
-  calls-keep x (c ∷ list) e = both (call-kept (x .lost) c e) (calls-keep (happens widths sizes x (Event.Returns c)) list (still-known x c e))
+  calls-keep x (c ∷ list) e = both (call-kept (x .lost) c e) (calls-keep (happens F widths sizes x (Event.Returns c)) list (still-known x c e))
 
   -- an event behind a list that keeps to them
-  keeps-more : (x : World) (l : List Event) (e : Event) → keepsPremises widths sizes x l ≡ true → keepsTo (sizes .pages) (after widths sizes x l) e ≡ true → keepsPremises widths sizes x (l ++ e ∷ []) ≡ true
+  keeps-more : (x : World) (l : List Event) (e : Event) → keepsPremises F widths sizes x l ≡ true → keepsTo (sizes .pages) (after F widths sizes x l) e ≡ true → keepsPremises F widths sizes x (l ++ e ∷ []) ≡ true
   unfolding keepsPremises after
   keeps-more x [] e h k = both k refl
   keeps-more x (f ∷ l) e h k =
-      both (both-left (keepsTo (sizes .pages) x f) (keepsPremises widths sizes (happens widths sizes x f) l) h)
-      (keeps-more (happens widths sizes x f) l e (both-right (keepsTo (sizes .pages) x f) (keepsPremises widths sizes (happens widths sizes x f) l) h) k)
+      both (both-left (keepsTo (sizes .pages) x f) (keepsPremises F widths sizes (happens F widths sizes x f) l) h)
+      (keeps-more (happens F widths sizes x f) l e (both-right (keepsTo (sizes .pages) x f) (keepsPremises F widths sizes (happens F widths sizes x f) l) h) k)
 
-  after-more : (x : World) (l : List Event) (e : Event) → after widths sizes x (l ++ e ∷ []) ≡ happens widths sizes (after widths sizes x l) e
+  after-more : (x : World) (l : List Event) (e : Event) → after F widths sizes x (l ++ e ∷ []) ≡ happens F widths sizes (after F widths sizes x l) e
   unfolding after
   after-more x [] e = refl
-  after-more x (f ∷ l) e = after-more (happens widths sizes x f) l e
+  after-more x (f ∷ l) e = after-more (happens F widths sizes x f) l e
 
   module _ (v : Volume) where
-    follows : (events : List Event) (e : Event) → Premises widths sizes v events → keepsTo (sizes .pages) (after widths sizes (started widths sizes v) events) e ≡ true → MayFollow widths sizes v events e
-    follows events e p k = record { formatted = p .formatted; keeps = keeps-more (started widths sizes v) events e (p .keeps) k }
+    follows : (events : List Event) (e : Event) → Premises F widths sizes v events → keepsTo (sizes .pages) (after F widths sizes (started F widths sizes v) events) e ≡ true → MayFollow F widths sizes v events e
+    follows events e p k = record { formatted = p .formatted; keeps = keeps-more (started F widths sizes v) events e (p .keeps) k }
 
     -- a volume whose P, S and lengths are right formats
-    formats : Fits widths sizes v → formatOutcome widths sizes v .answer ≡ 0
-    unfolding formatOutcome formatAnswer
-    formats f = settled-answer (formatAnswer widths sizes v) 0 0 v (formatted sizes) ∙ rw (not-yes (fits-test widths sizes v f))
+    formats : FitsIn (F .layout) widths sizes v → formatOutcomeIn (F .layout) widths sizes v .answer ≡ 0
+    unfolding formatOutcomeIn formatAnswerIn
+    formats f = settled-answer (formatAnswerIn (F .layout) widths sizes v) 0 0 v (formattedIn (F .layout) sizes) ∙ rw (not-yes (fits-in-test (F .layout) widths sizes v f))
 
   known-again : (lost : Bool) (answer : ℕ) → answer ≡ 0 → stillLost lost Call.Recover answer ≡ false
   unfolding stillLost isRecover
   known-again true answer e = rw e
   known-again false answer e = refl
 
-  finds : (v : Volume) (events : List Event) → Premises widths sizes v events → StateKnown widths sizes v (events ++ Event.Returns Call.Recover ∷ [])
+  finds : (v : Volume) (events : List Event) → Premises F widths sizes v events → StateKnown F widths sizes v (events ++ Event.Returns Call.Recover ∷ [])
   unfolding happens perform withState
   finds v events p =
-      rw (after-more (started widths sizes v) events (Event.Returns Call.Recover))
-      (known-again (after widths sizes (started widths sizes v) events .lost) _ (own-state widths sizes v events p .recover-answers))
+      rw (after-more (started F widths sizes v) events (Event.Returns Call.Recover))
+      (known-again (after F widths sizes (started F widths sizes v) events .lost) _ (own-state T widths sizes v events p .recover-answers))
 
-pub premises-met : PremisesMet
+pub premises-met : {F : Family} (T : Theory F) → PremisesMet F
 unfolding keepsTo keepsPremises started
-premises-met =
+premises-met {F} T =
     record {
-      at-first = λ widths sizes v f. record { formatted = formats widths sizes v f; keeps = refl };
-      calls = λ widths sizes v f list. record { formatted = formats widths sizes v f; keeps = calls-keep widths sizes (started widths sizes v) list refl };
-      crash = λ widths sizes v events p state e. follows widths sizes v events (Event.Crash state) p (eq-eqb (length state) (4 * (sizes .pages)) e);
-      recover = λ widths sizes v events p. follows widths sizes v events (Event.Returns Call.Recover) p (recover-kept widths sizes (after widths sizes (started widths sizes v) events .lost));
-      crashed-recover = λ widths sizes v events p stage done state e. follows widths sizes v events (Event.CrashIn Call.Recover stage done state) p
-          (both (recover-kept widths sizes (after widths sizes (started widths sizes v) events .lost)) (eq-eqb (length state) (4 * (sizes .pages)) e));
-      call = λ widths sizes v events p k c. follows widths sizes v events (Event.Returns c) p (call-kept widths sizes (after widths sizes (started widths sizes v) events .lost) c k);
-      crashed-call = λ widths sizes v events p k c stage done state e. follows widths sizes v events (Event.CrashIn c stage done state) p
-          (both (call-kept widths sizes (after widths sizes (started widths sizes v) events .lost) c k) (eq-eqb (length state) (4 * (sizes .pages)) e));
-      recover-finds = λ widths sizes v events p. finds widths sizes v events p;
+      at-first = λ widths sizes v f. record { formatted = formats T widths sizes v f; keeps = refl };
+      calls = λ widths sizes v f list. record { formatted = formats T widths sizes v f; keeps = calls-keep T widths sizes (started F widths sizes v) list refl };
+      crash = λ widths sizes v events p state e. follows T widths sizes v events (Event.Crash state) p (eq-eqb (length state) (4 * (sizes .pages)) e);
+      recover = λ widths sizes v events p. follows T widths sizes v events (Event.Returns Call.Recover) p (recover-kept T widths sizes (after F widths sizes (started F widths sizes v) events .lost));
+      crashed-recover = λ widths sizes v events p stage done state e. follows T widths sizes v events (Event.CrashIn Call.Recover stage done state) p
+          (both (recover-kept T widths sizes (after F widths sizes (started F widths sizes v) events .lost)) (eq-eqb (length state) (4 * (sizes .pages)) e));
+      call = λ widths sizes v events p k c. follows T widths sizes v events (Event.Returns c) p (call-kept T widths sizes (after F widths sizes (started F widths sizes v) events .lost) c k);
+      crashed-call = λ widths sizes v events p k c stage done state e. follows T widths sizes v events (Event.CrashIn c stage done state) p
+          (both (call-kept T widths sizes (after F widths sizes (started F widths sizes v) events .lost) c k) (eq-eqb (length state) (4 * (sizes .pages)) e));
+      recover-finds = λ widths sizes v events p. finds T widths sizes v events p;
     }

@@ -5,7 +5,7 @@ use Rattle.atomicity.specs.Call.{withState, withFlash, perform, plannedS
 use Rattle.atomicity.specs.Run.{doneOf, cutShort, wasDone, isRecover, stillLost, happens, started, after, keepsTo, keepsPremises}
 use Rattle.atomicity.specs.Model.{freshModel, entryPage, hasBytes, inRing, allEntered, newRing, enterIn, keep, withRing, settleRing, enter, closeRing, closeAll, accept, learns}
 use Rattle.atomicity.specs.Promise.{toldOfCrash, told, modelAfter}
-use Rattle.atomicity.specs.Runs.{oneByte, blankBuffers, lostState, every, none, runCompleted, runErased, runPast, runClosed, keptAfter, wordsAfter, RunsComputed}
+use Rattle.atomicity.specs.Runs.{oneByte, blankBuffers, fourBuffers, lostState, every, none, runCompleted, runErased, runPast, runClosed, runExposed, runBuried, keptAfter, wordsAfter, RunsComputed, SimpleRunsComputed}
 
 -- A name for "these definitions compute": a declaration that unfolds it unfolds them all.
 unfoldable computing : Unit {0}
@@ -25,4 +25,23 @@ runs-computed =
       past-keeps = refl;
       closed-meets = record { formatted = refl; keeps = refl };
       closed-keeps = refl;
+    }
+
+pub simple-runs-computed : SimpleRunsComputed
+unfolding oneByte keptAfter wordsAfter fourBuffers runCompleted runErased runPast runClosed runExposed runBuried lostState every none computing
+simple-runs-computed =
+    record {
+      completed-meets = record { formatted = refl; keeps = refl };
+      completed-keeps = refl;
+      erased-meets = record { formatted = refl; keeps = refl };
+      erased-keeps = refl;
+      erased-leaves = refl;
+      past-meets = record { formatted = refl; keeps = refl };
+      past-keeps = refl;
+      closed-meets = record { formatted = refl; keeps = refl };
+      closed-keeps = refl;
+      buried-refused = refl;
+      buried-meets = record { formatted = refl; keeps = refl };
+      buried-keeps = refl;
+      buried-leaves = refl;
     }

@@ -9,33 +9,33 @@ use Rattle.bounded.specs.Limits.{Widths}
 use Rattle.bounded.specs.Choice.{on-eq, on-lt, never}
 use Rattle.outcome.specs.Outcome.{Outcome}
 use Rattle.sizes.specs.declared.Sizes.{Sizes}
-use Rattle.record.specs.Flash.{Flash, Step, applyAll}
+use Rattle.record.specs.Flash.{Flash, Step, applyAllIn}
 use Rattle.rules.specs.Volume.{Volume}
-use Rattle.rules.specs.Write.{writeChange}
 use Rattle.rules.specs.Erase.{eraseSteps}
-use Rattle.rules.specs.laws.Outcomes.{write-done, erase-done}
+use Rattle.atomicity.specs.Family.{Family}
 use Rattle.atomicity.specs.Call.{Call, withState, withFlash, perform, plannedStages, flashStages}
 use Rattle.atomicity.specs.Run.{cutShort, wasDone}
 use Rattle.atomicity.specs.Companions.{StagesInOrder}
+use Rattle.atomicity.specs.steps.Theory.{Theory, write-done, erase-done}
 use Rattle.atomicity.specs.steps.Stages.{answer-is, refused-leaves, refused-stages, accepted-stages, done-before, done-behind, cut-exactly}
 
-module _ (widths : Widths) (sizes : Sizes) (v : Volume) where
+module _ {F : Family} (T : Theory F) (widths : Widths) (sizes : Sizes) (v : Volume) where
   -- the flash that an accepted call leaves
-  planned-left : (call : Call) → answer-is widths sizes v call ≡ 0 → perform widths sizes v call .left .flash ≡ applyAll (sizes .width) (v .flash) (flatten (plannedStages v call))
-  unfolding perform withState withFlash answer-is plannedStages flatten applyAll writeChange
+  planned-left : (call : Call) → answer-is T widths sizes v call ≡ 0 → perform F widths sizes v call .left .flash ≡ applyAllIn (F .layout) (sizes .width) (v .flash) (flatten (plannedStages F v call))
+  unfolding perform withState withFlash answer-is plannedStages flatten applyAllIn
   planned-left (Call.Launch pages) e = refl
-  planned-left (Call.Write page slot bytes) e = ap (λ (o : Outcome Volume). o .left .flash) (write-done widths sizes v page slot bytes e)
+  planned-left (Call.Write page slot bytes) e = ap (λ (o : Outcome Volume). o .left .flash) (write-done T widths sizes v page slot bytes e)
   planned-left (Call.Withdraw page) e = refl
-  planned-left (Call.Erase slots) e = ap (λ (o : Outcome Flash). o .left) (erase-done widths sizes v slots e) ∙ ap (applyAll (sizes .width) (v .flash)) (sym (append-nil (eraseSteps slots)))
+  planned-left (Call.Erase slots) e = ap (λ (o : Outcome Flash). o .left) (erase-done T widths sizes v slots e) ∙ ap (applyAllIn (F .layout) (sizes .width) (v .flash)) (sym (append-nil (eraseSteps slots)))
   planned-left Call.Recover e = refl
 
   -- what any call leaves
-  pub performs-stages : (call : Call) → perform widths sizes v call .left .flash ≡ applyAll (sizes .width) (v .flash) (flatten (flashStages widths sizes v call))
-  unfolding flatten applyAll
+  pub performs-stages : (call : Call) → perform F widths sizes v call .left .flash ≡ applyAllIn (F .layout) (sizes .width) (v .flash) (flatten (flashStages F widths sizes v call))
+  unfolding flatten applyAllIn
   performs-stages call =
-      on-eq (answer-is widths sizes v call) 0
-      (λ e. planned-left call e ∙ ap (λ (l : List (List Step)). applyAll (sizes .width) (v .flash) (flatten l)) (sym (accepted-stages widths sizes v call e)))
-      (λ n. ap (λ (x : Volume). x .flash) (refused-leaves widths sizes v call n) ∙ ap (λ (l : List (List Step)). applyAll (sizes .width) (v .flash) (flatten l)) (sym (refused-stages widths sizes v call n)))
+      on-eq (answer-is T widths sizes v call) 0
+      (λ e. planned-left call e ∙ ap (λ (l : List (List Step)). applyAllIn (F .layout) (sizes .width) (v .flash) (flatten l)) (sym (accepted-stages T widths sizes v call e)))
+      (λ n. ap (λ (x : Volume). x .flash) (refused-leaves T widths sizes v call n) ∙ ap (λ (l : List (List Step)). applyAllIn (F .layout) (sizes .width) (v .flash) (flatten l)) (sym (refused-stages T widths sizes v call n)))
 
 cut-in-order : (stage : ℕ) (done : ℕ → Bool) (k i j n : ℕ) → wasDone stage done k i ≡ true → j < k → wasDone stage done j n ≡ true
 cut-in-order stage done k i j n e h =
@@ -49,10 +49,10 @@ cut-past-last stage done [] h = refl
 cut-past-last zero done (first ∷ rest) h = absurd (omega arith)
 cut-past-last (suc stage) done (first ∷ rest) h = ap (λ (l : List Step). first ++ l) (cut-past-last stage done rest (omega arith))
 
-pub stages-in-order : StagesInOrder
-stages-in-order =
+pub stages-in-order : {F : Family} (T : Theory F) → StagesInOrder F
+stages-in-order T =
     record {
-      performed = performs-stages;
+      performed = performs-stages T;
       past-last = cut-past-last;
       exactly = cut-exactly;
       in-order = cut-in-order;

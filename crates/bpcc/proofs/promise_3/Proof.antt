@@ -1,5 +1,6 @@
 -- `bpcc::promise_3` meets its contract: the theorems are cited. Assumes nothing.
-use Rattle.atomicity.specs.theorems.Promise.{promise-3, own-state}
+use Rattle.atomicity.specs.BackPointer.{back-pointer}
+use Rattle.atomicity.specs.theorems.Promise.{promise-of, own-state}
 use Rattle.atomicity.specs.theorems.StatesAgree.{state-agrees}
 use Rattle.atomicity.specs.theorems.PremisesMet.{premises-met}
 use Rattle.atomicity.specs.theorems.StagesInOrder.{stages-in-order}
@@ -8,7 +9,7 @@ use Rattle.bpcc.proofs.promise_3.Statement.{statement}
 use Rattle.bpcc.proofs.promise_3.Tie as tie
 
 returns : tie.Need-returns
-returns c = (promise-3, (own-state, (state-agrees, (premises-met, (stages-in-order, runs-computed)))))
+returns c = (promise-of back-pointer, (own-state back-pointer, (state-agrees back-pointer, (premises-met back-pointer, (stages-in-order back-pointer, runs-computed)))))
 
 pub promise-3-spec : {M : Type 1} → statement M
 promise-3-spec = tie.close (tie.spec returns)

@@ -25,12 +25,12 @@ returns : tie.Need-returns
 unfolding suggestOutcome
 returns c =
     reply-refused (c .reply .result) (c .before .before .judged .result) noNumber _ tt tt (c .reply .ensures)
-    (judged-refuses _ _ _ _ _ _ _ _ (suggest-chain _ _ _ _) (c .before .before .before .table-ok .ensures) _ (c .before .before .judged .ensures) (c .before .if1 .taken))
+    (judged-refuses _ _ _ _ _ _ _ _ _ (suggest-chain _ _ _ _) (c .before .before .before .table-ok .ensures) _ (c .before .before .judged .ensures) (c .before .if1 .taken))
     (c .before .if1 .taken)
 
 first-erasable-requires : tie.Need-first-erasable-requires
 first-erasable-requires c κs =
-    let j = judged-passed _ _ _ _ _ (sym (c .before .judged .ensures) ∙ c .if1 .left) in
+    let j = judged-passed _ _ _ _ _ _ (sym (c .before .judged .ensures) ∙ c .if1 .left) in
     let s = table-spans _ _ _ _ (sym (c .before .before .table-ok .ensures) ∙ j .fitting) in
     (judged-linkable _ _ _ _ s (j .table), s .pages-in)
 
@@ -41,7 +41,7 @@ returns-2 : tie.Need-returns-2
 unfolding suggestOwn suggestedSlot suggestOutcome
 returns-2 c =
     reply-refused (c .reply2 .result) 13 noNumber _ tt tt (c .reply2 .ensures)
-    (judged-passes _ _ _ _ _ _ _ _ (suggest-chain _ _ _ _) (c .before .before .before .before .before .before .table-ok .ensures) _ (c .before .before .before .before .before .judged .ensures) (c .before .before .before .before .if1 .left)
+    (judged-passes _ _ _ _ _ _ _ _ _ (suggest-chain _ _ _ _) (c .before .before .before .before .before .before .table-ok .ensures) _ (c .before .before .before .before .before .judged .ensures) (c .before .before .before .before .if1 .left)
     (rw (found-none _ _ (c .before .before .before .first-erasable .result) (c .before .before .before .first-erasable .ensures) (c .before .if2 .taken))))
     (λ z. omega arith)
 
@@ -52,7 +52,7 @@ returns-3 : tie.Need-returns-3
 unfolding suggestOwn suggestedSlot suggestOutcome
 returns-3 c =
     reply-done (c .reply3 .result) 0 noNumber _ tt tt (c .reply3 .ensures ∙ ap (λ (slot : ℕ). outcomeOf 0 slot tt) (c .before .before .before .first-erasable .ensures))
-    (judged-passes _ _ _ _ _ _ _ _ (suggest-chain _ _ _ _) (c .before .before .before .before .before .before .table-ok .ensures) _ (c .before .before .before .before .before .judged .ensures) (c .before .before .before .before .if1 .left)
+    (judged-passes _ _ _ _ _ _ _ _ _ (suggest-chain _ _ _ _) (c .before .before .before .before .before .before .table-ok .ensures) _ (c .before .before .before .before .before .judged .ensures) (c .before .before .before .before .if1 .left)
     (rw (found-some _ _ (c .before .before .before .first-erasable .result) (c .before .before .before .first-erasable .ensures) (c .before .if2 .left))))
     refl
 

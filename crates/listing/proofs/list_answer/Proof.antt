@@ -22,14 +22,14 @@ volume-fits-requires : tie.Need-volume-fits-requires Inv-loop μ-loop
 volume-fits-requires c κs = search needs
 
 judged-requires : tie.Need-judged-requires Inv-loop μ-loop
-judged-requires c κs = λ e. volume-spans _ _ _ (sym (c .volume-fits .ensures) ∙ e)
+judged-requires c κs = λ e. volume-spans _ _ _ _ (sym (c .volume-fits .ensures) ∙ e)
 
 loop-holds : tie.Need-loop-holds Inv-loop μ-loop
 loop-holds c = (omega arith, none-refused _)
 
 read-answer-requires : tie.Need-read-answer-requires Inv-loop μ-loop
 read-answer-requires c κs = (
-  λ z. volume-spans _ _ _ (sym (c .before .before .before .before .volume-fits .ensures) ∙ judged-passed _ _ _ _ _ (sym (c .before .before .before .judged .ensures) ∙ z) .fitting),
+  λ z. volume-spans _ _ _ _ (sym (c .before .before .before .before .volume-fits .ensures) ∙ judged-passed _ _ _ _ _ _ (sym (c .before .before .before .judged .ensures) ∙ z) .fitting),
   c .if1 .taken,
 )
 

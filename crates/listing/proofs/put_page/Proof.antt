@@ -1,5 +1,5 @@
 use borrow.Author.Needs.{needs}
-use Rattle.rules.specs.Read.{readSlot}
+use Rattle.rules.specs.Read.{readSlotIn}
 use Rattle.listing.specs.Listing.{pageText}
 use Rattle.listing.specs.ListingLaws.{readable}
 use Rattle.listing.proofs.put_page.Statement.{statement}
@@ -12,7 +12,7 @@ committed-slot-requires : tie.Need-committed-slot-requires
 committed-slot-requires c κs = let r = readable _ _ _ _ (c .before .before .before .before .before .pre) in (r .table-there, r .state-there)
 
 drawn-in-requires : tie.Need-drawn-in-requires
-unfolding readSlot
+unfolding readSlotIn
 drawn-in-requires c κs =
     rw (c .before .committed-slot .ensures) (readable _ _ _ _ (c .before .before .before .before .before .before .before .pre) .bytes-there)
 
@@ -26,7 +26,7 @@ same-length : tie.Need-same-length
 same-length c = search needs
 
 returns : tie.Need-returns
-unfolding pageText readSlot
+unfolding pageText readSlotIn
 returns c =
     let s = c .before .before .before .before .before .before .before .page-at in
     let slot = c .before .before .before .before .before .before .committed-slot in

@@ -1,7 +1,7 @@
 -- The lowest slot at the version that the state gives the page.
 use mathlib.Core.Path.{ap, _∙_}
 use borrow.Author.Needs.{needs}
-use Rattle.record.specs.Slot.{slotAt}
+use Rattle.record.specs.Slot.{slotIn}
 use Rattle.state.specs.declared.PageState.{PageState}
 use Rattle.table.specs.Table.{lowestSlot}
 use Rattle.reader.proofs.committed_slot.Statement.{statement}
@@ -17,7 +17,7 @@ returns : tie.Need-returns
 returns c =
     let a = c .before .before .before .before .args in
     c .lowest-slot .ensures
-    ∙ ap (λ (s : PageState). lowestSlot (a .slots) (slotAt (a .words .now)) (a .page) (s .committed)) (c .before .page-at .ensures)
+    ∙ ap (λ (s : PageState). lowestSlot (a .slots) (slotIn (a .layout) (a .words .now)) (a .page) (s .committed)) (c .before .page-at .ensures)
 
 pub committed-slot-spec : {M : Type 1} → statement M
 committed-slot-spec = tie.close (tie.spec page-at-requires lowest-slot-requires returns)

@@ -1,5 +1,5 @@
--- `reader::read_page` meets its contract: a walk of its MIR, by hand. The struct is taken apart, and `copy_page` is called on its words and pages and on the other parameters. All that the proof knows of `copy_page` is that it meets its contract.
--- The struct and the `&` parameters are Copy: what each owns is had twice, one copy is kept for the exit, and the other goes to the callee beside the lifetimes' tokens, which come back. out's borrow goes to the callee at its own lifetime, share and ghost name and is given up for good (`gave-slice`): what `copy_page` says of the last list is what `read_page` says of it.
+-- `reader::read_page` meets its contract: a walk of its MIR, by hand. The struct is taken apart, and `copy_five` is called on its words and pages and on the other parameters. All that the proof knows of `copy_five` is that it meets its contract.
+-- The struct and the `&` parameters are Copy: what each owns is had twice, one copy is kept for the exit, and the other goes to the callee beside the lifetimes' tokens, which come back. out's borrow goes to the callee at its own lifetime, share and ghost name and is given up for good (`gave-slice`): what `copy_five` says of the last list is what `read_page` says of it.
 -- Assumes nothing.
 use mathlib.Core.Path.{_≡_, refl}
 use Prim.Native.Nat.{ℕ, _<_, _^_}
@@ -50,10 +50,10 @@ use Rattle.rules.specs.Read.{readOutcome}
 use Rattle.reader.specs.declared.Reader.{Reader}
 use Rattle.reader.proofs.Reader as T
 use Rattle.reader.proofs.Reader.Laws as T′
-use Rattle.reader.proofs.copy_page as copy-page
-use Rattle.reader.proofs.copy_page.Symbol as copy-page-def
-use Rattle.reader.proofs.copy_page.Symbol.{name as #reader·copy-page}
-use Rattle.reader.proofs.copy_page.Met as copy-page-thm
+use Rattle.reader.proofs.copy_five as copy-five
+use Rattle.reader.proofs.copy_five.Symbol as copy-five-def
+use Rattle.reader.proofs.copy_five.Symbol.{name as #reader·copy-five}
+use Rattle.reader.proofs.copy_five.Met as copy-five-thm
 use Rattle.reader.proofs.read_page.Key.{name as #reader·read-page}
 use Rattle.reader.proofs.read_page as read-page
 use Rattle.reader.proofs.read_page.Statement as stated
@@ -75,8 +75,8 @@ stayed =
 
 module _ {M : Type 1} (𝓤 : URA M) (H : Heap 𝓤) (A : Atoms 𝓤) (mem : Memory → SProp 𝓤) (run : Routine → Fun 𝓤) where
   -- the contract that the proof cites
-  abbrev CopyPage : Contract 𝓤
-  CopyPage = tripleOf 𝓤 H A copy-page.signature (copy-page.spec 𝓤 H A mem run)
+  abbrev CopyFive : Contract 𝓤
+  CopyFive = tripleOf 𝓤 H A copy-five.signature (copy-five.spec 𝓤 H A mem run)
 
 module _ {M : Type 1} (𝓤 : URA M) (H : Heap 𝓤) (A : Atoms 𝓤) (W : Given 𝓤 H A) (mem : Memory → SProp 𝓤) (run : Routine → Fun 𝓤) (κ κ₁ κ₂ κ₃ : Lft) (q q₁ q₂ q₃ : Share) (d : Reader) (n k : ℕ) (c s : RefT (List ℕ)) (p b o : ℕ) (γ : GName) (ys : List ℕ) (m-fits : d .pages < 2 ^ 32) (n-fits : n < 2 ^ 32) (k-fits : k < 2 ^ 32) (p-fits : p < 2 ^ 32) where
   abbrev κs : Lfts 4
@@ -146,18 +146,18 @@ module _ {M : Type 1} (𝓤 : URA M) (H : Heap 𝓤) (A : Atoms 𝓤) (W : Given
   abbrev args : Given-args
   args = (d .words, (d .pages, (n, (k, (c, (s, (p, (x, tt))))))))
 
-  abbrev passed : Vals copy-page.signature κs
+  abbrev passed : Vals copy-five.signature κs
   passed = (v ∷ [], (vint w32 (d .pages) ∷ [], (vint w32 n ∷ [], (vint w32 k ∷ [], (v-c ∷ [], (v-s ∷ [], (vint w32 p ∷ [], (v-x ∷ [], tt))))))))
 
-  abbrev to : CopyPage 𝓤 H A mem run .Ghost
+  abbrev to : CopyFive 𝓤 H A mem run .Ghost
   to = ((κs, qs, tt, args, passed), tt)
 
-  asked : ent 𝓤 (onEntry 𝓤 H A copy-page.signature κs qs args passed) (CopyPage 𝓤 H A mem run .pre to)
+  asked : ent 𝓤 (onEntry 𝓤 H A copy-five.signature κs qs args passed) (CopyFive 𝓤 H A mem run .pre to)
   asked =
       qed W (Tokens ∷ ‵ (owns (ShrSlice (named 0) κ u32 ∷ u32 ∷ u32 ∷ u32 ∷ ShrSlice (named 1) κ₁ u8 ∷ ShrSlice (named 2) κ₂ u32 ∷ u32 ∷ MutSlice (named 3) κ₃ u8 ∷ []) args passed) ∷ []) ∵ join ! $ frame ! $ done !
 
   -- what the parameters own gives what the callee asks, and what is Copy is kept
-  apart : ent 𝓤 (onEntry 𝓤 H A read-page.signature κs qs a vals) (⋆ 𝓤 H A (raw (CopyPage 𝓤 H A mem run .pre to) ∷ Kept ∷ []))
+  apart : ent 𝓤 (onEntry 𝓤 H A read-page.signature κs qs a vals) (⋆ 𝓤 H A (raw (CopyFive 𝓤 H A mem run .pre to) ∷ Kept ∷ []))
   apart =
       qed W (Tokens ∷ ‵ (owns (B κs ∷ u32 ∷ u32 ∷ ShrSlice (named 1) κ₁ u8 ∷ ShrSlice (named 2) κ₂ u32 ∷ u32 ∷ MutSlice (named 3) κ₃ u8 ∷ []) a vals) ∷ []) ∵
       move ! (1 ∷ []) $ fsplit ! $ move ! (1 ∷ []) $ fsplit ! $ drop ! $ fsplit ! $ drop ! $ fsplit ! $ move ! (1 ∷ []) $ fsplit ! $ move ! (1 ∷ []) $ fsplit ! $ drop ! $
@@ -171,7 +171,7 @@ module _ {M : Type 1} (𝓤 : URA M) (H : Heap 𝓤) (A : Atoms 𝓤) (W : Given
       use1 W (given (mach ∷ [] ≡ mach ∷ []) (‵ (all-own (D κs .parts) (L κs) vd))) (own-open 𝓤 H A W (D κs) (L κs) vd mach) $ learn ! (λ _. use1 W (‵ (ownAt (D κs .parts) (L κs) 0 (d .words)) ⊛ ‵ (rest (D κs .parts) (L κs) 0 vd)) (own-out 𝓤 H A W (D κs .parts) (L κs) 0 vd) $ split ! $
       move ! (1 ∷ []) $ drop ! $ move ! (0 ∷ 2 ∷ []) $ fjoin ! $
       -- [what the callee's parameters own; what the struct owns; what contents owns; what state owns; the tokens]
-      move ! (4 ∷ 0 ∷ []) $ use2 W (raw (CopyPage 𝓤 H A mem run .pre to)) asked $ frame ! $ done !)
+      move ! (4 ∷ 0 ∷ []) $ use2 W (raw (CopyFive 𝓤 H A mem run .pre to)) asked $ frame ! $ done !)
 
   -- what is said of the answer and of out's last list
   abbrev Said : ℕ → List ℕ → Type 0
@@ -189,7 +189,7 @@ module _ {M : Type 1} (𝓤 : URA M) (H : Heap 𝓤) (A : Atoms 𝓤) (W : Given
       nothing ! $ move ! (5 ∷ 0 ∷ []) $ fjoin ! $ owned ! u32 (Is u32) (uint-makes 𝓤 H A W w32) p _ (refl, p-fits) $ fjoin ! $ move ! (2 ∷ 0 ∷ []) $ fjoin ! $ move ! (1 ∷ 0 ∷ []) $ fjoin ! $
       owned ! u32 (Is u32) (uint-makes 𝓤 H A W w32) k _ (refl, k-fits) $ fjoin ! $ owned ! u32 (Is u32) (uint-makes 𝓤 H A W w32) n _ (refl, n-fits) $ fjoin ! $ move ! (1 ∷ 0 ∷ []) $ fjoin ! $ frame ! $ done !
 
-  module _ (C : Calls 𝓤 H) (Λ : Loops 𝓤 H) (fm : FmC 𝓤 H (W .laws) C) (known : Triple 𝓤 (C #reader·copy-page) (CopyPage 𝓤 H A mem run)) where
+  module _ (C : Calls 𝓤 H) (Λ : Loops 𝓤 H) (fm : FmC 𝓤 H (W .laws) C) (known : Triple 𝓤 (C #reader·copy-five) (CopyFive 𝓤 H A mem run)) where
     walk : Holds (hasTy (T′.mir (named 0)) mach) × WT mach → Is (ShrSlice (named 1) κ₁ u8) c (v-c ∷ []) → Is (ShrSlice (named 2) κ₂ u32) s (v-s ∷ []) → Room u8 (length ys)
         → ent 𝓤 (onEntry 𝓤 H A read-page.signature κs qs a vals) (WpFn 𝓤 H C Λ code.function (mach ∷ vint w32 n ∷ vint w32 k ∷ v-c ∷ v-s ∷ vint w32 p ∷ v-x ∷ []) Post)
     walk wt is-c is-s room =
@@ -202,13 +202,13 @@ module _ {M : Type 1} (𝓤 : URA M) (H : Heap 𝓤) (A : Atoms 𝓤) (W : Given
         assigns ! (of-opd ! (load ! (from ! (fld ! refl (stop !))) (look-in ! 20 (sub ! 1 refl (whole !))))) (from ! (stop !)) (init ! 4 refl (tt, wt .1 .1 .0)) $
         assigns ! (addr ! (from ! (fld ! refl (hop ! (look-in ! 8 (sub ! 0 refl (whole !))) (stop !))))) (from ! (stop !)) (init ! 2 refl (tt, tt)) $
         assigns ! (agg ! (and-then ! (load ! (from ! (stop !)) (look ! 2 refl)) (and-then ! (load ! (from ! (fld ! refl (stop !))) (look-in ! 8 (sub ! 1 refl (whole !)))) (no-more !)))) (from ! (stop !)) (init ! 0 refl (tt, (tt, (record { fits = room .0 }, tt)))) $
-        move ! (24 ∷ []) $ use1 W (raw (CopyPage 𝓤 H A mem run .pre to) ⊛ Kept) apart $ split ! $
-        -- [what `copy_page` asks; what is kept; _11; …]
-        calls-at ! fm (CopyPage 𝓤 H A mem run) known to
+        move ! (24 ∷ []) $ use1 W (raw (CopyFive 𝓤 H A mem run .pre to) ⊛ Kept) apart $ split ! $
+        -- [what `copy_five` asks; what is kept; _11; …]
+        calls-at ! fm (CopyFive 𝓤 H A mem run) known to
         (and-then ! (load ! (from ! (stop !)) (look ! 8 refl)) (and-then ! (load ! (from ! (stop !)) (look ! 6 refl)) (and-then ! (load ! (from ! (stop !)) (look ! 20 refl)) (and-then ! (load ! (from ! (stop !)) (look ! 18 refl)) (and-then ! (load ! (from ! (stop !)) (look ! 16 refl)) (and-then ! (load ! (from ! (stop !)) (look ! 14 refl)) (and-then ! (load ! (from ! (stop !)) (look ! 12 refl)) (and-then ! (load ! (from ! (stop !)) (look ! 2 refl)) (no-more !))))))))) (λ u.
-        use1 W (later (some (λ (r : ℕ). (Tokens ⊛ ‵ (u64 .own r (u ∷ []))) ⊛ raw (ensured 𝓤 H A copy-page.ended (copy-page.clauses 𝓤 H A mem run) κs args tt r)))) (id⊢ 𝓤 _) $ await ! tt $ pick ! (λ r.
-        -- what `copy_page` ensures, at some last list
-        split ! $ move ! (1 ∷ []) $ use1 W (some (λ (zs : Lasts). ‵ (lasts copy-page.ended κs args zs) ⊛ raw (fact 𝓤 (Said r (zs .1 .1 .1 .1 .1 .1 .1 .0))))) (id⊢ 𝓤 _) $ pick ! (λ zs.
+        use1 W (later (some (λ (r : ℕ). (Tokens ⊛ ‵ (u64 .own r (u ∷ []))) ⊛ raw (ensured 𝓤 H A copy-five.ended (copy-five.clauses 𝓤 H A mem run) κs args tt r)))) (id⊢ 𝓤 _) $ await ! tt $ pick ! (λ r.
+        -- what `copy_five` ensures, at some last list
+        split ! $ move ! (1 ∷ []) $ use1 W (some (λ (zs : Lasts). ‵ (lasts copy-five.ended κs args zs) ⊛ raw (fact 𝓤 (Said r (zs .1 .1 .1 .1 .1 .1 .1 .0))))) (id⊢ 𝓤 _) $ pick ! (λ zs.
         split ! $ move ! (1 ∷ []) $ heard ! (Said r (zs .1 .1 .1 .1 .1 .1 .1 .0)) (λ e. fsplit ! $ drop ! $ fsplit ! $ drop ! $ fsplit ! $ drop ! $ fsplit ! $ drop ! $ fsplit ! $ drop ! $ fsplit ! $ drop ! $ fsplit ! $ drop ! $ fsplit ! $ fsplit ! $ move ! (1 ∷ []) $ feqL ! (λ l.
         -- [out's last list; true; the tokens and the result; what is kept; _11; …]
         move ! (1 ∷ []) $ drop ! $ move ! (1 ∷ []) $ split ! $ move ! (1 ∷ []) $
@@ -220,7 +220,7 @@ module _ {M : Type 1} (𝓤 : URA M) (H : Heap 𝓤) (A : Atoms 𝓤) (W : Given
         by ! (exits r u (zs .1 .1 .1 .1 .1 .1 .1 .0) e l)))))))))))))))))))
 
 module _ {M : Type 1} (𝓤 : URA M) (H : Heap 𝓤) (A : Atoms 𝓤) (W : Given 𝓤 H A) (mem : Memory → SProp 𝓤) (run : Routine → Fun 𝓤) where
-  read-page-walks : (C : Calls 𝓤 H) (Λ : Loops 𝓤 H) → FmC 𝓤 H (W .laws) C → Triple 𝓤 (C #reader·copy-page) (CopyPage 𝓤 H A mem run)
+  read-page-walks : (C : Calls 𝓤 H) (Λ : Loops 𝓤 H) → FmC 𝓤 H (W .laws) C → Triple 𝓤 (C #reader·copy-five) (CopyFive 𝓤 H A mem run)
       → Walks 𝓤 H A read-page.ended stayed (WpFn 𝓤 H C Λ code.function) (read-page.clauses 𝓤 H A mem run)
   read-page-walks C Λ fm known = walked 𝓤 H A read-page.ended stayed (read-page.clauses 𝓤 H A mem run) (WpFn 𝓤 H C Λ code.function)
       (λ κs. (LL.vals (D κs) (L κs), (uint-vals w32, (uint-vals w32, (slice-vals, (slice-vals, (uint-vals w32, (slice-vals, tt))))))))
@@ -230,7 +230,7 @@ module _ {M : Type 1} (𝓤 : URA M) (H : Heap 𝓤) (A : Atoms 𝓤) (W : Given
       (wt .1 .1 .0 .fits) (are .1 .0 .1) (are .1 .1 .0 .1) (are .1 .1 .1 .1 .1 .0 .1) C Λ fm known wt (are .1 .1 .1 .0) (are .1 .1 .1 .1 .0) (are .1 .1 .1 .1 .1 .1 .0 .0 .1)))
 
 read-page-meets : {M : Type 1} (𝓤 : URA M) (H : Heap 𝓤) (A : Atoms 𝓤) (W : Given 𝓤 H A) (mem : Memory → SProp 𝓤) (run : Routine → Fun 𝓤) (𝓣 : Tables 𝓤 H)
-    → Triple 𝓤 (𝓣 .C #reader·copy-page) (CopyPage 𝓤 H A mem run)
+    → Triple 𝓤 (𝓣 .C #reader·copy-five) (CopyFive 𝓤 H A mem run)
     → Meets 𝓤 H A read-page.signature (WpFn 𝓤 H (𝓣 .C) (𝓣 .Λ) code.function) (read-page.spec 𝓤 H A mem run)
 read-page-meets 𝓤 H A W mem run 𝓣 known =
     walk-meets 𝓤 H A read-page.ended stayed W
@@ -243,4 +243,4 @@ read-page-spec 𝓤 H 𝓜 𝓖 𝓡 =
     entered 𝓤 H (tripleOf 𝓤 H (𝓖 .A) read-page.signature (read-page.spec 𝓤 H (𝓖 .A) (𝓜 .mem) (𝓡 .run)))
     (tables 𝓤 H 𝓜 𝓡 code.env .C) (tables 𝓤 H 𝓜 𝓡 code.env .Λ) #reader·read-page code.function (code.unfolded 𝓤 H 𝓜 𝓡)
     (read-page-meets 𝓤 H (𝓖 .A) (givenOf 𝓤 H 𝓜 𝓖) (𝓜 .mem) (𝓡 .run) (tablesOf 𝓤 H 𝓜 (tables 𝓤 H 𝓜 𝓡 code.env))
-    (cited 𝓤 H (CopyPage 𝓤 H (𝓖 .A) (𝓜 .mem) (𝓡 .run)) 𝓜 𝓡 code.env #reader·copy-page copy-page-def.routine code.calls-reader·copy-page (copy-page-thm.met 𝓤 H 𝓜 𝓖 𝓡)))
+    (cited 𝓤 H (CopyFive 𝓤 H (𝓖 .A) (𝓜 .mem) (𝓡 .run)) 𝓜 𝓡 code.env #reader·copy-five copy-five-def.routine code.calls-reader·copy-five (copy-five-thm.met 𝓤 H 𝓜 𝓖 𝓡)))

@@ -1,7 +1,7 @@
 use borrow.Author.Needs.{needs}
 use native.Mathlib.Nat.{add-sub-cancel-left}
 use Rattle.bounded.specs.Parts.{part}
-use Rattle.record.specs.Slot.{slotAt}
+use Rattle.record.specs.Slot.{slotIn}
 use Rattle.record.proofs.slot_at.Statement.{statement}
 use Rattle.record.proofs.slot_at.Tie as tie
 
@@ -27,7 +27,7 @@ decode-requires : tie.Need-decode-requires
 decode-requires c κs = search needs
 
 returns : tie.Need-returns
-unfolding slotAt part
+unfolding slotIn part
 returns c = rw add-sub-cancel-left at (c .decode .ensures)
 
 pub slot-at-spec : {M : Type 1} → statement M

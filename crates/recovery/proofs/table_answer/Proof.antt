@@ -15,7 +15,7 @@ reply-requires c κs = search needs
 
 returns : tie.Need-returns
 returns c = (
-  reply-refused _ 2 0 _ _ _ (c .reply .ensures) (slot-unsound _ _ _ (said-no (c .before .before .table-sound .ensures) (c .before .if1 .taken))) (λ e. omega arith),
+  reply-refused _ 2 0 _ _ _ (c .reply .ensures) (slot-unsound _ _ _ _ (said-no (c .before .before .table-sound .ensures) (c .before .if1 .taken))) (λ e. omega arith),
   λ z. absurd (let n = reply-answer _ _ _ (c .reply .ensures) in omega arith),
 )
 
@@ -34,7 +34,7 @@ returns-2 : tie.Need-returns-2
 returns-2 c =
     let h = c .before .before .before in (
       reply-refused _ 3 0 _ _ _ (c .reply2 .ensures)
-          (records-clash _ _ _ (said-yes (h .before .before .before .table-sound .ensures) (h .before .before .if1 .left)) (sym (c .before .before .some-clash .ensures) ∙ c .before .if2 .taken))
+          (records-clash _ _ _ _ (said-yes (h .before .before .before .table-sound .ensures) (h .before .before .if1 .left)) (sym (c .before .before .some-clash .ensures) ∙ c .before .if2 .taken))
           (λ e. omega arith),
       λ z. absurd (let n = reply-answer _ _ _ (c .reply2 .ensures) in omega arith),
     )
@@ -50,11 +50,11 @@ returns-3 c =
     let h = c .before .before .before .before .before .before in
     let a = h .before .before .before .before .before .args in
     let pre = h .before .before .before .before .before .pre in
-    let s : Surveyed (a .sizes .pages) (a .sizes .slots) (a .words .now) (h .highest-slots .last .1 .1 .0) =
+    let s : Surveyed (a .layout) (a .sizes .pages) (a .sizes .slots) (a .words .now) (h .highest-slots .last .1 .1 .1 .0) =
     record { sized = pre .0; pages-most = pre .1; sound = said-yes (h .before .before .before .table-sound .ensures) (h .before .before .if1 .left); tops = h .highest-slots .ensures } in (
       reply-refused _ 3 0 _ _ _ (c .reply3 .ensures)
-          (record-missing _ _ _ (s .sound) (sym (c .before .before .before .before .before .some-clash .ensures) ∙ c .before .before .before .before .if2 .left)
-          (sym (tops-records _ _ _ _ s) ∙ said-no (c .before .before .records-present .ensures) (c .before .if3 .taken)))
+          (record-missing _ _ _ _ (s .sound) (sym (c .before .before .before .before .before .some-clash .ensures) ∙ c .before .before .before .before .if2 .left)
+          (sym (tops-records _ _ _ _ _ s) ∙ said-no (c .before .before .records-present .ensures) (c .before .if3 .taken)))
           (λ e. omega arith),
       λ z. absurd (let n = reply-answer _ _ _ (c .reply3 .ensures) in omega arith),
     )
@@ -70,12 +70,12 @@ returns-4 c =
     let h = c .before .before .before .before .before .before .before .before in
     let a = h .before .before .before .before .before .args in
     let pre = h .before .before .before .before .before .pre in
-    let s : Surveyed (a .sizes .pages) (a .sizes .slots) (a .words .now) (h .highest-slots .last .1 .1 .0) =
+    let s : Surveyed (a .layout) (a .sizes .pages) (a .sizes .slots) (a .words .now) (h .highest-slots .last .1 .1 .1 .0) =
     record { sized = pre .0; pages-most = pre .1; sound = said-yes (h .before .before .before .table-sound .ensures) (h .before .before .if1 .left); tops = h .highest-slots .ensures } in
     let d = c .before .before .before in (
       settles-same _ _ _ _ (c .links-answer .ensures .0)
-          (answer-by-links _ _ _ (s .sound) (sym (c .before .before .before .before .before .before .before .some-clash .ensures) ∙ c .before .before .before .before .before .before .if2 .left)
-          (sym (tops-records _ _ _ _ s) ∙ said-yes (d .before .records-present .ensures) (d .if3 .left))),
+          (answer-by-links _ _ _ _ (s .sound) (sym (c .before .before .before .before .before .before .before .some-clash .ensures) ∙ c .before .before .before .before .before .before .if2 .left)
+          (sym (tops-records _ _ _ _ _ s) ∙ said-yes (d .before .records-present .ensures) (d .if3 .left))),
       c .links-answer .ensures .1,
     )
 

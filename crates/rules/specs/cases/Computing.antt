@@ -1,13 +1,13 @@
 -- A name for "these definitions compute": a declaration that unfolds it unfolds them all.
 use Rattle.bounded.specs.Limits.{twoWidths}
 use Rattle.outcome.specs.Computing.{computing as outcome-computing}
-use Rattle.sizes.specs.Sizes.{sizesOk, wordsFit, contentsFit, stateFits, noRepeats, inRange, listOk}
+use Rattle.sizes.specs.Sizes.{sizesOk, wordsFitIn, contentsFit, stateFits, noRepeats, inRange, listOk}
 use Rattle.state.specs.Computing.{computing as state-computing}
 use Rattle.table.specs.Computing.{computing as table-computing}
 use Rattle.follow.specs.Follow.{endsHere, oneMore, link, followFrom, follow, linksFollowed, isAstray}
-use Rattle.rules.specs.Format.{formattedWords, formattedContents, formatted, formatAnswer, formatOutcome}
-use Rattle.rules.specs.Read.{readSlot, readAnswer, readOutcome}
-use Rattle.rules.specs.Volume.{volumeFits}
+use Rattle.rules.specs.Format.{formattedWords, formattedContents, formattedIn, formatAnswerIn, formatOutcomeIn}
+use Rattle.rules.specs.Read.{readSlotIn, readAnswerIn, readOutcomeIn}
+use Rattle.rules.specs.Volume.{volumeFitsIn}
 use Rattle.rules.specs.Launch.{somePage, usedUp, launchAnswer, launchOutcome}
 use Rattle.rules.specs.Withdraw.{withdrawAnswer, withdrawOutcome}
 use Rattle.rules.specs.Write.{planOf, writeAnswer, writeStep, writeDone, writeChange, writeOutcome}
@@ -16,7 +16,9 @@ use Rattle.rules.specs.Permission.{isObsolete, isExposed, outdoneBy, sup
 use Rattle.rules.specs.Suggest.{suggestAnswer, suggestedSlot, suggestOutcome}
 use Rattle.rules.specs.Recover.{walkOf, linksOf, backPointer, committedBy, committedOf, recovered, recoverAnswer, recoverOutcome}
 use Rattle.rules.specs.Verdict.{isStraddled, linkVerdict, slotVerdict, verdict}
+use Rattle.rules.specs.Simple.{simpleLinkVerdict, simpleSlotVerdict, simpleVerdict, simpleWalkOf, under, second, simpleCommittedSlot, committedSlotOf, hasCommitted, simpleRecovered, simpleMayEraseRecord, simpleMayErase, simpleMayEraseAll, buriedBy, wouldBury}
+use Rattle.rules.specs.SimpleCalls.{simplePlanOf, simpleWriteAnswer, simpleWriteChange, simpleWriteOutcome, simpleEraseAnswer, simpleEraseOutcome, simpleRecoverAnswer, simpleLinksOf, simpleRecoverOutcome}
 
 unfoldable pub computing : Unit {0}
-unfolding table-computing state-computing outcome-computing formattedWords formattedContents formatted formatAnswer formatOutcome readSlot readAnswer readOutcome twoWidths sizesOk wordsFit contentsFit stateFits volumeFits noRepeats inRange listOk somePage usedUp launchAnswer launchOutcome withdrawAnswer withdrawOutcome planOf writeAnswer writeStep writeDone writeChange writeOutcome eraseAnswer eraseSteps eraseOutcome isObsolete isExposed outdoneBy supports isNeeded isCurrent mayEraseRecord mayErase mayEraseAll suggestAnswer suggestedSlot suggestOutcome endsHere oneMore link followFrom follow linksFollowed walkOf linksOf isAstray backPointer committedBy committedOf recovered recoverAnswer recoverOutcome isStraddled linkVerdict slotVerdict verdict
+unfolding table-computing state-computing outcome-computing formattedWords formattedContents formattedIn formatAnswerIn formatOutcomeIn readSlotIn readAnswerIn readOutcomeIn twoWidths sizesOk wordsFitIn contentsFit stateFits volumeFitsIn noRepeats inRange listOk somePage usedUp launchAnswer launchOutcome withdrawAnswer withdrawOutcome planOf writeAnswer writeStep writeDone writeChange writeOutcome eraseAnswer eraseSteps eraseOutcome isObsolete isExposed outdoneBy supports isNeeded isCurrent mayEraseRecord mayErase mayEraseAll suggestAnswer suggestedSlot suggestOutcome endsHere oneMore link followFrom follow linksFollowed walkOf linksOf isAstray backPointer committedBy committedOf recovered recoverAnswer recoverOutcome isStraddled linkVerdict slotVerdict verdict simpleLinkVerdict simpleSlotVerdict simpleVerdict simpleWalkOf under second simpleCommittedSlot committedSlotOf hasCommitted simpleRecovered simpleMayEraseRecord simpleMayErase simpleMayEraseAll buriedBy wouldBury simplePlanOf simpleWriteAnswer simpleWriteChange simpleWriteOutcome simpleEraseAnswer simpleEraseOutcome simpleRecoverAnswer simpleLinksOf simpleRecoverOutcome
 computing = tt

@@ -5,6 +5,7 @@ use mathlib.Core.List.{List, [], _∷_, _++_}
 use lib.ListN.{replicate}
 use Rattle.bounded.specs.Limits.{noNumber, twoWidths}
 use Rattle.outcome.specs.Row.{Row, row, RowsHold}
+use Rattle.sizes.specs.declared.Layout.the-variants.{FiveWords}
 use Rattle.sizes.specs.Sizes.{sizesOf}
 use Rattle.record.specs.declared.Record.{Record}
 use Rattle.table.specs.Given.{given, formattedRecords}
@@ -23,7 +24,7 @@ linksAndVersions P records = let o = recoverOn P records in o .answer ∷ o .sec
 
 -- the answer and the links on the one-ring table of P pages and S slots
 unfoldable pub linksOnRing : (P S : ℕ) → List ℕ
-linksOnRing P S = let o = recoverOutcome twoWidths (sizesOf P S 32) (oneRing P S) (replicate (4 * P) 7) in o .answer ∷ o .second ∷ []
+linksOnRing P S = let o = recoverOutcome twoWidths (sizesOf P S 32) (oneRing FiveWords P S) (replicate (4 * P) 7) in o .answer ∷ o .second ∷ []
 
 -- Cases 1 to 5 and 11: a page that links to itself has 1 link, as has one whose own link decides; two in a ring have 2 each; in case 11 page 0 goes on to
 -- page 1, whose link decides. Then a ring of pages 0 and 1 beside page 2, which links to itself; and, with the committed versions, chains: of four pages, the
@@ -49,8 +50,8 @@ linkRows =
     ∷ row 6 (linksOn 2 (formattedRecords 1)) (3 ∷ 0 ∷ [])
     ∷ row 6 (linksOn 1 (formattedRecords 2)) (2 ∷ 0 ∷ [])
     ∷ row 6 (linksOn 9 (formattedRecords 8)) (1 ∷ 0 ∷ [])
-    ∷ row 6 (oneRing 1 1) (0 ∷ 1 ∷ 0 ∷ 0 ∷ 1 ∷ [])
-    ∷ row 6 (oneRing 3 4) (0 ∷ 1 ∷ 0 ∷ 1 ∷ 1 ∷ 1 ∷ 1 ∷ 0 ∷ 2 ∷ 1 ∷ 2 ∷ 1 ∷ 0 ∷ 0 ∷ 1 ∷ replicate 5 noNumber)
+    ∷ row 6 (oneRing FiveWords 1 1) (0 ∷ 1 ∷ 0 ∷ 0 ∷ 1 ∷ [])
+    ∷ row 6 (oneRing FiveWords 3 4) (0 ∷ 1 ∷ 0 ∷ 1 ∷ 1 ∷ 1 ∷ 1 ∷ 0 ∷ 2 ∷ 1 ∷ 2 ∷ 1 ∷ 0 ∷ 0 ∷ 1 ∷ replicate 5 noNumber)
     ∷ row 6 (linksOnRing 1 1 ++ (linksOnRing 2 2 ++ (linksOnRing 3 4 ++ linksOnRing 5 8))) (0 ∷ 1 ∷ 0 ∷ 4 ∷ 0 ∷ 9 ∷ 0 ∷ 25 ∷ [])
     ∷ []
 

@@ -13,32 +13,39 @@ use Rattle.bounded.specs.Below.{someBelow}
 use Rattle.outcome.specs.Outcome.{_⇒_otherwise_}
 use Rattle.outcome.specs.OutcomeLaws.{held}
 use Rattle.outcome.specs.Chain.{firstOf, first-refuses, first-passes, split-two, split-three}
+use Rattle.sizes.specs.declared.Layout.{Layout}
+use Rattle.sizes.specs.declared.Layout.the-variants.{FiveWords, FourWords}
 use Rattle.sizes.specs.declared.Sizes.{Sizes}
-use Rattle.sizes.specs.Sizes.{sizesOk, wordsFit, stateFits, listOk}
+use Rattle.sizes.specs.Sizes.{sizesOk, strideOf, wordsFit, stateFits, listOk}
 use Rattle.sizes.specs.SizesLaws.{SizesFacts, sizes-facts, words-fit-exactly, state-fits-exactly}
-use Rattle.record.specs.Slot.{slotAt, isBlank}
+use Rattle.record.specs.Slot.{slotIn, slotAt, isBlank}
 use Rattle.state.specs.declared.PageState.{PageState}
 use Rattle.state.specs.State.{stateAt, inFlight, isWritten, stateSound}
 use Rattle.table.specs.Table.{tableSound, hasVersion}
-use Rattle.rules.specs.Volume.{Volume, volumeFits}
-use Rattle.rules.specs.laws.Volume.{Fits, fits-facts}
+use Rattle.rules.specs.Volume.{Volume, volumeFitsIn}
+use Rattle.rules.specs.laws.Volume.{FitsIn, fits-in-facts}
 use Rattle.rules.specs.Launch.{somePage, usedUp, launchAnswer}
 use Rattle.rules.specs.Write.{writeAnswer}
 use Rattle.rules.specs.Withdraw.{withdrawAnswer}
-use Rattle.rules.specs.Permission.{mayErase, mayEraseAll}
+use Rattle.rules.specs.Permission.{mayErase}
 use Rattle.rules.specs.Erase.{eraseAnswer}
 use Rattle.rules.specs.Suggest.{suggestAnswer}
-use Rattle.rules.specs.Read.{readAnswer}
+use Rattle.rules.specs.Read.{readAnswerIn}
+use Rattle.rules.specs.SimpleCalls.{simpleWriteAnswer, simpleEraseAnswer}
+use Rattle.rules.specs.laws.Families.{wouldBuryIn, writeAnswerIn, mayEraseAllIn, eraseAnswerIn}
 
 -- ---- the shared parts
 
 -- 1, 2 and 5 of the calls on a whole volume: the lengths, the slots, the state
-unfoldable pub judged : (fits : Bool) (P S : ℕ) (words state : List ℕ) → ℕ
-judged fits P S words state =
+unfoldable pub judgedIn : Layout → (fits : Bool) (P S : ℕ) (words state : List ℕ) → ℕ
+judgedIn layout fits P S words state =
     not fits ⇒ 1 otherwise
-    not (tableSound P S (slotAt words)) ⇒ 2 otherwise
+    not (tableSound P S (slotIn layout words)) ⇒ 2 otherwise
     not (stateSound P (stateAt state)) ⇒ 5 otherwise
     0
+
+abbrev pub judged : (fits : Bool) (P S : ℕ) (words state : List ℕ) → ℕ
+judged fits P S words state = judgedIn FiveWords fits P S words state
 
 -- 1 and 5 of the calls on the state alone
 unfoldable pub stateJudged : Widths → Sizes → (state : List ℕ) → ℕ
@@ -48,23 +55,23 @@ stateJudged widths sizes state =
     0
 
 -- what a volume has that is judged and passes
-pub record Judged (fits : Bool) (P S : ℕ) (words state : List ℕ) : Type 0 where
+pub record Judged (layout : Layout) (fits : Bool) (P S : ℕ) (words state : List ℕ) : Type 0 where
   pub fitting : fits ≡ true
-  pub table : tableSound P S (slotAt words) ≡ true
+  pub table : tableSound P S (slotIn layout words) ≡ true
   pub sound : stateSound P (stateAt state) ≡ true
 
-pub judged-passed : (fits : Bool) (P S : ℕ) (words state : List ℕ) → judged fits P S words state ≡ 0 → Judged fits P S words state
-unfolding judged
-judged-passed fits P S words state e =
+pub judged-passed : (layout : Layout) (fits : Bool) (P S : ℕ) (words state : List ℕ) → judgedIn layout fits P S words state ≡ 0 → Judged layout fits P S words state
+unfolding judgedIn
+judged-passed layout fits P S words state e =
     let a = held fits _ _ e in
-    let b = held (tableSound P S (slotAt words)) _ _ (a .1) in
+    let b = held (tableSound P S (slotIn layout words)) _ _ (a .1) in
     let c = held (stateSound P (stateAt state)) _ _ (b .1) in
     record { fitting = a .0; table = b .0; sound = c .0 }
 
 -- an answer in two parts, by what the shared one said; the code's test of lengths is `fits`, the definition's `test`
-module _ (answer own : ℕ) (fits test : Bool) (P S : ℕ) (words state : List ℕ) (chain : answer ≡ firstOf (judged test P S words state) own) (same : fits ≡ test) (n : ℕ) (said : n ≡ judged fits P S words state) where
-  first-is : n ≡ judged test P S words state
-  first-is = said ∙ ap (λ (b : Bool). judged b P S words state) same
+module _ (layout : Layout) (answer own : ℕ) (fits test : Bool) (P S : ℕ) (words state : List ℕ) (chain : answer ≡ firstOf (judgedIn layout test P S words state) own) (same : fits ≡ test) (n : ℕ) (said : n ≡ judgedIn layout fits P S words state) where
+  first-is : n ≡ judgedIn layout test P S words state
+  first-is = said ∙ ap (λ (b : Bool). judgedIn layout b P S words state) same
 
   pub judged-refuses : ¬ (n ≡ 0) → n ≡ answer
   judged-refuses h = first-refuses n own first-is h ∙ sym chain
@@ -90,28 +97,28 @@ state-judged-passed widths sizes state e =
 
 -- ---- sizes within their limits, and lengths that span all slots and pages
 
-pub record Spans (P S : ℕ) (words state : List ℕ) : Type 0 where
+pub record SpansIn (layout : Layout) (P S : ℕ) (words state : List ℕ) : Type 0 where
   pub bounds : SizesFacts P S
-  pub slots-in : 5 * S ≤ length words
+  pub slots-in : strideOf layout * S ≤ length words
   pub pages-in : 4 * P ≤ length state
 
-pub volume-spans : (widths : Widths) (sizes : Sizes) (v : Volume) → volumeFits widths sizes v ≡ true → Spans (sizes .pages) (sizes .slots) (v .flash .words) (v .state)
-volume-spans widths sizes v e =
-    let f = fits-facts widths sizes v e in
+pub volume-spans : (layout : Layout) (widths : Widths) (sizes : Sizes) (v : Volume) → volumeFitsIn layout widths sizes v ≡ true → SpansIn layout (sizes .pages) (sizes .slots) (v .flash .words) (v .state)
+volume-spans layout widths sizes v e =
+    let f = fits-in-facts layout widths sizes v e in
     let x = f .flash-sized .words-sized in
     let y = f .state-sized in
     record { bounds = f .bounds; slots-in = omega arith; pages-in = omega arith }
 
 -- … with one test more
-pub slice-spans : (widths : Widths) (sizes : Sizes) (v : Volume) (b : Bool) → (volumeFits widths sizes v && b) ≡ true → Spans (sizes .pages) (sizes .slots) (v .flash .words) (v .state)
-slice-spans widths sizes v b e = volume-spans widths sizes v (both-left (volumeFits widths sizes v) b e)
+pub slice-spans : (layout : Layout) (widths : Widths) (sizes : Sizes) (v : Volume) (b : Bool) → (volumeFitsIn layout widths sizes v && b) ≡ true → SpansIn layout (sizes .pages) (sizes .slots) (v .flash .words) (v .state)
+slice-spans layout widths sizes v b e = volume-spans layout widths sizes v (both-left (volumeFitsIn layout widths sizes v) b e)
 
 -- … and the slice is as long as a slot's bytes
-pub slice-whole : (widths : Widths) (sizes : Sizes) (v : Volume) (n : ℕ) → (volumeFits widths sizes v && eqb n (sizes .width)) ≡ true → Fits widths sizes v × (n ≡ (sizes .width))
-slice-whole widths sizes v n e =
-    (fits-facts widths sizes v (both-left (volumeFits widths sizes v) (eqb n (sizes .width)) e), eqb-true n (sizes .width) (both-right (volumeFits widths sizes v) (eqb n (sizes .width)) e))
+pub slice-whole : (layout : Layout) (widths : Widths) (sizes : Sizes) (v : Volume) (n : ℕ) → (volumeFitsIn layout widths sizes v && eqb n (sizes .width)) ≡ true → FitsIn layout widths sizes v × (n ≡ (sizes .width))
+slice-whole layout widths sizes v n e =
+    (fits-in-facts layout widths sizes v (both-left (volumeFitsIn layout widths sizes v) (eqb n (sizes .width)) e), eqb-true n (sizes .width) (both-right (volumeFitsIn layout widths sizes v) (eqb n (sizes .width)) e))
 
-pub table-spans : (widths : Widths) (sizes : Sizes) (words state : List ℕ) → (sizesOk widths sizes && (wordsFit (sizes .slots) words && stateFits (sizes .pages) state)) ≡ true → Spans (sizes .pages) (sizes .slots) words state
+pub table-spans : (widths : Widths) (sizes : Sizes) (words state : List ℕ) → (sizesOk widths sizes && (wordsFit (sizes .slots) words && stateFits (sizes .pages) state)) ≡ true → SpansIn FiveWords (sizes .pages) (sizes .slots) words state
 table-spans widths sizes words state e =
     let f = both-right (sizesOk widths sizes) (wordsFit (sizes .slots) words && stateFits (sizes .pages) state) e in
     let x = words-fit-exactly (sizes .slots) words .0 (both-left (wordsFit (sizes .slots) words) (stateFits (sizes .pages) state) f) in
@@ -149,7 +156,7 @@ pub withdraw-chain : (widths : Widths) (sizes : Sizes) (state : List ℕ) (page 
 unfolding withdrawAnswer stateJudged withdrawOwn
 withdraw-chain widths sizes state page = split-two (not (sizesOk widths sizes && stateFits (sizes .pages) state)) (not (stateSound (sizes .pages) (stateAt state))) 0 4 _
 
--- write: 6, then 9, 10 and 11 by the page's state and whether the slot is blank
+-- write: 6, then 9, 10 and 11 by the page's state and whether the slot is blank, then 16
 unfoldable pub pageAnswer : PageState → Bool → ℕ
 pageAnswer page blank =
     not (inFlight page) ⇒ 9 otherwise
@@ -157,48 +164,74 @@ pageAnswer page blank =
     not blank ⇒ 11 otherwise
     0
 
-unfoldable pub writeOwn : (P S : ℕ) (words state : List ℕ) (page slot : ℕ) → ℕ
-writeOwn P S words state page slot = not (ltb page P && ltb slot S) ⇒ 6 otherwise pageAnswer (stateAt state page) (isBlank (slotAt words slot))
+unfoldable pub writeOwn : Layout → (P S : ℕ) (words state : List ℕ) (page slot : ℕ) → ℕ
+writeOwn layout P S words state page slot =
+    not (ltb page P && ltb slot S) ⇒ 6 otherwise
+    firstOf (pageAnswer (stateAt state page) (isBlank (slotIn layout words slot))) (wouldBuryIn layout S (slotIn layout words) (stateAt state) page ⇒ 16 otherwise 0)
 
-pub write-chain :
-    (widths : Widths) (sizes : Sizes) (v : Volume) (page slot : ℕ) (bytes : List ℕ)
-    → writeAnswer widths sizes v page slot bytes
-    ≡ firstOf (judged (volumeFits widths sizes v && eqb (length bytes) (sizes .width)) (sizes .pages) (sizes .slots) (v .flash .words) (v .state)) (writeOwn (sizes .pages) (sizes .slots) (v .flash .words) (v .state) page slot)
-unfolding writeAnswer judged writeOwn pageAnswer
-write-chain widths sizes v page slot bytes =
-    split-three (not (volumeFits widths sizes v && eqb (length bytes) (sizes .width))) (not (tableSound (sizes .pages) (sizes .slots) (slotAt (v .flash .words)))) (not (stateSound (sizes .pages) (stateAt (v .state)))) 0 1 4 _
-
--- erase: 6 and 12
-unfoldable pub eraseOwn : ℕ → (words state slots : List ℕ) → ℕ
-eraseOwn S words state slots =
-    not (listOk S slots) ⇒ 6 otherwise
-    not (mayEraseAll S (slotAt words) (stateAt state) slots) ⇒ 12 otherwise
+-- the same in one chain
+unfoldable writeRest : Layout → (P S : ℕ) (words state : List ℕ) (page slot : ℕ) → ℕ
+writeRest layout P S words state page slot =
+    not (ltb page P && ltb slot S) ⇒ 6 otherwise
+    not (inFlight (stateAt state page)) ⇒ 9 otherwise
+    isWritten (stateAt state page) ⇒ 10 otherwise
+    not (isBlank (slotIn layout words slot)) ⇒ 11 otherwise
+    wouldBuryIn layout S (slotIn layout words) (stateAt state) page ⇒ 16 otherwise
     0
 
-pub erase-chain : (widths : Widths) (sizes : Sizes) (v : Volume) (slots : List ℕ) → eraseAnswer widths sizes v slots ≡ firstOf (judged (volumeFits widths sizes v) (sizes .pages) (sizes .slots) (v .flash .words) (v .state)) (eraseOwn (sizes .slots) (v .flash .words) (v .state) slots)
-unfolding eraseAnswer judged eraseOwn
-erase-chain widths sizes v slots =
-    split-three (not (volumeFits widths sizes v)) (not (tableSound (sizes .pages) (sizes .slots) (slotAt (v .flash .words)))) (not (stateSound (sizes .pages) (stateAt (v .state)))) 0 1 4 _
+write-rest : (layout : Layout) (P S : ℕ) (words state : List ℕ) (page slot : ℕ) → writeRest layout P S words state page slot ≡ writeOwn layout P S words state page slot
+unfolding writeRest writeOwn pageAnswer
+write-rest layout P S words state page slot =
+    ap (λ (n : ℕ). not (ltb page P && ltb slot S) ⇒ 6 otherwise n)
+    (split-three (not (inFlight (stateAt state page))) (isWritten (stateAt state page)) (not (isBlank (slotIn layout words slot))) 8 9 10 _)
+
+pub write-chain :
+    (layout : Layout) (widths : Widths) (sizes : Sizes) (v : Volume) (page slot : ℕ) (bytes : List ℕ)
+    → writeAnswerIn layout widths sizes v page slot bytes
+    ≡ firstOf (judgedIn layout (volumeFitsIn layout widths sizes v && eqb (length bytes) (sizes .width)) (sizes .pages) (sizes .slots) (v .flash .words) (v .state)) (writeOwn layout (sizes .pages) (sizes .slots) (v .flash .words) (v .state) page slot)
+unfolding writeAnswer simpleWriteAnswer judgedIn writeRest
+write-chain layout widths sizes v page slot bytes = by layout ∙ ap (firstOf (judgedIn layout (volumeFitsIn layout widths sizes v && eqb (length bytes) (sizes .width)) (sizes .pages) (sizes .slots) (v .flash .words) (v .state))) (write-rest layout (sizes .pages) (sizes .slots) (v .flash .words) (v .state) page slot)
+  where
+    by : (l : Layout) → writeAnswerIn l widths sizes v page slot bytes ≡ firstOf (judgedIn l (volumeFitsIn l widths sizes v && eqb (length bytes) (sizes .width)) (sizes .pages) (sizes .slots) (v .flash .words) (v .state)) (writeRest l (sizes .pages) (sizes .slots) (v .flash .words) (v .state) page slot)
+    by FiveWords =
+        split-three (not (volumeFitsIn FiveWords widths sizes v && eqb (length bytes) (sizes .width))) (not (tableSound (sizes .pages) (sizes .slots) (slotIn FiveWords (v .flash .words)))) (not (stateSound (sizes .pages) (stateAt (v .state)))) 0 1 4 _
+    by FourWords =
+        split-three (not (volumeFitsIn FourWords widths sizes v && eqb (length bytes) (sizes .width))) (not (tableSound (sizes .pages) (sizes .slots) (slotIn FourWords (v .flash .words)))) (not (stateSound (sizes .pages) (stateAt (v .state)))) 0 1 4 _
+
+-- erase: 6 and 12
+unfoldable pub eraseOwn : Layout → ℕ → (words state slots : List ℕ) → ℕ
+eraseOwn layout S words state slots =
+    not (listOk S slots) ⇒ 6 otherwise
+    not (mayEraseAllIn layout S (slotIn layout words) (stateAt state) slots) ⇒ 12 otherwise
+    0
+
+pub erase-chain : (layout : Layout) (widths : Widths) (sizes : Sizes) (v : Volume) (slots : List ℕ) → eraseAnswerIn layout widths sizes v slots ≡ firstOf (judgedIn layout (volumeFitsIn layout widths sizes v) (sizes .pages) (sizes .slots) (v .flash .words) (v .state)) (eraseOwn layout (sizes .slots) (v .flash .words) (v .state) slots)
+unfolding eraseAnswer simpleEraseAnswer judgedIn eraseOwn
+erase-chain layout widths sizes v slots = by layout
+  where
+    by : (l : Layout) → eraseAnswerIn l widths sizes v slots ≡ firstOf (judgedIn l (volumeFitsIn l widths sizes v) (sizes .pages) (sizes .slots) (v .flash .words) (v .state)) (eraseOwn l (sizes .slots) (v .flash .words) (v .state) slots)
+    by FiveWords = split-three (not (volumeFitsIn FiveWords widths sizes v)) (not (tableSound (sizes .pages) (sizes .slots) (slotIn FiveWords (v .flash .words)))) (not (stateSound (sizes .pages) (stateAt (v .state)))) 0 1 4 _
+    by FourWords = split-three (not (volumeFitsIn FourWords widths sizes v)) (not (tableSound (sizes .pages) (sizes .slots) (slotIn FourWords (v .flash .words)))) (not (stateSound (sizes .pages) (stateAt (v .state)))) 0 1 4 _
 
 -- suggest: 13
 unfoldable pub suggestOwn : ℕ → (words state : List ℕ) → ℕ
 suggestOwn S words state = not (someBelow S (mayErase S (slotAt words) (stateAt state))) ⇒ 13 otherwise 0
 
 pub suggest-chain : (widths : Widths) (sizes : Sizes) (words state : List ℕ) → suggestAnswer widths sizes words state ≡ firstOf (judged (sizesOk widths sizes && (wordsFit (sizes .slots) words && stateFits (sizes .pages) state)) (sizes .pages) (sizes .slots) words state) (suggestOwn (sizes .slots) words state)
-unfolding suggestAnswer judged suggestOwn
+unfolding suggestAnswer judgedIn suggestOwn
 suggest-chain widths sizes words state =
     split-three (not (sizesOk widths sizes && (wordsFit (sizes .slots) words && stateFits (sizes .pages) state))) (not (tableSound (sizes .pages) (sizes .slots) (slotAt words))) (not (stateSound (sizes .pages) (stateAt state))) 0 1 4 _
 
 -- read: 6 and 14
-unfoldable pub readOwn : (P S : ℕ) (words state : List ℕ) (page : ℕ) → ℕ
-readOwn P S words state page =
+unfoldable pub readOwn : Layout → (P S : ℕ) (words state : List ℕ) (page : ℕ) → ℕ
+readOwn layout P S words state page =
     not (ltb page P) ⇒ 6 otherwise
-    not (hasVersion S (slotAt words) page (stateAt state page .committed)) ⇒ 14 otherwise
+    not (hasVersion S (slotIn layout words) page (stateAt state page .committed)) ⇒ 14 otherwise
     0
 
 pub read-chain :
-    (widths : Widths) (sizes : Sizes) (v : Volume) (page : ℕ) (out : List ℕ)
-    → readAnswer widths sizes v page out ≡ firstOf (judged (volumeFits widths sizes v && eqb (length out) (sizes .width)) (sizes .pages) (sizes .slots) (v .flash .words) (v .state)) (readOwn (sizes .pages) (sizes .slots) (v .flash .words) (v .state) page)
-unfolding readAnswer judged readOwn
-read-chain widths sizes v page out =
-    split-three (not (volumeFits widths sizes v && eqb (length out) (sizes .width))) (not (tableSound (sizes .pages) (sizes .slots) (slotAt (v .flash .words)))) (not (stateSound (sizes .pages) (stateAt (v .state)))) 0 1 4 _
+    (layout : Layout) (widths : Widths) (sizes : Sizes) (v : Volume) (page : ℕ) (out : List ℕ)
+    → readAnswerIn layout widths sizes v page out ≡ firstOf (judgedIn layout (volumeFitsIn layout widths sizes v && eqb (length out) (sizes .width)) (sizes .pages) (sizes .slots) (v .flash .words) (v .state)) (readOwn layout (sizes .pages) (sizes .slots) (v .flash .words) (v .state) page)
+unfolding readAnswerIn judgedIn readOwn
+read-chain layout widths sizes v page out =
+    split-three (not (volumeFitsIn layout widths sizes v && eqb (length out) (sizes .width))) (not (tableSound (sizes .pages) (sizes .slots) (slotIn layout (v .flash .words)))) (not (stateSound (sizes .pages) (stateAt (v .state)))) 0 1 4 _

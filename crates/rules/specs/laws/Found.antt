@@ -24,7 +24,7 @@ use Rattle.rules.specs.laws.Permission.{Exposed}
 abbrev pub FoundExactly : Type 0
 FoundExactly =
     (S : ℕ) (t : ℕ → Slot) (st : ℕ → PageState) (k : ℕ)
-    → ((i : ℕ) × (i < length (exposedSlots S t st)) × (getD (exposedSlots S t st) i 0 ≡ k)) ↔ ((k < S) × ((r : Record) × (t k ≡ Holds r) × Exposed S t st r))
+    → ((i : ℕ) × (i < length (exposedSlots S t st)) × (getD (exposedSlots S t st) i 0 ≡ k)) ↔ ((k < S) × ((r : Record) × (t k ≡ Holds r) × Exposed st r))
 
 -- judged by what is found, a list may be erased exactly where the rule permits it
 abbrev pub JudgedByFound : Type 0

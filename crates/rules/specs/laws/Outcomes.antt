@@ -4,37 +4,38 @@ use mathlib.Core.Path.{_≡_}
 use mathlib.Core.List.{List}
 use Rattle.bounded.specs.Limits.{noNumber, Widths}
 use Rattle.outcome.specs.OutcomeLaws.{settled-refused, settled-done}
+use Rattle.sizes.specs.declared.Layout.{Layout}
 use Rattle.sizes.specs.declared.Sizes.{Sizes}
 use Rattle.record.specs.Slot.{bytesAt}
 use Rattle.record.specs.Flash.{applyAll}
 use Rattle.state.specs.State.{stateAt, stateWords}
 use Rattle.state.specs.Change.{launched, withdrawn}
 use Rattle.rules.specs.Volume.{Volume}
-use Rattle.rules.specs.Format.{formatted, formatAnswer, formatOutcome}
-use Rattle.rules.specs.Read.{readSlot, readAnswer, readOutcome}
+use Rattle.rules.specs.Format.{formattedIn, formatAnswerIn, formatOutcomeIn}
+use Rattle.rules.specs.Read.{readSlotIn, readAnswerIn, readOutcomeIn}
 use Rattle.rules.specs.Launch.{launchAnswer, launchOutcome}
 use Rattle.rules.specs.Write.{writeAnswer, writeDone, writeChange, writeOutcome}
 use Rattle.rules.specs.Withdraw.{withdrawAnswer, withdrawOutcome}
 use Rattle.rules.specs.Erase.{eraseAnswer, eraseSteps, eraseOutcome}
 use Rattle.rules.specs.Suggest.{suggestAnswer, suggestedSlot, suggestOutcome}
 
-module _ (widths : Widths) (sizes : Sizes) (v : Volume) where
-  pub format-refused : ¬ (formatAnswer widths sizes v ≡ 0) → formatOutcome widths sizes v ≡ record { answer = formatAnswer widths sizes v; second = 0; left = v }
-  unfolding formatOutcome
-  format-refused h = settled-refused (formatAnswer widths sizes v) 0 0 v (formatted sizes) h
+module _ (layout : Layout) (widths : Widths) (sizes : Sizes) (v : Volume) where
+  pub format-refused : ¬ (formatAnswerIn layout widths sizes v ≡ 0) → formatOutcomeIn layout widths sizes v ≡ record { answer = formatAnswerIn layout widths sizes v; second = 0; left = v }
+  unfolding formatOutcomeIn
+  format-refused h = settled-refused (formatAnswerIn layout widths sizes v) 0 0 v (formattedIn layout sizes) h
 
-  pub format-done : formatAnswer widths sizes v ≡ 0 → formatOutcome widths sizes v ≡ record { answer = 0; second = 0; left = formatted sizes }
-  unfolding formatOutcome
-  format-done e = settled-done (formatAnswer widths sizes v) 0 0 v (formatted sizes) e
+  pub format-done : formatAnswerIn layout widths sizes v ≡ 0 → formatOutcomeIn layout widths sizes v ≡ record { answer = 0; second = 0; left = formattedIn layout sizes }
+  unfolding formatOutcomeIn
+  format-done e = settled-done (formatAnswerIn layout widths sizes v) 0 0 v (formattedIn layout sizes) e
 
   module _ (page : ℕ) (out : List ℕ) where
-    pub read-refused : ¬ (readAnswer widths sizes v page out ≡ 0) → readOutcome widths sizes v page out ≡ record { answer = readAnswer widths sizes v page out; second = 0; left = out }
-    unfolding readOutcome
-    read-refused h = settled-refused (readAnswer widths sizes v page out) 0 0 out (bytesAt (sizes .width) (v .flash .contents) (readSlot (sizes .slots) v page)) h
+    pub read-refused : ¬ (readAnswerIn layout widths sizes v page out ≡ 0) → readOutcomeIn layout widths sizes v page out ≡ record { answer = readAnswerIn layout widths sizes v page out; second = 0; left = out }
+    unfolding readOutcomeIn
+    read-refused h = settled-refused (readAnswerIn layout widths sizes v page out) 0 0 out (bytesAt (sizes .width) (v .flash .contents) (readSlotIn layout (sizes .slots) v page)) h
 
-    pub read-done : readAnswer widths sizes v page out ≡ 0 → readOutcome widths sizes v page out ≡ record { answer = 0; second = 0; left = bytesAt (sizes .width) (v .flash .contents) (readSlot (sizes .slots) v page) }
-    unfolding readOutcome
-    read-done e = settled-done (readAnswer widths sizes v page out) 0 0 out (bytesAt (sizes .width) (v .flash .contents) (readSlot (sizes .slots) v page)) e
+    pub read-done : readAnswerIn layout widths sizes v page out ≡ 0 → readOutcomeIn layout widths sizes v page out ≡ record { answer = 0; second = 0; left = bytesAt (sizes .width) (v .flash .contents) (readSlotIn layout (sizes .slots) v page) }
+    unfolding readOutcomeIn
+    read-done e = settled-done (readAnswerIn layout widths sizes v page out) 0 0 out (bytesAt (sizes .width) (v .flash .contents) (readSlotIn layout (sizes .slots) v page)) e
 
 module _ (widths : Widths) (sizes : Sizes) (state pages : List ℕ) where
   pub launch-refused : ¬ (launchAnswer widths sizes state pages ≡ 0) → launchOutcome widths sizes state pages ≡ record { answer = launchAnswer widths sizes state pages; second = 0; left = state }

@@ -17,24 +17,45 @@ use Rattle.state.specs.declared.PageState.{PageState}
 use Rattle.state.specs.State.{inFlight}
 use Rattle.rules.specs.Permission.{isObsolete, isExposed, outdoneBy, supports, isNeeded, isCurrent, mayEraseRecord, mayErase, mayEraseAll}
 
+module _ (st : ℕ → PageState) (r : Record) where
+  -- "A record is obsolete if v is below its page's committed version, exposed if above."
+  abbrev pub Obsolete : Type 0
+  Obsolete = r .v < st (r .p) .committed
+
+  abbrev pub Exposed : Type 0
+  Exposed = st (r .p) .committed < r .v
+
+  -- "an exposed record other than one whose page is in flight with v = used"
+  abbrev pub ExposedSpare : Type 0
+  ExposedSpare = Exposed × ¬ ((inFlight (st (r .p)) ≡ true) × (r .v ≡ st (r .p) .used))
+
+  -- the tests say just this
+  pub obsolete-exactly : (isObsolete st r ≡ true) ↔ Obsolete
+  unfolding isObsolete
+  obsolete-exactly = below-test (r .v) (st (r .p) .committed)
+
+  pub exposed-exactly : (isExposed st r ≡ true) ↔ Exposed
+  unfolding isExposed
+  exposed-exactly = below-test (st (r .p) .committed) (r .v)
+
+  pub exposed-spare-exactly : ((isExposed st r && not (isCurrent st r)) ≡ true) ↔ ExposedSpare
+  unfolding isCurrent
+  exposed-spare-exactly =
+      conjoined (isExposed st r) (not (isCurrent st r)) exposed-exactly
+      (negated (isCurrent st r) (conjoined (inFlight (st (r .p))) (eqb (r .v) (st (r .p) .used)) (λ e. e, λ e. e) (equal-test (r .v) (st (r .p) .used))))
+
 module _ (S : ℕ) (t : ℕ → Slot) (st : ℕ → PageState) where
-  abbrev pub Obsolete : Record → Type 0
-  Obsolete r = r .v < st (r .p) .committed
-
-  abbrev pub Exposed : Record → Type 0
-  Exposed r = st (r .p) .committed < r .v
-
   -- "no record has the same page and c with a higher v, and some exposed record's link is straddled by K"
   pub record Needed (K : Record) : Type 0 where
     pub furthest : (k : ℕ) (r : Record) → k < S → t k ≡ Holds r → r .p ≡ K .p → r .c ≡ K .c → K .v < r .v → ⊥
-    pub supports : (k : ℕ) × (r : Record) × (k < S) × (t k ≡ Holds r) × (Exposed r × Straddles K r)
+    pub supports : (k : ℕ) × (r : Record) × (k < S) × (t k ≡ Holds r) × (Exposed st r × Straddles K r)
 
   -- "an obsolete record that is no needed straddler, or an exposed record other than one whose page is in flight with v = used"
   abbrev pub Erasable : Record → Type 0
-  Erasable r = (Obsolete r × ¬ (Needed r)) ⊎ (Exposed r × ¬ ((inFlight (st (r .p)) ≡ true) × (r .v ≡ st (r .p) .used)))
+  Erasable r = (Obsolete st r × ¬ (Needed r)) ⊎ ExposedSpare st r
 
   needed-exactly : (K : Record) → (isNeeded S t st K ≡ true) ↔ Needed K
-  unfolding isNeeded outdoneBy supports isExposed
+  unfolding isNeeded outdoneBy supports
   needed-exactly K = (
     λ e. let w = i .0 e in record { furthest = λ k r h f p c v. w .0 (k, r, h, f, (p, (c, v))); supports = w .1 },
     λ n. i .1 (λ w. n .furthest (w .0) (w .1) (w .2) (w .3) (w .4 .0) (w .4 .1 .0) (w .4 .1 .1), n .supports),
@@ -45,22 +66,21 @@ module _ (S : ℕ) (t : ℕ → Slot) (st : ℕ → PageState) where
           conjoined (eqb (r .p) (K .p)) (eqb (r .c) (K .c) && ltb (K .v) (r .v)) (equal-test (r .p) (K .p))
           (conjoined (eqb (r .c) (K .c)) (ltb (K .v) (r .v)) (equal-test (r .c) (K .c)) (below-test (K .v) (r .v)))
 
-      support : (r : Record) → (supports st K r ≡ true) ↔ (Exposed r × Straddles K r)
-      support r = conjoined (isExposed st r) (straddles K r) (below-test (st (r .p) .committed) (r .v)) (straddles-exactly K r)
+      support : (r : Record) → (supports st K r ≡ true) ↔ (Exposed st r × Straddles K r)
+      support r = conjoined (isExposed st r) (straddles K r) (exposed-exactly st r) (straddles-exactly K r)
 
-      i : (isNeeded S t st K ≡ true) ↔ (¬ ((k : ℕ) × (r : Record) × (k < S) × (t k ≡ Holds r) × ((r .p ≡ K .p) × ((r .c ≡ K .c) × (K .v < r .v)))) × ((k : ℕ) × (r : Record) × (k < S) × (t k ≡ Holds r) × (Exposed r × Straddles K r)))
+      i : (isNeeded S t st K ≡ true) ↔ (¬ ((k : ℕ) × (r : Record) × (k < S) × (t k ≡ Holds r) × ((r .p ≡ K .p) × ((r .c ≡ K .c) × (K .v < r .v)))) × ((k : ℕ) × (r : Record) × (k < S) × (t k ≡ Holds r) × (Exposed st r × Straddles K r)))
       i =
           conjoined (not (someRecord S t (outdoneBy K))) (someRecord S t (supports st K))
           (negated (someRecord S t (outdoneBy K)) (some-record S t (outdoneBy K) out))
           (some-record S t (supports st K) support)
 
   erasable-exactly : (r : Record) → (mayEraseRecord S t st r ≡ true) ↔ Erasable r
-  unfolding mayEraseRecord isObsolete isExposed isCurrent
+  unfolding mayEraseRecord
   erasable-exactly r =
       disjoined (isObsolete st r && not (isNeeded S t st r)) (isExposed st r && not (isCurrent st r))
-      (conjoined (isObsolete st r) (not (isNeeded S t st r)) (below-test (r .v) (st (r .p) .committed)) (negated (isNeeded S t st r) (needed-exactly r)))
-      (conjoined (isExposed st r) (not (isCurrent st r)) (below-test (st (r .p) .committed) (r .v))
-      (negated (isCurrent st r) (conjoined (inFlight (st (r .p))) (eqb (r .v) (st (r .p) .used)) (λ e. e, λ e. e) (equal-test (r .v) (st (r .p) .used)))))
+      (conjoined (isObsolete st r) (not (isNeeded S t st r)) (obsolete-exactly st r) (negated (isNeeded S t st r) (needed-exactly r)))
+      (exposed-spare-exactly st r)
 
   -- "A slot may be erased if it holds …"
   pub may-erase-exactly : (k : ℕ) → (mayErase S t st k ≡ true) ↔ ((r : Record) × (t k ≡ Holds r) × Erasable r)

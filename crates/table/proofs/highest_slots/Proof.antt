@@ -2,16 +2,16 @@ use Prim.Native.Nat.{_≤_, _-_}
 use native.Mathlib.Omega.{arith}
 use mathlib.Core.Path.{_≡_, refl}
 use Rattle.bounded.specs.Tabulate.{tabulate, tabulate-same}
-use Rattle.record.specs.Slot.{slotAt}
+use Rattle.record.specs.Slot.{slotIn}
 use Rattle.table.specs.HighestSlot.{highestSlot}
 use Rattle.table.proofs.highest_slots.Statement.{statement}
 use Rattle.table.proofs.highest_slots.Tie as tie
 
 abbrev Inv-loop : tie.InvT-loop
-Inv-loop sizes words top₀ k₀ top k = (k ≤ sizes .slots) × (top ≡ tabulate 256 (highestSlot (sizes .slots) k (slotAt words)))
+Inv-loop layout sizes words top₀ k₀ top k = (k ≤ sizes .slots) × (top ≡ tabulate 256 (highestSlot (sizes .slots) k (slotIn layout words)))
 
 abbrev μ-loop : tie.MeasureT-loop
-μ-loop sizes words top₀ k₀ top k = sizes .slots - k
+μ-loop layout sizes words top₀ k₀ top k = sizes .slots - k
 
 loop-holds : tie.Need-loop-holds Inv-loop μ-loop
 unfolding highestSlot

@@ -3,23 +3,26 @@ use native.Mathlib.Omega.{arith}
 use mathlib.Core.Path.{_≡_, sym, ap, _∙_}
 use mathlib.Core.Bool.{false}
 use Rattle.bounded.specs.BelowLaws.{first-is, first-none, below-suc}
-use Rattle.record.specs.Slot.{slotAt, holds}
+use Rattle.record.specs.Slot.{slotIn, holds}
 use Rattle.table.specs.Table.{ofVersion, lowestSlot}
+use Rattle.table.specs.Inside.{slot-inside}
 use Rattle.table.proofs.lowest_slot.Statement.{statement}
 use Rattle.table.proofs.lowest_slot.Tie as tie
 
 -- no slot below k holds the page at the version
 abbrev Inv-loop : tie.InvT-loop
-Inv-loop slots words page version k₀ k = (k ≤ slots) × ((j : ℕ) → j < k → holds (ofVersion page version) (slotAt words j) ≡ false)
+Inv-loop layout slots words page version k₀ k = (k ≤ slots) × ((j : ℕ) → j < k → holds (ofVersion page version) (slotIn layout words j) ≡ false)
 
 abbrev μ-loop : tie.MeasureT-loop
-μ-loop slots words page version k₀ k = slots - k
+μ-loop layout slots words page version k₀ k = slots - k
 
 loop-holds : tie.Need-loop-holds Inv-loop μ-loop
 loop-holds c = (omega arith, λ j h. absurd (omega arith))
 
-slot-at-requires : tie.Need-slot-at-requires Inv-loop μ-loop
-slot-at-requires c κs = omega arith
+slot-in-requires : tie.Need-slot-in-requires Inv-loop μ-loop
+slot-in-requires c κs =
+    let b = c .before .before .before in
+    slot-inside (b .args .layout) (b .args .slots) (c .before .loop .k) (b .args .words .now) (b .pre) (c .loop-test .taken)
 
 holds-version-requires : tie.Need-holds-version-requires Inv-loop μ-loop
 holds-version-requires c κs = tt
@@ -29,7 +32,7 @@ unfolding lowestSlot
 returns c =
     let l = c .before .before .before .before .loop in
     let a = c .before .before .before .before .before .before .args in
-    sym (first-is _ _ (l .k) (omega arith) (ap (holds (ofVersion (a .page) (a .version))) (sym (c .before .before .slot-at .ensures)) ∙ sym (c .before .holds-version .ensures) ∙ c .if1 .taken) (l .inv .1))
+    sym (first-is _ _ (l .k) (omega arith) (ap (holds (ofVersion (a .page) (a .version))) (sym (c .before .before .slot-in .ensures)) ∙ sym (c .before .holds-version .ensures) ∙ c .if1 .taken) (l .inv .1))
 
 add-k : tie.Need-add-k Inv-loop μ-loop
 add-k c = omega arith
@@ -44,7 +47,7 @@ loop-again c =
     let f = holds (ofVersion (a .page) (a .version)) in (
       omega arith,
       λ j h. below-suc j (l .k) (omega arith) (l .inv .1 j)
-          (λ q. ap (λ (x : ℕ). f (slotAt (a .words .now) x)) q ∙ ap f (sym (c .before .before .slot-at .ensures)) ∙ sym (c .before .holds-version .ensures) ∙ c .if1 .left),
+          (λ q. ap (λ (x : ℕ). f (slotIn (a .layout) (a .words .now) x)) q ∙ ap f (sym (c .before .before .slot-in .ensures)) ∙ sym (c .before .holds-version .ensures) ∙ c .if1 .left),
     )
 
 returns-2 : tie.Need-returns-2 Inv-loop μ-loop
@@ -55,4 +58,4 @@ returns-2 c =
 
 pub lowest-slot-spec : {M : Type 1} → statement M
 lowest-slot-spec =
-    tie.close (tie.spec Inv-loop μ-loop loop-holds slot-at-requires holds-version-requires returns add-k loop-less loop-again returns-2)
+    tie.close (tie.spec Inv-loop μ-loop loop-holds slot-in-requires holds-version-requires returns add-k loop-less loop-again returns-2)

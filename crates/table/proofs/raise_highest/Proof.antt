@@ -5,14 +5,17 @@ use mathlib.Core.Path.{sym, ap, _∙_}
 use mathlib.Core.List.{List}
 use lib.ListN.{set}
 use Rattle.record.specs.declared.Slot.{Slot}
-use Rattle.record.specs.Slot.{slotAt}
+use Rattle.record.specs.Slot.{slotIn}
 use Rattle.table.specs.Table.{above}
 use Rattle.table.specs.HighestSlot.{page-below, highest-read, highest-blank, highest-kept, highest-raised}
+use Rattle.table.specs.Inside.{slot-inside}
 use Rattle.table.proofs.raise_highest.Statement.{statement}
 use Rattle.table.proofs.raise_highest.Tie as tie
 
-slot-at-requires : tie.Need-slot-at-requires
-slot-at-requires c κs = search needs
+slot-in-requires : tie.Need-slot-in-requires
+slot-in-requires c κs =
+    let b = c .before in
+    slot-inside (b .args .layout) (b .args .sizes .slots) (b .args .k) (b .args .words .now) (b .pre .0) (b .pre .1 .1 .0)
 
 enum-known-record : tie.Need-enum-known-record
 enum-known-record c = search needs
@@ -23,7 +26,7 @@ enum-told c = search needs
 returns : tie.Need-returns
 returns c =
     c .before .before .before .before .pre .1 .1 .1 .1
-    ∙ highest-blank _ _ _ _ (sym (c .before .before .slot-at .ensures) ∙ c .enum-told .given .1)
+    ∙ highest-blank _ _ _ _ (sym (c .before .before .slot-in .ensures) ∙ c .enum-told .given .1)
 
 cast-p : tie.Need-cast-p
 cast-p c = search needs
@@ -35,7 +38,7 @@ mul-named-slot c = search needs
 element-copy-out-named-slot : tie.Need-element-copy-out-named-slot
 element-copy-out-named-slot c =
     let pre = c .before .before .before .before .before .before .pre in
-    let s = page-below _ _ _ _ _ (pre .1 .1 .1 .0) (pre .1 .1 .0) (sym (c .before .before .before .before .slot-at .ensures) ∙ c .before .before .«record» .given .1) in
+    let s = page-below _ _ _ _ _ (pre .1 .1 .1 .0) (pre .1 .1 .0) (sym (c .before .before .before .before .slot-in .ensures) ∙ c .before .before .«record» .given .1) in
     omega arith
 
 named-slot-requires : tie.Need-named-slot-requires
@@ -50,7 +53,7 @@ mul-top c = search needs
 element-write-top : tie.Need-element-write-top
 element-write-top c =
     let pre = c .before .before .before .before .before .before .before .before .before .before .pre in
-    let s = page-below _ _ _ _ _ (pre .1 .1 .1 .0) (pre .1 .1 .0) (sym (c .before .before .before .before .before .before .before .before .slot-at .ensures) ∙ c .before .before .before .before .before .before .«record» .given .1) in
+    let s = page-below _ _ _ _ _ (pre .1 .1 .1 .0) (pre .1 .1 .0) (sym (c .before .before .before .before .before .before .before .before .slot-in .ensures) ∙ c .before .before .before .before .before .before .«record» .given .1) in
     omega arith
 
 returns-2 : tie.Need-returns-2
@@ -59,12 +62,12 @@ returns-2 c =
     let a = b .before .before .before .before .args in
     let pre = b .before .before .before .before .pre in
     let r = b .«record» .given .0 .0 in
-    let holds = sym (b .before .before .slot-at .ensures) ∙ b .«record» .given .1 in
+    let holds = sym (b .before .before .slot-in .ensures) ∙ b .«record» .given .1 in
     let below : r .p < 256 = let s = page-below _ _ _ _ _ (pre .1 .1 .1 .0) (pre .1 .1 .0) holds in omega arith in
     ap (λ (l : List ℕ). set l (r .p) (a .k)) (pre .1 .1 .1 .1)
     ∙ highest-raised _ _ _ _ r holds below
     (ap (λ (s : Slot). above s r)
-    (sym (highest-read (a .sizes .slots) (slotAt (a .words .now)) 256 (a .k) (r .p) (a .top .now) below (omega arith) (pre .1 .1 .1 .1)) ∙ sym (c .before .before .named-slot .ensures))
+    (sym (highest-read (a .sizes .slots) (slotIn (a .layout) (a .words .now)) 256 (a .k) (r .p) (a .top .now) below (omega arith) (pre .1 .1 .1 .1)) ∙ sym (c .before .before .named-slot .ensures))
     ∙ sym (c .before .is-above .ensures)
     ∙ c .if1 .taken)
 
@@ -74,12 +77,12 @@ returns-3 c =
     let a = b .before .before .before .before .args in
     let pre = b .before .before .before .before .pre in
     let r = b .«record» .given .0 .0 in
-    let holds = sym (b .before .before .slot-at .ensures) ∙ b .«record» .given .1 in
+    let holds = sym (b .before .before .slot-in .ensures) ∙ b .«record» .given .1 in
     let below : r .p < 256 = let s = page-below _ _ _ _ _ (pre .1 .1 .1 .0) (pre .1 .1 .0) holds in omega arith in
     pre .1 .1 .1 .1
     ∙ highest-kept _ _ _ _ r holds
     (ap (λ (s : Slot). above s r)
-    (sym (highest-read (a .sizes .slots) (slotAt (a .words .now)) 256 (a .k) (r .p) (a .top .now) below (omega arith) (pre .1 .1 .1 .1)) ∙ sym (c .before .before .named-slot .ensures))
+    (sym (highest-read (a .sizes .slots) (slotIn (a .layout) (a .words .now)) 256 (a .k) (r .p) (a .top .now) below (omega arith) (pre .1 .1 .1 .1)) ∙ sym (c .before .before .named-slot .ensures))
     ∙ sym (c .before .is-above .ensures)
     ∙ c .if1 .left)
 
@@ -87,7 +90,7 @@ pub raise-highest-spec : {M : Type 1} → statement M
 raise-highest-spec =
     tie.close
     (tie.spec
-    slot-at-requires
+    slot-in-requires
     enum-known-record
     enum-told
     returns

@@ -4,22 +4,25 @@ use mathlib.Core.Path.{_≡_, sym, _∙_}
 use mathlib.Core.Bool.{false}
 use Rattle.bounded.specs.Below.{someBelow}
 use Rattle.bounded.specs.BelowLaws.{some-zero, some-more, some-of}
-use Rattle.record.specs.Slot.{slotAt}
+use Rattle.record.specs.Slot.{slotIn}
 use Rattle.table.specs.Table.{clash, someClash}
+use Rattle.table.specs.Inside.{slot-inside}
 use Rattle.table.proofs.some_clash.Statement.{statement}
 use Rattle.table.proofs.some_clash.Tie as tie
 
 abbrev Inv-loop : tie.InvT-loop
-Inv-loop slots words k₀ k = (k ≤ slots) × (someBelow k (λ i. someBelow i (λ j. clash (slotAt words j) (slotAt words i))) ≡ false)
+Inv-loop layout slots words k₀ k = (k ≤ slots) × (someBelow k (λ i. someBelow i (λ j. clash (slotIn layout words j) (slotIn layout words i))) ≡ false)
 
 abbrev μ-loop : tie.MeasureT-loop
-μ-loop slots words k₀ k = slots - k
+μ-loop layout slots words k₀ k = slots - k
 
 loop-holds : tie.Need-loop-holds Inv-loop μ-loop
 loop-holds c = (omega arith, some-zero _)
 
 some-clash-below-requires : tie.Need-some-clash-below-requires Inv-loop μ-loop
-some-clash-below-requires c κs = omega arith
+some-clash-below-requires c κs =
+    let b = c .before .before .before in
+    slot-inside (b .args .layout) (b .args .slots) (c .before .loop .k) (b .args .words .now) (b .pre) (c .loop-test .taken)
 
 returns : tie.Need-returns Inv-loop μ-loop
 unfolding someClash

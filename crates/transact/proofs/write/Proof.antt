@@ -2,11 +2,11 @@ use Prim.Native.Nat.{ℕ}
 use mathlib.Core.Path.{refl, sym, ap, _∙_, subst}
 use mathlib.Core.Bool.{true, false}
 use borrow.Author.Needs.{needs}
+use Rattle.bounded.specs.Limits.{twoWidths}
 use Rattle.outcome.specs.Outcome.{returned}
 use Rattle.outcome.specs.Reply.{Replies, reply-refused, reply-done}
-use Rattle.rules.specs.Volume.{Volume}
-use Rattle.rules.specs.Write.{writeOutcome}
-use Rattle.transact.specs.Accepted.{write-accepted, write-leaves, write-says}
+use Rattle.rules.specs.Volume.{Volume, volume}
+use Rattle.transact.specs.Accepted.{write-accepted, write-leaves, write-says, outcome-in}
 use Rattle.transact.proofs.write.Statement.{statement}
 use Rattle.transact.proofs.write.Tie as tie
 
@@ -26,19 +26,34 @@ same-length-3 : tie.Need-same-length-3
 same-length-3 c = search needs
 
 returns : tie.Need-returns
-unfolding writeOutcome
 returns c =
-    reply-refused (c .reply .result) (c .before .before .write-answer .result) 0 _ _ _ (c .reply .ensures) (c .before .before .write-answer .ensures) (c .before .if1 .taken)
+    let x = c .before .before in
+    let a = x .before .before .before .before .before .before .before .before .args in
+    let v = volume (a .words .now) (a .contents .now) (a .state .now) in
+    reply-refused (c .reply .result) (x .write-answer .result) 0 _ _ _ (c .reply .ensures) (x .write-answer .ensures) (c .before .if1 .taken)
+    ∙ outcome-in (a .layout) twoWidths (a .sizes) v (a .page) (a .slot) (a .bytes .now)
 
 plan-of-requires : tie.Need-plan-of-requires
-plan-of-requires c κs = write-accepted _ _ _ _ _ _ (sym (c .before .before .before .before .write-answer .ensures) ∙ c .before .before .before .if1 .left) .walkable
+plan-of-requires c κs =
+    let x = c .before .before .before .before in
+    let a = x .before .before .before .before .before .before .before .before .args in
+    let v = volume (a .words .now) (a .contents .now) (a .state .now) in
+    write-accepted (a .layout) twoWidths (a .sizes) v (a .page) (a .slot) (a .bytes .now) (sym (x .write-answer .ensures) ∙ c .before .before .before .if1 .left) .walkable
 
 put-slot-requires : tie.Need-put-slot-requires
 put-slot-requires c κs =
-    let a = write-accepted _ _ _ _ _ _ (sym (c .before .before .before .before .before .write-answer .ensures) ∙ c .before .before .before .before .if1 .left) in (a .words-in, a .contents-in)
+    let x = c .before .before .before .before .before in
+    let a = x .before .before .before .before .before .before .before .before .args in
+    let v = volume (a .words .now) (a .contents .now) (a .state .now) in
+    let w = write-accepted (a .layout) twoWidths (a .sizes) v (a .page) (a .slot) (a .bytes .now) (sym (x .write-answer .ensures) ∙ c .before .before .before .before .if1 .left) in
+    (w .words-in, w .contents-in)
 
 write-page-requires : tie.Need-write-page-requires
-write-page-requires c κs = write-accepted _ _ _ _ _ _ (sym (c .before .before .before .before .before .before .before .before .before .before .before .write-answer .ensures) ∙ c .before .before .before .before .before .before .before .before .before .before .if1 .left) .walkable
+write-page-requires c κs =
+    let x = c .before .before .before .before .before .before .before .before .before .before .before in
+    let a = x .before .before .before .before .before .before .before .before .args in
+    let v = volume (a .words .now) (a .contents .now) (a .state .now) in
+    write-accepted (a .layout) twoWidths (a .sizes) v (a .page) (a .slot) (a .bytes .now) (sym (x .write-answer .ensures) ∙ c .before .before .before .before .before .before .before .before .before .before .if1 .left) .walkable
 
 reply-requires-2 : tie.Need-reply-requires-2
 reply-requires-2 c κs = search needs
@@ -53,16 +68,19 @@ same-length-6 : tie.Need-same-length-6
 same-length-6 c = search needs
 
 returns-2 : tie.Need-returns-2
-unfolding writeOutcome
 returns-2 c =
-    let z = sym (c .before .before .before .before .before .before .before .before .before .before .before .before .before .before .before .before .write-answer .ensures) ∙ c .before .before .before .before .before .before .before .before .before .before .before .before .before .before .before .if1 .left in
+    let x = c .before .before .before .before .before .before .before .before .before .before .before .before .before .before .before .before in
+    let a = x .before .before .before .before .before .before .before .before .args in
+    let v = volume (a .words .now) (a .contents .now) (a .state .now) in
+    let z = sym (x .write-answer .ensures) ∙ c .before .before .before .before .before .before .before .before .before .before .before .before .before .before .before .if1 .left in
     let w = c .before .before .before .before .write-page in
     let flash = c .before .before .before .before .before .before .before .before .before .before .put-slot in
     let plan = c .before .before .before .before .before .before .before .before .before .before .before .plan-of in
-    ap (returned {B = Volume} (c .reply2 .result)) (write-leaves _ _ _ _ _ _ z (plan .result) (plan .ensures) (flash .ensures .0) (flash .ensures .1) (w .ensures .1))
+    ap (returned {B = Volume} (c .reply2 .result)) (write-leaves (a .layout) twoWidths (a .sizes) v (a .page) (a .slot) (a .bytes .now) z (plan .result) (plan .ensures) (flash .ensures .0) (flash .ensures .1) (w .ensures .1))
     ∙ reply-done (c .reply2 .result) 0 0 _ _ _
-    (subst (λ (s : ℕ). Replies (c .reply2 .result) 0 s) (sym (write-says _ _ _ _ _ _ z true (w .ensures .0) (c .before .if2 .taken))) (c .reply2 .ensures))
-    (sym (c .before .before .before .before .before .before .before .before .before .before .before .before .before .before .before .if1 .left) ∙ c .before .before .before .before .before .before .before .before .before .before .before .before .before .before .before .before .write-answer .ensures) refl
+    (subst (λ (s : ℕ). Replies (c .reply2 .result) 0 s) (sym (write-says (a .layout) twoWidths (a .sizes) v (a .page) (a .slot) (a .bytes .now) z true (w .ensures .0) (c .before .if2 .taken))) (c .reply2 .ensures))
+    (sym (c .before .before .before .before .before .before .before .before .before .before .before .before .before .before .before .if1 .left) ∙ x .write-answer .ensures) refl
+    ∙ outcome-in (a .layout) twoWidths (a .sizes) v (a .page) (a .slot) (a .bytes .now)
 
 reply-requires-3 : tie.Need-reply-requires-3
 reply-requires-3 c κs = search needs
@@ -77,16 +95,19 @@ same-length-9 : tie.Need-same-length-9
 same-length-9 c = search needs
 
 returns-3 : tie.Need-returns-3
-unfolding writeOutcome
 returns-3 c =
-    let z = sym (c .before .before .before .before .before .before .before .before .before .before .before .before .before .before .before .before .write-answer .ensures) ∙ c .before .before .before .before .before .before .before .before .before .before .before .before .before .before .before .if1 .left in
+    let x = c .before .before .before .before .before .before .before .before .before .before .before .before .before .before .before .before in
+    let a = x .before .before .before .before .before .before .before .before .args in
+    let v = volume (a .words .now) (a .contents .now) (a .state .now) in
+    let z = sym (x .write-answer .ensures) ∙ c .before .before .before .before .before .before .before .before .before .before .before .before .before .before .before .if1 .left in
     let w = c .before .before .before .before .write-page in
     let flash = c .before .before .before .before .before .before .before .before .before .before .put-slot in
     let plan = c .before .before .before .before .before .before .before .before .before .before .before .plan-of in
-    ap (returned {B = Volume} (c .reply3 .result)) (write-leaves _ _ _ _ _ _ z (plan .result) (plan .ensures) (flash .ensures .0) (flash .ensures .1) (w .ensures .1))
+    ap (returned {B = Volume} (c .reply3 .result)) (write-leaves (a .layout) twoWidths (a .sizes) v (a .page) (a .slot) (a .bytes .now) z (plan .result) (plan .ensures) (flash .ensures .0) (flash .ensures .1) (w .ensures .1))
     ∙ reply-done (c .reply3 .result) 0 0 _ _ _
-    (subst (λ (s : ℕ). Replies (c .reply3 .result) 0 s) (sym (write-says _ _ _ _ _ _ z false (w .ensures .0) (c .before .if2 .left))) (c .reply3 .ensures))
-    (sym (c .before .before .before .before .before .before .before .before .before .before .before .before .before .before .before .if1 .left) ∙ c .before .before .before .before .before .before .before .before .before .before .before .before .before .before .before .before .write-answer .ensures) refl
+    (subst (λ (s : ℕ). Replies (c .reply3 .result) 0 s) (sym (write-says (a .layout) twoWidths (a .sizes) v (a .page) (a .slot) (a .bytes .now) z false (w .ensures .0) (c .before .if2 .left))) (c .reply3 .ensures))
+    (sym (c .before .before .before .before .before .before .before .before .before .before .before .before .before .before .before .if1 .left) ∙ x .write-answer .ensures) refl
+    ∙ outcome-in (a .layout) twoWidths (a .sizes) v (a .page) (a .slot) (a .bytes .now)
 
 pub write-spec : {M : Type 1} → statement M
 write-spec =

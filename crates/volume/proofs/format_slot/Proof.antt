@@ -22,7 +22,7 @@ returns c =
     let a = c .before .before .before .before .before .before .before .before .before .before .before .before .args in
     let s = c .before .before .before .before .fill-slot in
     let h = c .before .before .before .before .before .before .before .before .if1 .taken in (
-      rw (words-of-page (a .sizes .pages) (a .slot) h, ← c .before .before .before .before .before .before .before .formatted .ensures) (s .ensures .0),
+      rw (words-of-page (a .sizes .pages) (a .slot) (a .layout) h, ← c .before .before .before .before .before .before .before .formatted .ensures) (s .ensures .0),
       rw (bytes-of-page (a .sizes .pages) (a .slot) (a .sizes .width) h) (s .ensures .1),
     )
 
@@ -41,7 +41,7 @@ returns-2 c =
     let a = c .before .before .before .before .before .before .before .before .before .before .before .args in
     let s = c .before .before .before .before .fill-slot2 in
     let h = c .before .before .before .before .before .before .before .if1 .left in (
-      rw (words-of-free (a .sizes .pages) (a .slot) h) (s .ensures .0),
+      rw (words-of-free (a .sizes .pages) (a .slot) (a .layout) h) (s .ensures .0),
       rw (bytes-of-free (a .sizes .pages) (a .slot) (a .sizes .width) h) (s .ensures .1),
     )
 

@@ -1,113 +1,74 @@
-//! Document 01's table of cases, by the implementation under test and by the second one.
+//! Document 01's table of cases and those of document 02's four-word records, by the implementation under test and by the second one.
+
+pub mod five_words;
+pub mod four_words;
 
 use crate::harness::Group;
 use crate::implementations::reference::Reference;
 use crate::implementations::TESTED;
-use crate::interface::{Calls, Reply, SLOT_WORDS};
-use crate::rules::{entry, records, set_entry, Entry};
-use crate::volume::{Call, Sizes, Volume};
+use crate::interface::{Calls, Family, Reply};
+use crate::rules::{entry, set_entry, Entry, Record};
+use crate::volume::{Call, Layout, Volume};
 
-pub fn tests(group: &mut Group, width: u32) {
-    type Case = (&'static str, fn(&dyn Calls, u32));
-    let all: [Case; 6] = [
-        ("cases 1 to 5 and 11: what recovery finds", recoveries),
-        ("cases 9 and 10: what recovery refuses", refused_recoveries),
-        ("cases 6 to 8: needed straddlers", needed_straddlers),
-        ("case 12: the last version", last_version),
-        ("sizes", sizes),
-        ("a transaction all written", all_written),
-    ];
-    for (name, case) in all {
-        group.plain(name, || case(TESTED, width));
-        group.plain(&format!("{name}, second implementation"), || case(&Reference, width));
+type Case = (&'static str, fn(&dyn Calls, Layout));
+
+const FIVE_WORDS: &[Case] = &[
+    ("cases 1 to 5 and 11: what recovery finds", five_words::recoveries),
+    ("cases 9 and 10: what recovery refuses", five_words::refused_recoveries),
+    ("cases 6 to 8: needed straddlers", five_words::needed_straddlers),
+];
+
+const FOUR_WORDS: &[Case] = &[
+    ("cases 1 to 3 and 11 without c: what recovery finds", four_words::recoveries),
+    ("cases 4 and 5 without c: case 1 of recovery means committed", four_words::case_1_is_committed),
+    ("an uncommitted highest version gives the second highest", four_words::second_highest),
+    ("what recovery refuses: equal records, links astray, no second version", four_words::refused_recoveries),
+    ("writes that would bury a record by its page and by its link", four_words::buried),
+    ("a write that would bury to a slot that is not blank", four_words::not_blank_first),
+    ("rings of one, two and three pages, written in any order", four_words::rings),
+    ("any obsolete record may be erased", four_words::obsolete),
+    ("an exposed record may be erased but not at used in flight", four_words::exposed),
+];
+
+const OF_BOTH: &[Case] = &[("case 12: the last version", last_version), ("sizes", sizes), ("a transaction all written", all_written)];
+
+pub fn tests(group: &mut Group, layout: Layout) {
+    let own = match layout.family {
+        Family::Bpcc => FIVE_WORDS,
+        Family::Scc => FOUR_WORDS,
+    };
+    for (name, case) in own.iter().chain(OF_BOTH) {
+        group.plain(name, || case(TESTED, layout));
+        group.plain(&format!("{name}, second implementation"), || case(&Reference, layout));
     }
 }
 
-type Five = [u32; SLOT_WORDS];
-
-/// F: the formatted records of P pages, and further records.
-fn formatted_and(pages: u32, more: &[Five]) -> Vec<Five> {
-    (0..pages).map(|i| [i, 0, 0, i, 0]).chain(more.iter().copied()).collect()
-}
-
 /// Recovers a table and gives the reply, the committed and the used versions.
-fn recovered(calls: &dyn Calls, width: u32, pages: u32, held: &[Five]) -> (Reply, Vec<u32>, Vec<u32>) {
-    let mut v = Volume::with_records(Sizes::new(pages, held.len() as u32 + 1, width), held);
+fn recovered(calls: &dyn Calls, layout: Layout, pages: u32, held: &[impl Into<Record> + Copy]) -> (Reply, Vec<u32>, Vec<u32>) {
+    let mut v = Volume::with_records(layout.sizes(pages, held.len() as u32 + 1), held);
     let reply = v.call(calls, &Call::Recover);
     let of = |field: &dyn Fn(Entry) -> u32| (0..pages).map(|p| field(entry(&v.state, p))).collect();
     (reply, of(&|e| e.committed), of(&|e| e.used))
 }
 
-/// Case 4's table.
-fn case_4() -> Vec<Five> {
-    formatted_and(3, &[[0, 1, 0, 1, 1], [1, 2, 0, 2, 1], [2, 1, 0, 1, 2]])
-}
-
-/// Cases 1 to 5 and 11: what recovery finds, and the links that it follows from page 0, from page 1 and so on.
-fn recoveries(calls: &dyn Calls, width: u32) {
-    let found = |pages: u32, held: &[Five]| recovered(calls, width, pages, held);
-    let two = [[0, 1, 0, 1, 1]];
-    let three = [two[0], [1, 1, 0, 0, 1]];
-    let five = [[0, 1, 0, 1, 1], [1, 2, 1, 2, 1], [2, 1, 0, 1, 2]];
-    let eleven = [two[0], [1, 1, 0, 0, 2]];
-    assert_eq!(found(1, &formatted_and(1, &[])), (Reply::done(1), vec![0], vec![0]), "case 1");
-    assert_eq!(found(2, &formatted_and(2, &two)), (Reply::done(1 + 1), vec![0, 0], vec![1, 1]), "case 2");
-    assert_eq!(found(2, &formatted_and(2, &three)), (Reply::done(2 + 2), vec![1, 1], vec![1, 1]), "case 3");
-    assert_eq!(found(3, &case_4()), (Reply::done(1 + 2 + 2), vec![0, 2, 1], vec![1, 2, 1]), "case 4");
-    assert_eq!(found(3, &five), (Reply::done(1 + 2 + 2), vec![1, 2, 1], vec![1, 2, 1]), "case 5");
-    assert_eq!(found(3, &formatted_and(3, &five)), (Reply::done(1 + 2 + 2), vec![1, 2, 1], vec![1, 2, 1]), "case 5 with F");
-    assert_eq!(found(2, &formatted_and(2, &eleven)), (Reply::done(2 + 1), vec![0, 0], vec![2, 1]), "case 11");
-}
-
-/// Cases 9 and 10: what recovery refuses, its state untouched.
-fn refused_recoveries(calls: &dyn Calls, width: u32) {
-    let nine = [[0, 1, 0, 1, 1], [1, 1, 0, 2, 1], [2, 1, 0, 1, 1]];
-    let ten = [[0, 2, 1, 1, 5], [1, 0, 0, 1, 0]];
-    for (name, pages, held, answer) in [("case 9", 3, &nine[..], 4), ("case 10", 2, &ten[..], 14)] {
-        let before = Volume::with_records(Sizes::new(pages, 8, width), held);
-        let mut v = before.clone();
-        assert_eq!(v.call(calls, &Call::Recover), Reply::refused(answer), "{name}");
-        assert!(v == before, "{name} leaves the state");
-    }
-}
-
-/// Case 6's volume: case 4 recovered, then page 1 alone launched and written.
-fn case_6(calls: &dyn Calls, width: u32) -> Volume {
-    let mut v = Volume::with_records(Sizes::new(3, 8, width), &case_4());
-    assert_eq!(v.call(calls, &Call::Recover).answer, 0);
-    assert_eq!(v.call(calls, &Call::Launch(vec![1])).answer, 0);
-    assert_eq!(v.call(calls, &Call::Write { page: 1, slot: 7, bytes: vec![9; width as usize] }), Reply::done(1));
-    assert_eq!(&v.words[35..40], &[1, 3, 2, 1, 3]);
-    v
+/// Recovery of a table is refused, its state untouched.
+fn assert_refused(calls: &dyn Calls, layout: Layout, pages: u32, held: &[impl Into<Record> + Copy], answer: u32, name: &str) {
+    let before = Volume::with_records(layout.sizes(pages, 8), held);
+    let mut v = before.clone();
+    assert_eq!(v.call(calls, &Call::Recover), Reply::refused(answer), "{name}");
+    assert!(v == before, "{name} leaves the state");
 }
 
 /// The slot of a record.
-fn slot_of(v: &Volume, five: Five) -> u32 {
-    records(&v.words).iter().find(|(_, r)| r.words() == five).expect("the record is there").0
-}
-
-/// Cases 6, 7 and 8: a needed straddler stays until the exposed record that needs it is gone.
-fn needed_straddlers(calls: &dyn Calls, width: u32) {
-    let v = case_6(calls, width);
-    let straddler = slot_of(&v, [1, 2, 0, 2, 1]);
-    let exposed = slot_of(&v, [0, 1, 0, 1, 1]);
-    let old = slot_of(&v, [1, 0, 0, 1, 0]);
-    let erase = |v: &mut Volume, list: &[u32]| v.call(calls, &Call::Erase(list.to_vec())).answer;
-    assert_eq!(erase(&mut v.clone(), &[straddler]), 12, "case 6");
-    let mut seven = v.clone();
-    assert_eq!((erase(&mut seven, &[exposed]), erase(&mut seven, &[straddler])), (0, 0), "case 7");
-    for both in [[exposed, straddler], [straddler, exposed]] {
-        let mut together = v.clone();
-        assert_eq!(erase(&mut together, &both), 12, "case 7, both in one call");
-        assert!(together == v, "case 7 leaves the volume");
-    }
-    assert_eq!(erase(&mut v.clone(), &[old]), 0, "case 8");
+fn slot_of(v: &Volume, record: impl Into<Record>) -> u32 {
+    let record = record.into();
+    v.records().iter().find(|&&(_, r)| r == record).expect("the record is there").0
 }
 
 /// Case 12: the last version there is.
-fn last_version(calls: &dyn Calls, width: u32) {
+fn last_version(calls: &dyn Calls, layout: Layout) {
     for committed in [0, 1, 4_294_967_292, 4_294_967_293] {
-        let mut v = Volume::formatted(calls, Sizes::new(2, 4, width));
+        let mut v = Volume::formatted(calls, layout.sizes(2, 4));
         let used = 4_294_967_293;
         let e = entry(&v.state, 0);
         set_entry(&mut v.state, 0, Entry { committed, used, ..e });
@@ -117,21 +78,21 @@ fn last_version(calls: &dyn Calls, width: u32) {
 }
 
 /// The sizes below the table of cases.
-fn sizes(calls: &dyn Calls, width: u32) {
+fn sizes(calls: &dyn Calls, layout: Layout) {
     for (pages, slots, answer) in [(0, 4, 1), (257, 1024, 1), (2, 1025, 1), (3, 2, 1), (256, 1024, 0), (256, 256, 0), (1, 1, 0)] {
-        let mut v = Volume::zeroed(Sizes { pages, slots, width });
+        let mut v = Volume::zeroed(layout.sizes(pages, slots));
         assert_eq!(v.format(calls).answer, answer, "P={pages} S={slots}");
     }
 }
 
 /// A transaction all of whose pages are already written: each write is 10, and withdraw ends it.
-fn all_written(calls: &dyn Calls, width: u32) {
-    let mut v = Volume::formatted(calls, Sizes::new(3, 6, width));
+fn all_written(calls: &dyn Calls, layout: Layout) {
+    let mut v = Volume::formatted(calls, layout.sizes(3, 6));
     for (page, next) in [(0, 1), (1, 0)] {
         set_entry(&mut v.state, page, Entry { committed: 0, used: 1, next, written: 1 });
     }
     for page in [0, 1] {
-        assert_eq!(v.call(calls, &Call::Write { page, slot: 4, bytes: vec![0; width as usize] }), Reply::refused(10));
+        assert_eq!(v.call(calls, &Call::Write { page, slot: 4, bytes: vec![0; layout.width as usize] }), Reply::refused(10));
     }
     assert_eq!(v.call(calls, &Call::Withdraw(1)).answer, 0);
     assert_eq!([0, 1].map(|p| entry(&v.state, p).in_flight()), [false, false]);

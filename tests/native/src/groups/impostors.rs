@@ -4,18 +4,20 @@ use super::calls::volumes;
 use super::runs::small_runs;
 use crate::harness::{said, Group};
 use crate::implementations::compared::Compared;
-use crate::implementations::impostors::{faults, Impostor, LOSING, LOSING_64};
+use crate::implementations::impostors::faults::{faults, losing};
+use crate::implementations::impostors::Impostor;
+use crate::volume::Layout;
 use std::panic::{catch_unwind, AssertUnwindSafe};
 
-pub fn tests(group: &mut Group, width: u32) {
-    for fault in faults() {
-        group.test(&format!("{fault:?} differs"), || caught(|| volumes::compare(&Compared::new(&Impostor(fault)), width, 100_000, 1)));
+pub fn tests(group: &mut Group, layout: Layout) {
+    for fault in faults(layout.family) {
+        group.test(&format!("{fault:?} differs"), || caught(|| volumes::compare(&Compared::new(&Impostor(fault)), layout, 100_000, 1)));
     }
-    for fault in LOSING.into_iter().chain(LOSING_64.into_iter().filter(|_| width == 64)) {
+    for fault in losing(layout.family, layout.width) {
         group.test(&format!("{fault:?} loses a page in runs with crashes"), || {
             caught(|| {
                 for pages in (1..=6).rev() {
-                    small_runs(&Impostor(fault), width, pages, 100, 400);
+                    small_runs(&Impostor(fault), layout, pages, 100, 400);
                 }
             })
         });

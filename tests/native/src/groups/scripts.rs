@@ -10,11 +10,13 @@ use crate::harness::Group;
 use crate::implementations::reference::Reference;
 use crate::implementations::{script_program, TESTED};
 use crate::random::Random;
+use crate::volume::Layout;
 use by_hand::by_hand;
 use printed::{assert_prints, printed_by, printed_in_pieces};
 use std::time::Instant;
 
-pub fn tests(group: &mut Group, width: u32) {
+pub fn tests(group: &mut Group, layout: Layout) {
+    let width = layout.width;
     let program = std::env::var("BPCC_SCRIPT").ok();
     let passed = group.passed;
     for s in by_hand(width) {

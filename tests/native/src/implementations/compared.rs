@@ -70,8 +70,9 @@ impl Copies {
 
     /// The arguments with the copies in place of the buffers.
     fn lent(&mut self, a: &Arguments) -> Arguments<'_> {
-        let &Arguments { pages, slots, width, page, slot, .. } = a;
+        let &Arguments { family, pages, slots, width, page, slot, .. } = a;
         Arguments {
+            family,
             pages,
             slots,
             width,

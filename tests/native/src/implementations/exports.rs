@@ -2,7 +2,7 @@
 #![allow(clippy::missing_safety_doc, clippy::too_many_arguments)]
 
 use super::reference::Reference;
-use crate::interface::{calls, Arguments, Calls, Name};
+use crate::interface::{calls, Arguments, Calls, Family, Name};
 use std::ffi::c_void;
 use std::slice::{from_raw_parts, from_raw_parts_mut};
 
@@ -34,27 +34,27 @@ impl<T> Lent for &mut [T] {
 /// Defines the calls. The parameters of each are gone through one by one, and two lists grow: those of the C function, where a buffer is
 /// an address and a length, and the statements that enter them in the arguments.
 macro_rules! export {
-    ($($name:ident $c:ident ($($parameter:tt),*))*) => {
-        $(export! { $name $c arguments, from ($($parameter)*) to () () })*
+    ($($family:ident $name:ident $c:ident ($($parameter:tt),*))*) => {
+        $(export! { $family $name $c arguments, from ($($parameter)*) to () () })*
     };
-    ($name:ident $c:ident $a:ident, from ([$buffer:ident] $($rest:tt)*) to ($($taken:tt)*) ($($entered:tt)*)) => {
+    ($family:ident $name:ident $c:ident $a:ident, from ([$buffer:ident] $($rest:tt)*) to ($($taken:tt)*) ($($entered:tt)*)) => {
         export! {
-            $name $c $a, from ($($rest)*) to
+            $family $name $c $a, from ($($rest)*) to
             ($($taken)* address: *mut c_void, length: usize,)
             ($($entered)* $a.$buffer = Lent::lent(address, length);)
         }
     };
-    ($name:ident $c:ident $a:ident, from ($number:ident $($rest:tt)*) to ($($taken:tt)*) ($($entered:tt)*)) => {
+    ($family:ident $name:ident $c:ident $a:ident, from ($number:ident $($rest:tt)*) to ($($taken:tt)*) ($($entered:tt)*)) => {
         export! {
-            $name $c $a, from ($($rest)*) to
+            $family $name $c $a, from ($($rest)*) to
             ($($taken)* $number: u32,)
             ($($entered)* $a.$number = $number;)
         }
     };
-    ($name:ident $c:ident $a:ident, from () to ($($taken:tt)*) ($($entered:tt)*)) => {
+    ($family:ident $name:ident $c:ident $a:ident, from () to ($($taken:tt)*) ($($entered:tt)*)) => {
         #[no_mangle]
         pub unsafe extern "C" fn $c($($taken)*) -> u64 {
-            let mut $a = Arguments::default();
+            let mut $a = Arguments { family: Family::$family, ..Arguments::default() };
             $($entered)*
             Reference.call(Name::$name, &mut $a).to_u64()
         }

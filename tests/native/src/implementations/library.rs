@@ -1,6 +1,6 @@
-//! The C library through include/bpcc.h's boundary.
+//! The C library through the boundary of include/bpcc.h and include/scc.h.
 
-use crate::interface::{calls, Arguments, Calls, Name, Reply};
+use crate::interface::{calls, Arguments, Calls, Family, Name, Reply};
 use std::ffi::c_void;
 
 /// The static library.
@@ -25,7 +25,7 @@ impl<T> Lent for &mut [T] {
 
 /// Declares the calls and makes them: a number is passed as it is, a buffer as its address and its length.
 macro_rules! library {
-    ($($name:ident $c:ident ($($($number:ident)? $([$buffer:ident])?),*))*) => {
+    ($($family:ident $name:ident $c:ident ($($($number:ident)? $([$buffer:ident])?),*))*) => {
         #[link(name = "bpcc", kind = "static")]
         extern "C" {
             $(fn $c($($($number: u32)? $($buffer: *mut c_void, _: usize)?),*) -> u64;)*
@@ -34,10 +34,11 @@ macro_rules! library {
         impl Calls for Library {
             fn call(&self, name: Name, arguments: &mut Arguments) -> Reply {
                 // SAFETY: a Rust slice is really there, as long as its length, aligned for its type, and no two slices of one call overlap.
-                Reply::from_u64(match name {
-                    $(Name::$name => unsafe {
+                Reply::from_u64(match (arguments.family, name) {
+                    $((Family::$family, Name::$name) => unsafe {
                         $c($($(arguments.$number)? $(arguments.$buffer.address(), arguments.$buffer.len())?),*)
                     })*
+                    (family, name) => panic!("{family:?} has no {name}"),
                 })
             }
         }

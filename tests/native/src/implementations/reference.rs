@@ -1,9 +1,10 @@
 //! The second implementation of the calls, written from documents 01 and 02 for clarity and not for speed.
 
-use crate::interface::{Arguments, Calls, Name, Reply, NONE, WIDTHS};
+use crate::interface::{Arguments, Calls, Family, Name, Reply, NONE, WIDTHS};
 use crate::rules::{
-    contents_fit, cycle, entry, follow, highest_records, list_wrong, lowest_slot, may_erase, planned, records, set_entry, set_slot,
-    sizes_fit, slot, slot_bytes, state_fits, state_sound, table_sound, words_fit, End, Entry, Record, Walk, LAST_VERSION,
+    committed_before, contents_fit, cycle, entry, follow, highest_records, list_wrong, lowest_slot, may_erase, planned, records, set_entry,
+    set_slot, sizes_fit, slot, slot_bytes, state_fits, state_sound, table_sound, used_version, words_fit, would_bury, End, Entry, Record,
+    Walk, LAST_VERSION,
 };
 
 /// The second implementation.
@@ -63,7 +64,7 @@ fn state_misfits(a: &Arguments) -> bool {
 
 /// The same, of one that takes the slot table too.
 fn table_misfits(a: &Arguments) -> bool {
-    state_misfits(a) || !words_fit(a.slots, a.words)
+    state_misfits(a) || !words_fit(a.family, a.slots, a.words)
 }
 
 /// The same, of one that takes the contents too.
@@ -71,12 +72,17 @@ fn volume_misfits(a: &Arguments) -> bool {
     table_misfits(a) || !contents_fit(a.slots, a.width, a.contents)
 }
 
+/// "A slot neither blank nor sound."
+fn slot_unsound(a: &Arguments) -> bool {
+    !table_sound(a.family, a.pages, a.words)
+}
+
 fn format(a: &mut Arguments) -> Outcome {
     refuse(1, volume_misfits(a))?;
     let zeros = vec![0; a.width as usize];
     for i in 0..a.slots {
         let formatted = Record { p: i, v: 0, c: 0, np: i, nv: 0 };
-        set_slot(a.width, a.words, a.contents, i, (i < a.pages).then_some((formatted, &zeros)));
+        set_slot(a.layout(), a.words, a.contents, i, (i < a.pages).then_some((formatted, &zeros)));
     }
     for p in 0..a.pages {
         set_entry(a.state, p, Entry { committed: 0, used: 0, next: NONE, written: 0 });
@@ -100,24 +106,30 @@ fn launch(a: &mut Arguments) -> Outcome {
 
 fn write(a: &mut Arguments) -> Outcome {
     refuse(1, volume_misfits(a) || a.bytes.len() != a.width as usize)?;
-    refuse(2, !table_sound(a.pages, a.words))?;
+    refuse(2, slot_unsound(a))?;
     refuse(5, !state_sound(a.pages, a.state))?;
     refuse(6, a.page >= a.pages || a.slot >= a.slots)?;
     let e = entry(a.state, a.page);
     refuse(9, !e.in_flight())?;
     refuse(10, e.written == 1)?;
-    refuse(11, slot(a.words, a.slot).is_some())?;
-    set_slot(a.width, a.words, a.contents, a.slot, Some((planned(a.state, a.page), a.bytes)));
-    set_entry(a.state, a.page, Entry { written: 1, ..e });
+    refuse(11, slot(a.family, a.words, a.slot).is_some())?;
+    refuse(16, a.family == Family::Scc && would_bury(&records(a.family, a.words), a.state, a.page))?;
+    Ok(store(a))
+}
+
+/// A write that is not refused: stores the planned record and its bytes, and gives done.
+pub fn store(a: &mut Arguments) -> u32 {
+    set_slot(a.layout(), a.words, a.contents, a.slot, Some((planned(a.family, a.state, a.page), a.bytes)));
+    set_entry(a.state, a.page, Entry { written: 1, ..entry(a.state, a.page) });
     let ring = cycle(a.state, a.page);
     if ring.iter().any(|&p| entry(a.state, p).written == 0) {
-        return Ok(0);
+        return 0;
     }
     for p in ring {
         let e = entry(a.state, p);
         set_entry(a.state, p, Entry { committed: e.used, next: NONE, written: 0, ..e });
     }
-    Ok(1)
+    1
 }
 
 fn withdraw(a: &mut Arguments) -> Outcome {
@@ -134,12 +146,12 @@ fn withdraw(a: &mut Arguments) -> Outcome {
 
 fn erase(a: &mut Arguments) -> Outcome {
     refuse(1, volume_misfits(a))?;
-    refuse(2, !table_sound(a.pages, a.words))?;
+    refuse(2, slot_unsound(a))?;
     refuse(5, !state_sound(a.pages, a.state))?;
     refuse(6, list_wrong(a.list, a.slots))?;
-    refuse(12, a.list.iter().any(|&k| !may_erase(a.words, a.state, k)))?;
+    refuse(12, a.list.iter().any(|&k| !may_erase(a.family, a.words, a.state, k)))?;
     for &k in a.list {
-        set_slot(a.width, a.words, a.contents, k, None);
+        set_slot(a.layout(), a.words, a.contents, k, None);
     }
     Ok(0)
 }
@@ -147,28 +159,28 @@ fn erase(a: &mut Arguments) -> Outcome {
 /// Names the lowest slot that may be erased.
 fn suggest(a: &mut Arguments) -> Outcome {
     refuse(1, table_misfits(a))?;
-    refuse(2, !table_sound(a.pages, a.words))?;
+    refuse(2, slot_unsound(a))?;
     refuse(5, !state_sound(a.pages, a.state))?;
-    (0..a.slots).find(|&k| may_erase(a.words, a.state, k)).ok_or(13)
+    (0..a.slots).find(|&k| may_erase(a.family, a.words, a.state, k)).ok_or(13)
 }
 
 /// Gives "the number of links followed, summed over pages, one for each record whose link is compared".
 fn recover(a: &mut Arguments) -> Outcome {
     refuse(1, table_misfits(a))?;
-    refuse(2, !table_sound(a.pages, a.words))?;
-    let table = records(a.words);
+    refuse(2, slot_unsound(a))?;
+    let table = records(a.family, a.words);
     let twice = table.iter().any(|&(k, r)| table.iter().any(|&(l, q)| k < l && r.p == q.p && r.v == q.v));
     refuse(3, twice)?;
     let highest = highest_records(a.pages, &table).ok_or(3u32)?;
-    let walks: Vec<Walk> = (0..a.pages).map(|p| follow(&table, &highest, p)).collect();
+    let walks: Vec<Walk> = (0..a.pages).map(|p| follow(a.family, &table, &highest, p)).collect();
     refuse(4, walks.iter().any(|w| matches!(w.end, End::Astray)))?;
-    let committed: Vec<u32> = walks.iter().zip(&highest).map(|(w, h)| if matches!(w.end, End::Committed) { h.v } else { h.c }).collect();
-    refuse(14, (0..a.pages).any(|p| lowest_slot(a.words, p, committed[p as usize]).is_none()))?;
+    let last_committed = |(w, &h): (&Walk, &Record)| match w.end {
+        End::Committed => Some(h.v),
+        _ => committed_before(a.family, &table, h).filter(|&v| lowest_slot(a.family, a.words, h.p, v).is_some()),
+    };
+    let committed: Vec<u32> = walks.iter().zip(&highest).map(last_committed).collect::<Option<_>>().ok_or(14u32)?;
     for p in 0..a.pages {
-        let own = table.iter().filter(|(_, r)| r.p == p).map(|(_, r)| r.v);
-        let linked = table.iter().filter(|(_, r)| r.np == p).map(|(_, r)| r.nv);
-        let used = own.chain(linked).max().unwrap();
-        set_entry(a.state, p, Entry { committed: committed[p as usize], used, next: NONE, written: 0 });
+        set_entry(a.state, p, Entry { committed: committed[p as usize], used: used_version(&table, p), next: NONE, written: 0 });
     }
     Ok(walks.iter().map(|w| w.compared.len() as u32).sum())
 }
@@ -182,10 +194,10 @@ fn count(a: &mut Arguments) -> Outcome {
 
 fn read(a: &mut Arguments) -> Outcome {
     refuse(1, volume_misfits(a) || a.out.len() != a.width as usize)?;
-    refuse(2, !table_sound(a.pages, a.words))?;
+    refuse(2, slot_unsound(a))?;
     refuse(5, !state_sound(a.pages, a.state))?;
     refuse(6, a.page >= a.pages)?;
-    let k = lowest_slot(a.words, a.page, entry(a.state, a.page).committed).ok_or(14u32)?;
+    let k = lowest_slot(a.family, a.words, a.page, entry(a.state, a.page).committed).ok_or(14u32)?;
     a.out.copy_from_slice(&a.contents[slot_bytes(a.width, k)]);
     Ok(0)
 }

@@ -1,6 +1,6 @@
 //! Document 01's script program over the calls, with document 02's widths: one call a line, decimal numbers, what each prints.
 
-use crate::interface::{Arguments, Calls, Name, NONE};
+use crate::interface::{Arguments, Calls, Family, Name, NONE};
 use crate::rules::{entry, lowest_slot};
 use crate::volume::{Call, Sizes, Volume};
 use std::io::{BufRead, Read, Write};
@@ -42,9 +42,10 @@ fn list(text: &str) -> Option<Vec<u32>> {
 
 /// "The script's format line may end in width=64, then with at most 512 slots (more prints answer=line); without it the width is 32."
 fn sizes(pages: u32, slots: u32, ending: Option<&&str>) -> Option<Sizes> {
+    let family = Family::Bpcc;
     match ending {
-        None => Some(Sizes::new(pages, slots, 32)),
-        Some(&"width=64") if slots <= 512 => Some(Sizes::new(pages, slots, 64)),
+        None => Some(Sizes { family, pages, slots, width: 32 }),
+        Some(&"width=64") if slots <= 512 => Some(Sizes { family, pages, slots, width: 64 }),
         Some(_) => None,
     }
 }
@@ -101,7 +102,7 @@ pub fn run_through(calls: &dyn Calls, mut input: impl BufRead, mut output: impl 
 /// "A refused later format leaves the volume as it was", its width too.
 fn format(calls: &dyn Calls, sizes: Sizes, volume: &mut Option<Volume>) -> String {
     // Memory for the largest sizes at most: format refuses what is above.
-    let mut new = Volume { sizes, ..Volume::zeroed(Sizes::new(sizes.pages.min(256), sizes.slots.min(1024), sizes.width)) };
+    let mut new = Volume { sizes, ..Volume::zeroed(Sizes { pages: sizes.pages.min(256), slots: sizes.slots.min(1024), ..sizes }) };
     let answer = new.format(calls).answer;
     if answer == 0 {
         *volume = Some(new);
@@ -141,7 +142,7 @@ fn listing(calls: &dyn Calls, volume: &mut Volume) -> Result<String, u32> {
             return Err(reply.answer);
         }
         let version = entry(&volume.state, page).committed;
-        let slot = lowest_slot(&volume.words, page, version).expect("a page that was read has a slot");
+        let slot = lowest_slot(volume.sizes.family, &volume.words, page, version).expect("a page that was read has a slot");
         let drawn = calls.call(Name::Count, &mut Arguments { bytes: &bytes, ..Arguments::default() }).second;
         let is = if version == 0 { "empty" } else { "set" };
         lines += &format!("page={page} version={version} slot={slot} drawn={drawn} state={is}\n");

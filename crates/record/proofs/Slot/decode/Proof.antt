@@ -1,7 +1,8 @@
 use borrow.Author.Needs.{needs}
 use mathlib.Core.Path.{sym, _∙_}
 use Rattle.bounded.specs.Below.{allBelow}
-use Rattle.record.specs.Slot.{allBlank, wordsOf, recordOf}
+use Rattle.sizes.specs.declared.Layout.the-variants.{FiveWords}
+use Rattle.record.specs.Slot.{blankIn, encoded, decoded}
 use Rattle.record.specs.SlotLaws.{slot-blank, slot-holds}
 use Rattle.record.proofs.Slot.decode.Statement.{statement}
 use Rattle.record.proofs.Slot.decode.Tie as tie
@@ -26,14 +27,14 @@ is-blank-requires c κs = search needs
 
 -- the words read are the slice's, so that the record's test is the slot's
 returns : tie.Need-returns
-unfolding allBlank allBelow wordsOf
+unfolding blankIn allBelow encoded
 returns c =
-    sym (slot-blank (c .before .before .before .before .before .before .before .before .args .words .now) (sym (c .before .is-blank .ensures) ∙ c .if1 .taken))
+    sym (slot-blank FiveWords (c .before .before .before .before .before .before .before .before .args .words .now) (sym (c .before .is-blank .ensures) ∙ c .if1 .taken))
 
 returns-2 : tie.Need-returns-2
-unfolding allBlank allBelow wordsOf recordOf
+unfolding blankIn allBelow encoded decoded
 returns-2 c =
-    sym (slot-holds (c .before .before .before .before .before .before .before .before .args .words .now) (sym (c .before .is-blank .ensures) ∙ c .if1 .left))
+    sym (slot-holds FiveWords (c .before .before .before .before .before .before .before .before .args .words .now) (sym (c .before .is-blank .ensures) ∙ c .if1 .left))
 
 pub decode-spec : {M : Type 1} → statement M
 decode-spec =

@@ -1,8 +1,7 @@
 use borrow.Author.Needs.{needs}
-use mathlib.Core.Path.{sym}
-use Rattle.table.specs.Table.{versionIn}
-use Rattle.rules.specs.Recover.{committedBy, backPointer}
-use Rattle.recovery.specs.Tables.{committed-blank}
+use mathlib.Core.Path.{sym, ap₂, _∙_}
+use Rattle.record.specs.Slot.{slotIn}
+use Rattle.recovery.specs.Committed.{committedByIn}
 use Rattle.recovery.proofs.committed.committed_by.Statement.{statement}
 use Rattle.recovery.proofs.committed.committed_by.Tie as tie
 
@@ -13,7 +12,8 @@ enum-told : tie.Need-enum-told
 enum-told c = search needs
 
 returns : tie.Need-returns
-returns c = rw (c .enum-told .given .1) (sym (committed-blank (c .before .before .args .end)))
+unfolding committedByIn
+returns c = rw (c .enum-told .given .1)
 
 enum-told-2 : tie.Need-enum-told-2
 enum-told-2 c = search needs
@@ -21,20 +21,34 @@ enum-told-2 c = search needs
 enum-told-3 : tie.Need-enum-told-3
 enum-told-3 c = search needs
 
+version-before-requires : tie.Need-version-before-requires
+version-before-requires c κs = search needs
+
 enum-told-4 : tie.Need-enum-told-4
 enum-told-4 c = search needs
 
+version-before-requires-2 : tie.Need-version-before-requires-2
+version-before-requires-2 c κs = search needs
+
 returns-2 : tie.Need-returns-2
-unfolding committedBy versionIn backPointer
-returns-2 c = rw (c .enum-told2 .given .1, committedBy, c .before .before .before .top .given .1)
+unfolding committedByIn
+returns-2 c =
+    let a = c .before .before .before .before .before .before .args in
+    sym (ap₂ (committedByIn (a .layout) (a .slots) (slotIn (a .layout) (a .words .now))) (c .enum-told2 .given .1) (c .before .before .before .top .given .1))
 
 returns-3 : tie.Need-returns-3
-unfolding committedBy versionIn backPointer
-returns-3 c = rw (c .enum-told3 .given .1, committedBy, c .before .before .before .top .given .1)
+unfolding committedByIn
+returns-3 c =
+    let a = c .before .before .before .before .before .before .before .args in
+    c .version-before .ensures
+    ∙ sym (ap₂ (committedByIn (a .layout) (a .slots) (slotIn (a .layout) (a .words .now))) (c .before .enum-told3 .given .1) (c .before .before .before .before .top .given .1))
 
 returns-4 : tie.Need-returns-4
-unfolding committedBy versionIn backPointer
-returns-4 c = rw (c .enum-told4 .given .1, committedBy, c .before .before .before .top .given .1)
+unfolding committedByIn
+returns-4 c =
+    let a = c .before .before .before .before .before .before .before .args in
+    c .version-before2 .ensures
+    ∙ sym (ap₂ (committedByIn (a .layout) (a .slots) (slotIn (a .layout) (a .words .now))) (c .before .enum-told4 .given .1) (c .before .before .before .before .top .given .1))
 
 pub committed-by-spec : {M : Type 1} → statement M
 committed-by-spec =
@@ -45,7 +59,9 @@ committed-by-spec =
     returns
     enum-told-2
     enum-told-3
+    version-before-requires
     enum-told-4
+    version-before-requires-2
     returns-2
     returns-3
     returns-4)

@@ -10,23 +10,23 @@ use Rattle.bounded.specs.BelowLaws.{some-zero, some-more, some-of, sum-zero, su
 use Rattle.bounded.specs.Choice.{never}
 use Rattle.bounded.specs.Entries.{stored, stored-none, stored-more}
 use Rattle.bounded.specs.Tabulate.{tabulated-stored}
-use Rattle.record.specs.Slot.{slotAt}
+use Rattle.record.specs.Slot.{slotIn}
 use Rattle.follow.specs.declared.Walk.{Walk}
 use Rattle.follow.specs.Follow.{linksFollowed, isAstray}
-use Rattle.rules.specs.Recover.{walkOf, linksOf, committedOf}
+use Rattle.recovery.specs.Committed.{walkIn, linksIn, committedIn}
 use Rattle.recovery.specs.Tables.{links-most-below, committed-beyond}
 use Rattle.recovery.proofs.committed.committed_versions.Statement.{statement}
 use Rattle.recovery.proofs.committed.committed_versions.Tie as tie
 
 abbrev Inv-loop : tie.InvT-loop
-Inv-loop sizes words top codes committed₀ links₀ page₀ committed links page =
+Inv-loop layout sizes words top codes committed₀ links₀ page₀ committed links page =
     (page ≤ (sizes .pages))
-    × (someBelow page (λ p. isAstray (walkOf (sizes .pages) (sizes .slots) (slotAt words) p .end)) ≡ false)
-    × (links ≡ sumBelow page (λ p. walkOf (sizes .pages) (sizes .slots) (slotAt words) p .links))
-    × (committed ≡ stored (committedOf (sizes .pages) (sizes .slots) (slotAt words)) page (replicate 256 0))
+    × (someBelow page (λ p. isAstray (walkIn layout (sizes .pages) (sizes .slots) (slotIn layout words) p .end)) ≡ false)
+    × (links ≡ sumBelow page (λ p. walkIn layout (sizes .pages) (sizes .slots) (slotIn layout words) p .links))
+    × (committed ≡ stored (committedIn layout (sizes .pages) (sizes .slots) (slotIn layout words)) page (replicate 256 0))
 
 abbrev μ-loop : tie.MeasureT-loop
-μ-loop sizes words top codes committed₀ links₀ page₀ committed links page = sizes .pages - page
+μ-loop layout sizes words top codes committed₀ links₀ page₀ committed links page = sizes .pages - page
 
 loop-holds : tie.Need-loop-holds Inv-loop μ-loop
 loop-holds c = (omega arith, some-zero _, sym (sum-zero _), stored-none _ (replicate 256 0))
@@ -53,8 +53,8 @@ add-links c =
     let l = b .before .before .before .before .loop in
     let a = b .before .before .before .before .before .before .before .args in
     let f = b .before .before .before .before .before .before .before .pre .0 in
-    let n = links-most-below (a .sizes .pages) (a .sizes .slots) (slotAt (a .words .now)) (f .pages-most) (l .page + 1) in
-    let s = sum-more (l .page) (λ p. walkOf (a .sizes .pages) (a .sizes .slots) (slotAt (a .words .now)) p .links) in
+    let n = links-most-below (a .layout) (a .sizes .pages) (a .sizes .slots) (slotIn (a .layout) (a .words .now)) (f .pages-most) (l .page + 1) in
+    let s = sum-more (l .page) (λ p. walkIn (a .layout) (a .sizes .pages) (a .sizes .slots) (slotIn (a .layout) (a .words .now)) p .links) in
     let w = ap (λ (x : Walk). x .links) (b .commit-page .ensures .0) in
     let i = l .inv .2 in
     let h = b .before .before .if1 .taken in
@@ -72,8 +72,8 @@ loop-again c =
     let b = c .before .before .before in
     let l = b .before .before .before .before .loop in
     let a = b .before .before .before .before .before .before .before .args in
-    let walk = walkOf (a .sizes .pages) (a .sizes .slots) (slotAt (a .words .now)) in
-    let f = committedOf (a .sizes .pages) (a .sizes .slots) (slotAt (a .words .now)) in
+    let walk = walkIn (a .layout) (a .sizes .pages) (a .sizes .slots) (slotIn (a .layout) (a .words .now)) in
+    let f = committedIn (a .layout) (a .sizes .pages) (a .sizes .slots) (slotIn (a .layout) (a .words .now)) in
     let walked = b .commit-page .ensures .0 in (
       omega arith,
       some-more _ _ (l .inv .1) (sym (ap (λ (w : Walk). isAstray (w .end)) walked) ∙ sym (c .before .before .is-astray .ensures) ∙ c .before .if2 .left),
@@ -84,17 +84,17 @@ loop-again c =
     )
 
 returns-2 : tie.Need-returns-2 Inv-loop μ-loop
-unfolding linksOf linksFollowed walkOf
+unfolding linksIn linksFollowed walkIn
 returns-2 c =
     let l = c .before .before .loop in
     let a = c .before .before .before .before .before .args in
     let pre = c .before .before .before .before .before .pre in
-    let f = committedOf (a .sizes .pages) (a .sizes .slots) (slotAt (a .words .now)) in
+    let f = committedIn (a .layout) (a .sizes .pages) (a .sizes .slots) (slotIn (a .layout) (a .words .now)) in
     let e : l .page ≡ a .sizes .pages = omega arith in (
       sym (rw e at (l .inv .1)),
       (
         λ none. rw e at (l .inv .2),
-        λ none. l .inv .3 ∙ ap (λ (n : ℕ). stored f n (replicate 256 0)) e ∙ tabulated-stored 256 f 0 (a .sizes .pages) (pre .0 .pages-most) (committed-beyond _ _ _ _ (pre .0)),
+        λ none. l .inv .3 ∙ ap (λ (n : ℕ). stored f n (replicate 256 0)) e ∙ tabulated-stored 256 f 0 (a .sizes .pages) (pre .0 .pages-most) (committed-beyond _ _ _ _ _ (pre .0)),
       ),
     )
 

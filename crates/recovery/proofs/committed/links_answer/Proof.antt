@@ -18,7 +18,7 @@ reply-requires c κs = search needs
 
 returns : tie.Need-returns
 returns c = (
-  reply-refused _ 4 0 _ _ _ (c .reply .ensures) (links-astray _ _ _ (sym (c .before .before .committed-versions .ensures .0) ∙ c .before .if1 .taken)) (λ e. omega arith),
+  reply-refused _ 4 0 _ _ _ (c .reply .ensures) (links-astray _ _ _ _ (sym (c .before .before .committed-versions .ensures .0) ∙ c .before .if1 .taken)) (λ e. omega arith),
   λ z. absurd (let n = reply-answer _ _ _ (c .reply .ensures) in omega arith),
 )
 
@@ -35,7 +35,7 @@ returns-2 c =
     let kept = v .1 .1 (d .if1 .left) in
     let pre = d .before .before .before .before .before .before .before .pre in (
       reply-refused _ 14 0 _ _ _ (c .reply2 .ensures)
-          (version-missing _ _ _ (sym (v .0) ∙ d .if1 .left) (sym (versions-by-table _ _ _ _ (pre .pages-most) kept) ∙ said-no (c .before .before .versions-present .ensures) (c .before .if2 .taken)))
+          (version-missing _ _ _ _ (sym (v .0) ∙ d .if1 .left) (sym (versions-by-table _ _ _ _ _ (pre .pages-most) kept) ∙ said-no (c .before .before .versions-present .ensures) (c .before .if2 .taken)))
           (λ e. omega arith),
       λ z. absurd (let n = reply-answer _ _ _ (c .reply2 .ensures) in omega arith),
     )
@@ -50,7 +50,7 @@ returns-3 c =
     let kept = v .1 .1 (d .if1 .left) in
     let pre = d .before .before .before .before .before .before .before .pre in (
       reply-done _ 0 0 _ _ _ (reply-second _ _ _ (c .reply3 .ensures) (v .1 .0 (d .if1 .left)))
-          (versions-there _ _ _ (sym (v .0) ∙ d .if1 .left) (sym (versions-by-table _ _ _ _ (pre .pages-most) kept) ∙ said-yes (c .before .before .versions-present .ensures) (c .before .if2 .left)))
+          (versions-there _ _ _ _ (sym (v .0) ∙ d .if1 .left) (sym (versions-by-table _ _ _ _ _ (pre .pages-most) kept) ∙ said-yes (c .before .before .versions-present .ensures) (c .before .if2 .left)))
           refl,
       λ z. kept,
     )

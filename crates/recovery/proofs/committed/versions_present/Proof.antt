@@ -7,16 +7,16 @@ use lib.ListN.{getD}
 use borrow.Author.Tests.{lt-ltb, le-ltb}
 use Rattle.bounded.specs.Below.{allBelow}
 use Rattle.bounded.specs.BelowLaws.{all-zero, all-more, all-fails}
-use Rattle.record.specs.Slot.{slotAt}
+use Rattle.record.specs.Slot.{slotIn}
 use Rattle.table.specs.Table.{hasVersion}
 use Rattle.recovery.proofs.committed.versions_present.Statement.{statement}
 use Rattle.recovery.proofs.committed.versions_present.Tie as tie
 
 abbrev Inv-loop : tie.InvT-loop
-Inv-loop sizes words versions page₀ page = (page ≤ sizes .pages) × (allBelow page (λ p. hasVersion (sizes .slots) (slotAt words) p (getD versions p 0)) ≡ true)
+Inv-loop layout sizes words versions page₀ page = (page ≤ sizes .pages) × (allBelow page (λ p. hasVersion (sizes .slots) (slotIn layout words) p (getD versions p 0)) ≡ true)
 
 abbrev μ-loop : tie.MeasureT-loop
-μ-loop sizes words versions page₀ page = sizes .pages - page
+μ-loop layout sizes words versions page₀ page = sizes .pages - page
 
 loop-holds : tie.Need-loop-holds Inv-loop μ-loop
 loop-holds c = (omega arith, all-zero _)

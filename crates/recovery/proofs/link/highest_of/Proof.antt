@@ -14,7 +14,7 @@ named-slot-requires : tie.Need-named-slot-requires
 named-slot-requires c κs = search needs
 
 returns : tie.Need-returns
-returns c = c .named-slot .ensures ∙ top-names _ _ _ _ (c .before .before .before .pre .0) _ (c .before .before .before .pre .1)
+returns c = c .named-slot .ensures ∙ top-names _ _ _ _ _ (c .before .before .before .pre .0) _ (c .before .before .before .pre .1)
 
 pub highest-of-spec : {M : Type 1} → statement M
 highest-of-spec =

@@ -5,18 +5,18 @@ use mathlib.Core.List.{List}
 use lib.ListN.{set, replicate}
 use Rattle.bounded.specs.Entries.{stored, stored-none, stored-more}
 use Rattle.bounded.specs.Tabulate.{tabulated-stored}
-use Rattle.record.specs.Slot.{slotAt}
+use Rattle.record.specs.Slot.{slotIn}
 use Rattle.follow.specs.Codes.{codeOf}
-use Rattle.rules.specs.Verdict.{verdict}
+use Rattle.rules.specs.laws.Families.{verdictIn}
 use Rattle.recovery.specs.Tables.{code-beyond}
 use Rattle.recovery.proofs.link.verdict_codes.Statement.{statement}
 use Rattle.recovery.proofs.link.verdict_codes.Tie as tie
 
 abbrev Inv-loop : tie.InvT-loop
-Inv-loop sizes words top codes₀ page₀ codes page = (page ≤ sizes .pages) × (codes ≡ stored (λ p. codeOf (verdict (sizes .slots) (slotAt words) p)) page (replicate 256 257))
+Inv-loop layout sizes words top codes₀ page₀ codes page = (page ≤ sizes .pages) × (codes ≡ stored (λ p. codeOf (verdictIn layout (sizes .slots) (slotIn layout words) p)) page (replicate 256 257))
 
 abbrev μ-loop : tie.MeasureT-loop
-μ-loop sizes words top codes₀ page₀ codes page = sizes .pages - page
+μ-loop layout sizes words top codes₀ page₀ codes page = sizes .pages - page
 
 loop-holds : tie.Need-loop-holds Inv-loop μ-loop
 loop-holds c = (omega arith, stored-none _ (replicate 256 257))
@@ -49,7 +49,7 @@ loop-again c =
     let l = c .before .before .before .before .loop in
     let a = c .before .before .before .before .before .before .before .args in
     let pre = c .before .before .before .before .before .before .before .pre in
-    let f : ℕ → ℕ = λ p. codeOf (verdict (a .sizes .slots) (slotAt (a .words .now)) p) in (
+    let f : ℕ → ℕ = λ p. codeOf (verdictIn (a .layout) (a .sizes .slots) (slotIn (a .layout) (a .words .now)) p) in (
       omega arith,
       ap (λ (x : List ℕ). set x (l .page) (c .code .result)) (l .inv .1)
           ∙ ap (set (stored f (l .page) (replicate 256 257)) (l .page)) (c .code .ensures ∙ ap codeOf (c .before .verdict-of .ensures))
@@ -60,9 +60,9 @@ returns : tie.Need-returns Inv-loop μ-loop
 returns c =
     let l = c .before .before .loop in
     let a = c .before .before .before .before .before .args in
-    let f : ℕ → ℕ = λ p. codeOf (verdict (a .sizes .slots) (slotAt (a .words .now)) p) in
+    let f : ℕ → ℕ = λ p. codeOf (verdictIn (a .layout) (a .sizes .slots) (slotIn (a .layout) (a .words .now)) p) in
     let e : l .page ≡ a .sizes .pages = omega arith in
-    l .inv .1 ∙ ap (λ (n : ℕ). stored f n (replicate 256 257)) e ∙ tabulated-stored 256 f 257 (a .sizes .pages) (c .before .before .before .before .before .pre .pages-most) (code-beyond _ _ _ _ (c .before .before .before .before .before .pre))
+    l .inv .1 ∙ ap (λ (n : ℕ). stored f n (replicate 256 257)) e ∙ tabulated-stored 256 f 257 (a .sizes .pages) (c .before .before .before .before .before .pre .pages-most) (code-beyond _ _ _ _ _ (c .before .before .before .before .before .pre))
 
 pub verdict-codes-spec : {M : Type 1} → statement M
 verdict-codes-spec =

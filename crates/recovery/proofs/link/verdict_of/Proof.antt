@@ -1,8 +1,8 @@
 use borrow.Author.Needs.{needs}
 use native.Mathlib.Omega.{arith}
 use mathlib.Core.Path.{sym, ap, _∙_}
-use Rattle.record.specs.Slot.{slotAt}
-use Rattle.rules.specs.Verdict.{slotVerdict, verdict}
+use Rattle.record.specs.Slot.{slotIn}
+use Rattle.recovery.specs.Committed.{slotVerdictIn, verdict-by-slot}
 use Rattle.recovery.specs.Tables.{top-next}
 use Rattle.recovery.proofs.link.verdict_of.Statement.{statement}
 use Rattle.recovery.proofs.link.verdict_of.Tie as tie
@@ -17,23 +17,25 @@ enum-told : tie.Need-enum-told
 enum-told c = search needs
 
 returns : tie.Need-returns
-unfolding verdict slotVerdict
+unfolding slotVerdictIn
 returns c =
     let a = c .before .before .before .before .args in
-    sym (ap (slotVerdict (a .sizes .slots) (slotAt (a .words .now))) (sym (c .before .before .highest-of .ensures) ∙ c .enum-told .given .1))
+    sym (verdict-by-slot (a .layout) (a .sizes .slots) (slotIn (a .layout) (a .words .now)) (a .page)
+    ∙ ap (slotVerdictIn (a .layout) (a .sizes .slots) (slotIn (a .layout) (a .words .now))) (sym (c .before .before .highest-of .ensures) ∙ c .enum-told .given .1))
 
 link-verdict-requires : tie.Need-link-verdict-requires
 link-verdict-requires c κs =
     let pre = c .before .before .before .before .before .pre in
-    let l = top-next _ _ _ _ (pre .0) _ (c .before .link .given .0 .0) (sym (c .before .before .before .highest-of .ensures) ∙ c .before .link .given .1) in
+    let l = top-next _ _ _ _ _ (pre .0) _ (c .before .link .given .0 .0) (sym (c .before .before .before .highest-of .ensures) ∙ c .before .link .given .1) in
     (pre .0, let m = pre .0 .pages-most in omega arith)
 
 returns-2 : tie.Need-returns-2
-unfolding verdict slotVerdict
+unfolding slotVerdictIn
 returns-2 c =
     let a = c .before .before .before .before .before .before .args in
     c .link-verdict .ensures
-    ∙ sym (ap (slotVerdict (a .sizes .slots) (slotAt (a .words .now))) (sym (c .before .before .before .before .highest-of .ensures) ∙ c .before .before .link .given .1))
+    ∙ sym (verdict-by-slot (a .layout) (a .sizes .slots) (slotIn (a .layout) (a .words .now)) (a .page)
+    ∙ ap (slotVerdictIn (a .layout) (a .sizes .slots) (slotIn (a .layout) (a .words .now))) (sym (c .before .before .before .before .highest-of .ensures) ∙ c .before .before .link .given .1))
 
 pub verdict-of-spec : {M : Type 1} → statement M
 verdict-of-spec =

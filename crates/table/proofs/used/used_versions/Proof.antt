@@ -3,16 +3,16 @@ use Prim.Native.Nat.{_≤_, _-_}
 use mathlib.Core.Path.{_≡_, refl}
 use Rattle.bounded.specs.Below.{maxBelow}
 use Rattle.bounded.specs.Tabulate.{tabulate, tabulate-same}
-use Rattle.record.specs.Slot.{slotAt}
+use Rattle.record.specs.Slot.{slotIn}
 use Rattle.table.specs.Table.{usedOf}
 use Rattle.table.proofs.used.used_versions.Statement.{statement}
 use Rattle.table.proofs.used.used_versions.Tie as tie
 
 abbrev Inv-loop : tie.InvT-loop
-Inv-loop sizes words used₀ k₀ used k = (k ≤ (sizes .slots)) × (used ≡ tabulate 256 (usedOf k (slotAt words)))
+Inv-loop layout sizes words used₀ k₀ used k = (k ≤ (sizes .slots)) × (used ≡ tabulate 256 (usedOf k (slotIn layout words)))
 
 abbrev μ-loop : tie.MeasureT-loop
-μ-loop sizes words used₀ k₀ used k = (sizes .slots) - k
+μ-loop layout sizes words used₀ k₀ used k = (sizes .slots) - k
 
 loop-holds : tie.Need-loop-holds Inv-loop μ-loop
 unfolding usedOf maxBelow

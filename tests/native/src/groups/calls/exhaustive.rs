@@ -2,20 +2,21 @@
 
 use crate::implementations::compared::Compared;
 use crate::implementations::reference::Reference;
-use crate::interface::{NONE, PAGE_WORDS, SLOT_WORDS};
+use crate::interface::{Family, NONE, PAGE_WORDS};
 use crate::rules::Record;
-use crate::volume::{Call, Sizes, Volume};
+use crate::volume::{Call, Layout, Sizes, Volume};
 
 /// All sound records of P pages with versions up to the highest.
-fn sound_records(pages: u32, highest: u32) -> Vec<[u32; SLOT_WORDS]> {
+fn sound_records(family: Family, pages: u32, highest: u32) -> Vec<Record> {
     let versions = 0..=highest;
+    let back_pointers = 0..=if family == Family::Bpcc { highest } else { 0 };
     let mut all = Vec::new();
     for (p, np) in (0..pages).flat_map(|p| (0..pages).map(move |np| (p, np))) {
         for v in versions.clone() {
-            for (c, nv) in versions.clone().flat_map(|c| (0..=highest).map(move |nv| (c, nv))) {
+            for (c, nv) in back_pointers.clone().flat_map(|c| (0..=highest).map(move |nv| (c, nv))) {
                 let record = Record { p, v, c, np, nv };
                 if record.is_sound(pages) {
-                    all.push(record.words());
+                    all.push(record);
                 }
             }
         }
@@ -23,16 +24,16 @@ fn sound_records(pages: u32, highest: u32) -> Vec<[u32; SLOT_WORDS]> {
     all
 }
 
-/// Recovery of every table of sound records and blank slots, equal up to the slots' order; where it answers 0, suggest and the
-/// erasure of each slot. Gives the number of tables.
+/// Recovery of every table of sound records and blank slots, equal up to the slots' order; where it answers 0, the erasure of each
+/// slot, and suggest or, where a write may be refused by the table, writes. Gives the number of tables.
 pub fn tables(compared: &Compared, sizes: Sizes, highest: u32) -> u64 {
-    let mut held = sound_records(sizes.pages, highest);
-    held.push([NONE; SLOT_WORDS]);
+    let mut held = sound_records(sizes.family, sizes.pages, highest);
+    held.push(Record::BLANK);
     let mut chosen = vec![0; sizes.slots as usize];
     let mut count = 0;
     loop {
-        let fives: Vec<[u32; SLOT_WORDS]> = chosen.iter().map(|&i: &usize| held[i]).collect();
-        one_table(compared, Volume::with_records(sizes, &fives));
+        let records: Vec<Record> = chosen.iter().map(|&i: &usize| held[i]).collect();
+        one_table(compared, Volume::with_records(sizes, &records));
         count += 1;
         // The next choice with rising indices.
         let Some(at) = chosen.iter().rposition(|&i| i + 1 < held.len()) else { return count };
@@ -45,18 +46,33 @@ fn one_table(compared: &Compared, mut v: Volume) {
     if v.call(compared, &Call::Recover).answer != 0 {
         return;
     }
-    v.suggest(compared);
     for k in 0..v.sizes.slots {
         v.clone().call(compared, &Call::Erase(vec![k]));
+    }
+    match v.sizes.family {
+        Family::Bpcc => drop(v.suggest(compared)),
+        Family::Scc => writes(compared, &v),
+    }
+}
+
+/// Each page launched alone and written to the last slot, and one launched with all others and written first.
+fn writes(compared: &Compared, v: &Volume) {
+    let Sizes { pages, slots, width, .. } = v.sizes;
+    for page in 0..pages {
+        for list in [vec![page], (page..pages).chain(0..page).collect()] {
+            let mut v = v.clone();
+            assert_eq!(v.call(compared, &Call::Launch(list)).answer, 0);
+            v.call(compared, &Call::Write { page, slot: slots - 1, bytes: vec![3; width as usize] });
+        }
     }
 }
 
 /// Launch, write, withdraw and read on every state of two pages whose words are of a few values. Gives the number of states.
-pub fn states(compared: &Compared, width: u32) -> u64 {
+pub fn states(compared: &Compared, layout: Layout) -> u64 {
     const VALUES: [u32; 5] = [0, 1, 2, NONE - 1, NONE];
     let pages = 2;
-    let formatted = Volume::formatted(&Reference, Sizes { pages, slots: 4, width });
-    let bytes = vec![5; width as usize];
+    let formatted = Volume::formatted(&Reference, layout.sizes(pages, 4));
+    let bytes = vec![5; layout.width as usize];
     let number = VALUES.len().pow(PAGE_WORDS as u32 * pages);
     for i in 0..number {
         let mut v = formatted.clone();

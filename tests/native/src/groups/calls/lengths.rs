@@ -4,12 +4,13 @@ use crate::implementations::compared::Compared;
 use crate::implementations::reference::{refusal, Reference};
 use crate::inputs::{is_short, WRONG_WIDTHS};
 use crate::interface::{other_width, Arguments, Calls, Name, Reply, WIDTHS};
-use crate::volume::{Call, Sizes, Volume};
+use crate::volume::{Call, Layout, Volume};
 
 /// A volume on which every call of `reply` is done: page 1 is in flight, page 0 is not, slot 3 is blank, slot 0 may be erased.
-fn ready(width: u32) -> Volume {
-    let mut v = Volume::formatted(&Reference, Sizes::new(2, 4, width));
-    for call in [Call::Launch(vec![0]), Call::Write { page: 0, slot: 2, bytes: vec![3; width as usize] }, Call::Launch(vec![1])] {
+fn ready(layout: Layout) -> Volume {
+    let mut v = Volume::formatted(&Reference, layout.sizes(2, 4));
+    let bytes = vec![3; layout.width as usize];
+    for call in [Call::Launch(vec![0]), Call::Write { page: 0, slot: 2, bytes }, Call::Launch(vec![1])] {
         assert_eq!(v.call(&Reference, &call).answer, 0);
     }
     v
@@ -26,7 +27,7 @@ fn reply(compared: &Compared, call: Name, volume: &Volume, length: usize) -> Rep
 
 /// Every call answers 0, but for some that answer 1.
 fn assert_refused(compared: &Compared, volume: &Volume, length: usize, refused: &[Name]) {
-    for &call in Name::ALL {
+    for call in volume.sizes.family.calls() {
         let got = reply(compared, call, volume, length);
         let expected = if refused.contains(&call) { refusal(call, 1) } else { Reply { answer: 0, ..got } };
         assert_eq!(got, expected, "{call} at width {}, {} bytes of contents, {length} bytes", volume.sizes.width, volume.contents.len());
@@ -37,32 +38,33 @@ fn assert_refused(compared: &Compared, volume: &Volume, length: usize, refused: 
 const OF_CONTENTS: [Name; 4] = [Name::Format, Name::Write, Name::Erase, Name::Read];
 
 /// A width that no volume has is refused by every call that takes one, with buffers of a right width and with buffers of its own.
-pub fn compare_wrong_widths(compared: &Compared, width: u32) {
-    let taking_width: Vec<Name> = Name::ALL.iter().copied().filter(|&call| call != Name::Count).collect();
-    assert_refused(compared, &ready(width), width as usize, &[]);
+pub fn compare_wrong_widths(compared: &Compared, layout: Layout) {
+    let (width, calls) = (layout.width, layout.family.calls());
+    let taking_width: Vec<Name> = calls.clone().filter(|&call| call != Name::Count).collect();
+    assert_refused(compared, &ready(layout), width as usize, &[]);
     for wrong in WRONG_WIDTHS {
-        let mut v = ready(width);
+        let mut v = ready(layout);
         v.sizes.width = wrong;
         assert_refused(compared, &v, width as usize, &taking_width);
         if is_short(wrong) {
             v.contents.resize(wrong as usize * v.sizes.slots as usize, 255);
-            assert_refused(compared, &v, wrong as usize, Name::ALL);
+            assert_refused(compared, &v, wrong as usize, &calls.clone().collect::<Vec<Name>>());
         }
     }
 }
 
 /// The other width on buffers of this one: refused where the contents are taken, and no matter where they are not.
-pub fn compare_other_width(compared: &Compared, width: u32) {
-    let mut v = ready(width);
-    v.sizes.width = other_width(width);
+pub fn compare_other_width(compared: &Compared, layout: Layout) {
+    let mut v = ready(layout);
+    v.sizes.width = other_width(layout.width);
     for length in WIDTHS {
         assert_refused(compared, &v, length as usize, &OF_CONTENTS);
     }
 }
 
 /// Contents one byte short, one long, and of the other width; bytes to write and room to read likewise. Count takes either width.
-pub fn compare_lengths(compared: &Compared, width: u32) {
-    let (v, other) = (ready(width), other_width(width));
+pub fn compare_lengths(compared: &Compared, layout: Layout) {
+    let (v, width, other) = (ready(layout), layout.width, other_width(layout.width));
     let slots = v.sizes.slots;
     for length in [width * slots - 1, width * slots + 1, other * slots] {
         let mut v = v.clone();
@@ -76,8 +78,8 @@ pub fn compare_lengths(compared: &Compared, width: u32) {
 }
 
 /// Count on every single bit, every byte value at every place and at all of them.
-pub fn compare_counts(compared: &Compared, width: u32) {
-    let length = width as usize;
+pub fn compare_counts(compared: &Compared, layout: Layout) {
+    let (width, length) = (layout.width, layout.width as usize);
     for bit in 0..8 * length {
         let mut bytes = vec![0; length];
         bytes[bit / 8] = 1 << (bit % 8);

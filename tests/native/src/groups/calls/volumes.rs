@@ -3,14 +3,15 @@
 use crate::harness::said;
 use crate::implementations::compared::Compared;
 use crate::inputs;
-use crate::interface::{Arguments, Calls, Name, Reply, WIDTHS};
+use crate::interface::{Arguments, Calls, Family, Name, Reply, WIDTHS};
 use crate::random::Random;
-use crate::volume::{Call, Sizes, Volume};
+use crate::volume::{Call, Layout, Volume};
 use std::panic::{catch_unwind, AssertUnwindSafe};
 
-/// Document 01's table of which call gives which number.
-pub fn answers(call: Name) -> &'static [u32] {
+/// Document 01's table of which call gives which number, and document 02's 16.
+pub fn answers(family: Family, call: Name) -> &'static [u32] {
     match call {
+        Name::Write if family == Family::Scc => &[0, 1, 2, 5, 6, 9, 10, 11, 16],
         Name::Format => &[0, 1],
         Name::Launch => &[0, 1, 5, 6, 7, 8],
         Name::Write => &[0, 1, 2, 5, 6, 9, 10, 11],
@@ -26,11 +27,11 @@ pub fn answers(call: Name) -> &'static [u32] {
 /// How often each answer of each call is to be seen.
 pub const SEEN: u64 = 100;
 
-/// Compares every call on `rounds` volumes of a width.
-pub fn compare(compared: &Compared, width: u32, rounds: u32, seed: u64) {
+/// Compares every call on `rounds` volumes of a layout.
+pub fn compare(compared: &Compared, layout: Layout, rounds: u32, seed: u64) {
     let mut random = Random::new(seed);
     for _ in 0..rounds {
-        let mut volume = inputs::volume(&mut random, width);
+        let mut volume = inputs::volume(&mut random, layout);
         // Arguments that fit the volume are chosen before its sizes are made wrong.
         let mut choices = Choices::new(&mut random, &volume);
         if random.one_in(10) {
@@ -46,10 +47,10 @@ pub fn compare(compared: &Compared, width: u32, rounds: u32, seed: u64) {
 }
 
 /// Each answer of each call was seen often enough, and no other.
-pub fn assert_all_seen(compared: &Compared) {
-    for &call in Name::ALL {
-        assert_eq!(compared.answers(call), answers(call), "the answers of {call}");
-        for &answer in answers(call) {
+pub fn assert_all_seen(compared: &Compared, family: Family) {
+    for call in family.calls() {
+        assert_eq!(compared.answers(call), answers(family, call), "the answers of {call}");
+        for &answer in answers(family, call) {
             let times = compared.seen(call, answer);
             assert!(times >= SEEN, "{call} answered {answer} only {times} times");
         }
@@ -115,7 +116,7 @@ impl Choices {
 
 /// Each call on a copy of the volume; a refused one leaves the copy as it was.
 fn one_round(compared: &Compared, volume: &Volume, choices: &Choices) {
-    for &call in Name::ALL {
+    for call in volume.sizes.family.calls() {
         let (mut v, mut out) = (volume.clone(), choices.out.clone());
         let (page, slot, list) = choices.of(call);
         let reply = compared.call(call, &mut Arguments { page, slot, list, bytes: &choices.bytes, out: &mut out, ..v.arguments() });
@@ -125,18 +126,18 @@ fn one_round(compared: &Compared, volume: &Volume, choices: &Choices) {
 }
 
 /// Format at every pair of sizes near a limit, with the lengths that the sizes ask for.
-pub fn compare_sizes(compared: &Compared, width: u32) {
+pub fn compare_sizes(compared: &Compared, layout: Layout) {
     for pages in [0, 1, 2, 3, 127, 255, 256, 257, 1024] {
         for slots in [0, 1, 2, 3, 126, 254, 255, 256, 257, 511, 512, 513, 1023, 1024, 1025] {
-            Volume::zeroed(Sizes { pages, slots, width }).format(compared);
+            Volume::zeroed(layout.sizes(pages, slots)).format(compared);
         }
     }
 }
 
 /// Volumes of the largest size, all calls, one transaction over all pages.
-pub fn compare_largest(compared: &Compared, width: u32) {
-    let (pages, slots) = (256, 1024);
-    let mut v = Volume::formatted(compared, Sizes { pages, slots, width });
+pub fn compare_largest(compared: &Compared, layout: Layout) {
+    let (pages, slots, width) = (256, 1024, layout.width);
+    let mut v = Volume::formatted(compared, layout.sizes(pages, slots));
     for round in 0..2 {
         let list: Vec<u32> = (0..pages).map(|i| (i * 7 + round) % pages).collect();
         assert_eq!(v.call(compared, &Call::Launch(list.clone())).answer, 0);
@@ -145,7 +146,9 @@ pub fn compare_largest(compared: &Compared, width: u32) {
             let reply = v.call(compared, &Call::Write { page, slot, bytes: vec![page as u8; width as usize] });
             assert_eq!(reply, Reply::done(u32::from(i + 1 == list.len())));
         }
-        assert_eq!(v.suggest(compared).answer, 0);
+        if layout.family == Family::Bpcc {
+            assert_eq!(v.suggest(compared).answer, 0);
+        }
         assert_eq!(v.clone().call(compared, &Call::Recover), Reply::done(pages * pages));
     }
     let obsolete: Vec<u32> = (0..2 * pages).collect();
@@ -158,9 +161,9 @@ pub fn compare_largest(compared: &Compared, width: u32) {
 }
 
 /// Lists far longer than any that fits: the last entry out of range, or all in range with repeats.
-pub fn compare_long_lists(compared: &Compared, width: u32) {
+pub fn compare_long_lists(compared: &Compared, layout: Layout) {
     let (pages, slots) = (256, 1024);
-    let mut v = Volume::formatted(compared, Sizes { pages, slots, width });
+    let mut v = Volume::formatted(compared, layout.sizes(pages, slots));
     for last in [0, pages, slots] {
         let mut list: Vec<u32> = (0..100_000).map(|i| i % pages).collect();
         list.push(last);

@@ -3,7 +3,7 @@
 use super::template::ending;
 use crate::implementations::reference::Reference;
 use crate::inputs;
-use crate::interface::WIDTHS;
+use crate::interface::{Family, WIDTHS};
 use crate::random::Random;
 use crate::volume::{Call, Sizes, Volume};
 
@@ -19,7 +19,7 @@ pub fn script(random: &mut Random, width: u32, lines: u32) -> Vec<u8> {
                 let pages = 1 + random.below(most_pages);
                 let slots = pages.saturating_add(random.below(12)).saturating_sub(random.below(6) / 5);
                 let width = if random.one_in(4) { random.pick(&WIDTHS) } else { width };
-                let mut new = Volume::zeroed(Sizes { pages, slots, width });
+                let mut new = Volume::zeroed(Sizes { family: Family::Bpcc, pages, slots, width });
                 volume = if new.format(&Reference).answer == 0 { Some(new) } else { volume };
                 format!("op=format pages={pages} slots={slots}{}", ending(width))
             }

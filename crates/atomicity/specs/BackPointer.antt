@@ -1,0 +1,82 @@
+-- Document 01's records, with a back pointer, are a family that runs can be shown of.
+use Prim.Native.Nat.{ℕ, _<_}
+use native.Mathlib.Omega.{arith}
+use mathlib.Core.Path.{_≡_, refl}
+use mathlib.Core.List.{List}
+use Rattle.bounded.specs.Limits.{Widths}
+use Rattle.sizes.specs.declared.Sizes.{Sizes}
+use Rattle.record.specs.declared.Record.{Record}
+use Rattle.record.specs.SlotLaws.{sound-facts}
+use Rattle.state.specs.Change.{atRest}
+use Rattle.rules.specs.Volume.{Volume}
+use Rattle.rules.specs.Write.{planOf, writeAnswer, writeStep, writeChange, writeOutcome}
+use Rattle.rules.specs.Permission.{mayErase}
+use Rattle.rules.specs.Erase.{eraseAnswer, eraseOutcome}
+use Rattle.rules.specs.Recover.{linksOf, recovered, recoverAnswer, recoverOutcome}
+use Rattle.rules.specs.laws.Permission.{may-erase-all}
+use Rattle.rules.specs.laws.Accepted.{write-tests, erase-tests}
+use Rattle.protocol.specs.View.{recordView}
+use Rattle.protocol.specs.Shared.{SharedCore}
+use Rattle.protocol.specs.BackPointer.{Core}
+use Rattle.protocol.specs.SameSet.{core-same}
+use Rattle.protocol.specs.OneMore.{core-more}
+use Rattle.protocol.specs.CompletedCore.{core-completed}
+use Rattle.protocol.specs.Permitted.{Permitted, may-erase-permitted}
+use Rattle.protocol.specs.Fewer.{Erased, core-fewer, live-erased}
+use Rattle.protocol.specs.WriteSteps.{planned-sound}
+use Rattle.protocol.specs.Recovers.{committed-found}
+use Rattle.protocol.specs.RecoverAnswers.{recover-accepts}
+use Rattle.atomicity.specs.Family.{backPointer}
+use Rattle.atomicity.specs.steps.Theory.{Pairs, ErasedBy, Theory}
+
+-- nothing is exposed where every version is 0
+at-start : (R : Pairs) (P : ℕ) (kept : ℕ → List ℕ) → SharedCore recordView R (λ p. 0) P kept → ((r : Record) (b : List ℕ) → R r b → (r .v ≡ 0) × (r .nv ≡ 0)) → Core R (λ p. 0) P kept
+at-start R P kept shared zero =
+    record {
+      shared = shared;
+      own = record {
+        exposed-back = λ r b h x. absurd (let v = zero r b h .0 in omega arith);
+        committed-clear = λ r K b d h i e s. let v = zero r b h .1 in let a = s .above-c in omega arith;
+        exposed-link = λ r b h x. absurd (let v = zero r b h .0 in omega arith);
+      };
+    }
+
+erased-of : {R R′ : Pairs} {st : ℕ → _} → ErasedBy Permitted R R′ st → Erased R R′ st
+erased-of e = record { fewer = e .fewer; finds-before = e .finds-before; finds = e .finds; stays-or-permitted = e .stays-or-permitted }
+
+pub back-pointer : Theory backPointer
+unfolding planOf writeOutcome writeChange writeStep eraseOutcome recoverOutcome recovered
+back-pointer =
+    record {
+      back = λ u c. c;
+      Core = Core;
+      shared = λ R comm P kept core. core .shared;
+      same = λ P R R′ comm comm′ kept kept′ s core. core-same s core;
+      at-start = at-start;
+      plan-is = λ st p. refl;
+      plan-sound = planned-sound;
+      plan-storable = λ P st sound p f. sound-facts P _ (planned-sound P st sound p f) .v-most;
+      Fresh = λ R st p. Unit {0};
+      more = λ P R R′ st p bytes kept Entered writes core live fresh gap. core-more writes core live gap;
+      completed = λ P R R′ st st′ p bytes cycle kept kept′ Entered Entered′ writes completes core live fresh. core-completed writes completes core live;
+      writeAnswer = writeAnswer;
+      write-is = λ widths sizes v page slot bytes. refl;
+      write-tested = λ widths sizes v page slot bytes e.
+          let a = write-tests widths sizes v page slot bytes e in
+          record { whole = a .whole; page-below = a .page-below; slot-below = a .slot-below; flying = a .flying; unwritten = a .unwritten; free = a .free };
+      write-fresh = λ widths sizes v page slot bytes e contents. tt;
+      mayErase = mayErase;
+      Permitted = Permitted;
+      permits = may-erase-permitted;
+      fewer = λ P R R′ st kept e core. core-fewer (erased-of e) core;
+      live-fewer = λ P R R′ st kept Entered e core state live. live-erased (erased-of e) core state live;
+      eraseAnswer = eraseAnswer;
+      erase-is = λ widths sizes v slots. refl;
+      erase-listed = λ widths sizes v slots e. erase-tests widths sizes v slots e .listed;
+      erase-permitted = λ widths sizes v slots e. may-erase-all _ _ _ slots .0 (erase-tests widths sizes v slots e .permitted);
+      recoverAnswer = recoverAnswer;
+      links = linksOf;
+      recover-is = λ widths sizes words state. refl;
+      recover-accepts = λ widths sizes words state bytes comm kept ok fits room apart core. recover-accepts widths sizes words state ok fits room apart core;
+      committed-found = λ P S t bytes comm kept core p h. committed-found core p h;
+    }
