@@ -14,7 +14,7 @@ use Rattle.bounded.specs.Parts.{joinFrom, joinParts}
 use Rattle.bounded.specs.PartsLaws.{part-inside, join-from-more}
 use Rattle.outcome.specs.Outcome.{Outcome}
 use Rattle.outcome.specs.OutcomeLaws.{held, settled-answer, settled-done}
-use Rattle.outcome.specs.Chain.{firstOf}
+use Rattle.outcome.specs.Chain.{firstOf, both-pass}
 use Rattle.sizes.specs.declared.Layout.the-variants.{FiveWords}
 use Rattle.sizes.specs.declared.Sizes.{Sizes}
 use Rattle.text.specs.Print.{shown, added, decimal}
@@ -68,12 +68,6 @@ pub parts-next :
 unfolding joinParts
 parts-next f out out₁ text at at₁ n e l q =
     q ∙ added-next out out₁ at at₁ (joinFrom n 0 f) (f n) e l ∙ ap (added out at) (rw (add-one n) (sym (join-from-more f n 0 n (omega arith))))
-
--- a chain in two parts that answers 0 does so in both
-both-pass : (first own : ℕ) → firstOf first own ≡ 0 → (first ≡ 0) × (own ≡ 0)
-unfolding firstOf
-both-pass zero own e = (refl, e)
-both-pass (suc n) own e = absurd (omega arith)
 
 module _ (widths : Widths) (sizes : Sizes) (v : Volume) where
   -- The answer of a page's read: the volume's, by conditions 1, 2 and 5, which all pages share; else the page's own.

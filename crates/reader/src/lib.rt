@@ -1,6 +1,6 @@
 // The reader: the slot words by reference and the page count, and what is read through it. The borrow checker covers no
 // function over such a struct, so each is thin and is proved by a walk of its MIR; the work is in covered functions on
-// plain slices: `copy_page`.
+// plain slices: `copy_five`, and `copy_page` for either layout.
 ghost use mathlib.Core.Path.{_≡_};
 ghost use Prim.Native.Nat.{_+_, _*_, _≤_};
 ghost use lib.ListN.{length};

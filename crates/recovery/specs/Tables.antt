@@ -6,9 +6,10 @@ use mathlib.Core.List.{List}
 use mathlib.Core.Bool.{Bool, true, false, not, _&&_, _||_}
 use lib.Dec.{ltb}
 use lib.ListN.{length, getD}
+use borrow.Author.Tests.{not-false}
 use Rattle.bounded.specs.Limits.{Widths}
 use Rattle.bounded.specs.Below.{allBelow, someBelow, sumBelow}
-use Rattle.bounded.specs.Choice.{on-test, both-left, both-right, neither-right}
+use Rattle.bounded.specs.Choice.{on-test, both-left, both-right, either-right, neither-right}
 use Rattle.bounded.specs.BelowLaws.{all-at, all-cong, sum-most}
 use Rattle.bounded.specs.Tabulate.{tabulate, tabulate-at}
 use Rattle.outcome.specs.Outcome.{_⇒_otherwise_, settled}
@@ -152,10 +153,6 @@ four-present P S t sound p h =
     let w = highest-exists t p S .0 h in
     ap (hasVersion S t p) (committed-four P S t p (w .0) (w .1)) ∙ four-there P S t p sound
 
-or-true : (x : Bool) → (x || true) ≡ true
-or-true true = refl
-or-true false = refl
-
 -- the answer is the rules' where the sizes are right,
 pub answer-by-table : (layout : Layout) (widths : Widths) (sizes : Sizes) (words state : List ℕ) → (sizesOk widths sizes && (wordsFitIn layout (sizes .slots) words && stateFits (sizes .pages) state)) ≡ true → tableAnswer layout (sizes .pages) (sizes .slots) (slotIn layout words) ≡ recoverAnswerIn layout widths sizes words state
 unfolding linksAnswer tableAnswer recoverAnswer simpleRecoverAnswer walkIn walkOf simpleWalkOf
@@ -165,7 +162,7 @@ answer-by-table FourWords widths sizes words state e =
     on-test (tableSound (sizes .pages) (sizes .slots) (slotIn FourWords words))
     (λ a. on-test (allBelow (sizes .pages) (hasRecord (sizes .slots) (slotIn FourWords words)))
     (λ b. rw (e, all-cong (sizes .pages) (λ p h. four-present (sizes .pages) (sizes .slots) (slotIn FourWords words) a p (all-at (hasRecord (sizes .slots) (slotIn FourWords words)) (sizes .pages) p b h))))
-    (λ b. rw (e, a, b, or-true (someClash (sizes .slots) (slotIn FourWords words)))))
+    (λ b. rw (e, a, b, either-right (someClash (sizes .slots) (slotIn FourWords words)) {b = true} refl)))
     (λ a. rw (e, a))
 
 -- the sizes are right
@@ -187,10 +184,6 @@ unfolding recoverAnswer simpleRecoverAnswer
 answer-by-sizes FiveWords widths sizes words state e = rw e
 answer-by-sizes FourWords widths sizes words state e = rw e
 
-held-back : (b : Bool) → not b ≡ false → b ≡ true
-held-back true e = refl
-held-back false e = sym e
-
 -- an accepted table is sound, and each page has a record with its committed version
 module _ (layout : Layout) (P S : ℕ) (t : ℕ → Slot) (z : tableAnswer layout P S t ≡ 0) where
   pub accepted-sound : tableSound P S t ≡ true
@@ -203,7 +196,7 @@ module _ (layout : Layout) (P S : ℕ) (t : ℕ → Slot) (z : tableAnswer layou
       let a = held (tableSound P S t) _ _ z .1 in
       let b = passed (someClash S t || not (allBelow P (hasRecord S t))) _ _ a in
       let c = passed (someBelow P (λ p. isAstray (walkIn layout P S t p .end))) _ _ (b .1) in (
-        held-back (allBelow P (hasRecord S t)) (neither-right (someClash S t) (not (allBelow P (hasRecord S t))) (b .0)),
+        not-false (allBelow P (hasRecord S t)) (neither-right (someClash S t) (not (allBelow P (hasRecord S t))) (b .0)),
         held (allBelow P (λ p. hasVersion S t p (committedIn layout P S t p))) _ _ (c .1) .0,
       )
 

@@ -7,6 +7,7 @@ use mathlib.Core.List.{List, [], _∷_, map, List·Memᴰ, List·Memᴰ·head, L
 use mathlib.Core.Bool.{Bool, true, false, not, _&&_, false≢true}
 use lib.Dec.{ltb, eqb}
 use lib.ListN.{length, getD}
+use borrow.Author.Tests.{not-false}
 use Rattle.bounded.specs.Limits.{Widths}
 use Rattle.bounded.specs.Choice.{on-test, never, both, both-left, both-right, conjoined, equal-test}
 use Rattle.outcome.specs.Outcome.{_⇒_otherwise_, settled}
@@ -86,10 +87,6 @@ module _ (widths : Widths) (sizes : Sizes) (v : Volume) (page slot : ℕ) (bytes
 off : (b : Bool) → ¬ (b ≡ true) → b ≡ false
 off true n = absurd (n refl)
 off false n = refl
-
-yes : (b : Bool) → not b ≡ false → b ≡ true
-yes true e = refl
-yes false e = sym e
 
 current-exactly : (st : ℕ → PageState) (r : Record) → (isCurrent st r ≡ true) ↔ ((inFlight (st (r .p)) ≡ true) × (r .v ≡ st (r .p) .used))
 unfolding isCurrent
@@ -226,12 +223,12 @@ module _ (widths : Widths) (sizes : Sizes) (v : Volume) where
       let fitted : FitsIn FourWords widths sizes (record { flash = f; state = v .state }) =
       record { bounds = k .fits .bounds; allowed = k .fits .allowed; flash-sized = erased-sized simple-theory sizes v m size slots free; state-sized = k .fits .state-sized } in
       let fits = fits-in-test FourWords widths sizes (record { flash = f; state = v .state }) fitted in
-      let long = both-right (volumeFitsIn FourWords widths sizes v) (eqb (length bytes) (sizes .width)) (yes (volumeFitsIn FourWords widths sizes v && eqb (length bytes) (sizes .width)) (w .0)) in
+      let long = both-right (volumeFitsIn FourWords widths sizes v) (eqb (length bytes) (sizes .width)) (not-false (volumeFitsIn FourWords widths sizes v && eqb (length bytes) (sizes .width)) (w .0)) in
       let sound = table-sound (λ u c. 0) (live .core .shared) in
-      let state = yes (stateSound (sizes .pages) (stateAt (v .state))) (w .2) in
-      let range = yes (ltb page (sizes .pages) && ltb slot (sizes .slots)) (w .3) in
-      let flies = yes (inFlight (stateAt (v .state) page)) (w .5) in
-      let blank = still-blank m k slots e slot (yes (isBlank (slotIn FourWords (v .flash .words) slot)) (w .7)) in
+      let state = not-false (stateSound (sizes .pages) (stateAt (v .state))) (w .2) in
+      let range = not-false (ltb page (sizes .pages) && ltb slot (sizes .slots)) (w .3) in
+      let flies = not-false (inFlight (stateAt (v .state) page)) (w .5) in
+      let blank = still-blank m k slots e slot (not-false (isBlank (slotIn FourWords (v .flash .words) slot)) (w .7)) in
       let none = off (wouldBury (sizes .slots) (slotIn FourWords (f .words)) (stateAt (v .state)) page) (unburied sizes f (stateAt (v .state)) m live (spared sizes v slots size (free .inside) lists) page) in
       ap (λ (x : Volume). simpleWriteAnswer widths sizes x page slot bytes) (erased-is slots e)
       ∙ rw (fits, long, sound, state, range, flies, w .6, blank, none)
@@ -251,10 +248,10 @@ module _ (widths : Widths) (sizes : Sizes) (v : Volume) where
   unfolding simpleEraseAnswer
   accepts page slot bytes slots s ok each =
       let w = told widths sizes v page slot bytes s in
-      let fits = both-left (volumeFitsIn FourWords widths sizes v) (eqb (length bytes) (sizes .width)) (yes (volumeFitsIn FourWords widths sizes v && eqb (length bytes) (sizes .width)) (w .0)) in
+      let fits = both-left (volumeFitsIn FourWords widths sizes v) (eqb (length bytes) (sizes .width)) (not-false (volumeFitsIn FourWords widths sizes v && eqb (length bytes) (sizes .width)) (w .0)) in
       let all = simple-may-erase-all (slotIn FourWords (v .flash .words)) (stateAt (v .state)) slots .1 (λ i h. spare-erasable (getD slots i 0) (each i h)) in
-      let sound = yes (tableSound (sizes .pages) (sizes .slots) (slotIn FourWords (v .flash .words))) (w .1) in
-      let state = yes (stateSound (sizes .pages) (stateAt (v .state))) (w .2) in
+      let sound = not-false (tableSound (sizes .pages) (sizes .slots) (slotIn FourWords (v .flash .words))) (w .1) in
+      let state = not-false (stateSound (sizes .pages) (stateAt (v .state))) (w .2) in
       rw (fits, sound, state, ok, all)
 
 pub unburied-again : Unburied
