@@ -1,6 +1,6 @@
 /*
- * A small console over a simulated flash file. It stores sets of pistons, is killed at a random flash step, powers up again,
- * and finds every set whole: all old or all new.
+ * A small console over a simulated flash file, of a chip that programs a slot by itself and erases 64 together. It stores sets of
+ * pistons, is killed at a random flash step, powers up again, and finds every set whole: all old or all new.
  *
  *   console FILE           powers up from FILE (made and formatted where it is missing) and lists the pistons
  *   console FILE N SEED    formats FILE and stores random sets, N times killed; after each kill powers up and compares
@@ -8,10 +8,10 @@
  * A piston has 32 bytes, 256 stops; with a last argument 64 it has 64 bytes, 512 stops. A FILE that is there and is no flash file
  * of this console and this width, by its length, is left as it is.
  *
- * The driver is what firmware has to supply: load the flash at power-up, and program one slot at a time from the images in
- * memory, wholly or not at all, before the next call. A freshly formatted file is moved into place in one piece: that stands for
- * the marker that a chip's driver keeps (docs/INTEGRATION.md, "First boot"). POSIX for the processes; the use of the library is
- * plain C99.
+ * The driver is what firmware has to supply: load the flash at power-up; program one slot at a time from the images in memory,
+ * wholly or not at all, before the next call; and erase a block only when every copy out of it is programmed. A freshly formatted
+ * file is moved into place in one piece: that stands for the marker that a chip's driver keeps (docs/INTEGRATION.md, "First boot").
+ * POSIX for the processes; the use of the library is plain C99.
  */
 #define _POSIX_C_SOURCE 200809L
 
@@ -27,7 +27,11 @@
 #include <sys/wait.h>
 #include <unistd.h>
 
-enum { PAGES = 8, SLOTS = 24, WORD_BYTES = 4 * BPCC_SLOT_WORDS };
+enum { PAGES = 8, BLOCKS = 3, SLOTS = BLOCKS * BPCC_BLOCK_SLOTS, WORD_BYTES = 4 * BPCC_SLOT_WORDS };
+
+/* How many blank slots are kept in reserve for cleaning: as many as a block has slots. A block with n records has 64 - n of them at
+ * most, so that n or more are outside it: enough to copy all its records, whatever they are. */
+enum { RESERVE = BPCC_BLOCK_SLOTS };
 
 /* The bytes of a piston: the width of the volume. */
 static uint32_t width = BPCC_WIDTH_32;
@@ -42,7 +46,8 @@ static uint32_t state[BPCC_PAGE_WORDS * PAGES];
 #define CONTENTS contents, BPCC_CONTENTS_BYTES(SLOTS, width)
 #define STATE state, BPCC_STATE_WORDS(PAGES)
 
-/* The file that stands for the chip: for each slot its five words, its bytes, and bytes 0 to a multiple of 32. */
+/* The file that stands for the chip: for each slot its five words, its bytes, and bytes 255 to a multiple of 32. All bytes of an
+ * erased slot are 255. */
 static int flash = -1;
 
 #define SLOT_BYTES(width) (32 + (size_t)(width))
@@ -65,22 +70,63 @@ static uint32_t done(const char *call, uint64_t reply) {
     return bpcc_second(reply);
 }
 
+/* Whether the power fails at this point. */
+static int power_fails(void) {
+    return steps_left >= 0 && steps_left-- == 0;
+}
+
 /* A point at which the power may fail. */
 static void step(void) {
-    if (steps_left >= 0 && steps_left-- == 0) {
+    if (power_fails()) {
         raise(SIGKILL);
     }
 }
 
-/* Programs slot k from the images: the five words and the bytes, in one piece. */
-static void program(uint32_t k) {
-    uint8_t piece[SLOT_BYTES(BPCC_MAX_WIDTH)] = {0};
+/* Reads slot k of the flash, and writes it. */
+static void get(uint32_t k, uint8_t *piece) {
     const size_t length = SLOT_BYTES(width);
+    if (pread(flash, piece, length, (off_t)(k * length)) != (ssize_t)length) {
+        fail("the flash file cannot be read");
+    }
+}
+
+static void put(uint32_t k, const uint8_t *piece) {
+    const size_t length = SLOT_BYTES(width);
+    if (pwrite(flash, piece, length, (off_t)(k * length)) != (ssize_t)length) {
+        fail("the flash file takes no slot");
+    }
+}
+
+/* Programs slot k from the images: the five words and the bytes, in one piece. The chip programs erased slots alone. */
+static void program(uint32_t k) {
+    uint8_t piece[SLOT_BYTES(BPCC_MAX_WIDTH)];
+    size_t i;
+    get(k, piece);
+    for (i = 0; i < SLOT_BYTES(width); i++) {
+        if (piece[i] != 255) {
+            fail("a slot is programmed that is not erased");
+        }
+    }
     memcpy(piece, words + BPCC_SLOT_WORDS * k, WORD_BYTES);
     memcpy(piece + WORD_BYTES, contents + width * k, width);
     step();
-    if (pwrite(flash, piece, length, (off_t)(k * length)) != (ssize_t)length) {
-        fail("the flash file takes no slot");
+    put(k, piece);
+    step();
+}
+
+/* Erases a block. Where the power fails, some of its slots are erased and the others as they were. */
+static void erase_block(uint32_t block) {
+    uint8_t erased[SLOT_BYTES(BPCC_MAX_WIDTH)];
+    int cut = power_fails();
+    uint32_t k;
+    memset(erased, 255, sizeof erased);
+    for (k = BPCC_BLOCK_SLOTS * block; k < BPCC_BLOCK_SLOTS * (block + 1); k++) {
+        if (!cut || rand() % 2 == 0) {
+            put(k, erased);
+        }
+    }
+    if (cut) {
+        raise(SIGKILL);
     }
     step();
 }
@@ -88,18 +134,20 @@ static void program(uint32_t k) {
 /* Loads slot k of the flash into the images. */
 static void load(uint32_t k) {
     uint8_t piece[SLOT_BYTES(BPCC_MAX_WIDTH)];
-    const size_t length = SLOT_BYTES(width);
-    if (pread(flash, piece, length, (off_t)(k * length)) != (ssize_t)length) {
-        fail("the flash file cannot be read");
-    }
+    get(k, piece);
     memcpy(words + BPCC_SLOT_WORDS * k, piece, WORD_BYTES);
     memcpy(contents + width * k, piece + WORD_BYTES, width);
+}
+
+/* Whether slot k is blank in the images. */
+static int is_blank(uint32_t k) {
+    return words[BPCC_SLOT_WORDS * k] == BPCC_NONE;
 }
 
 /* Makes a formatted flash file under another name and moves it into place, so that it is there whole or not at all. */
 static void make_flash(const char *path) {
     char fresh[4096];
-    uint32_t k;
+    uint32_t block, k;
     if (snprintf(fresh, sizeof fresh, "%s.new", path) >= (int)sizeof fresh) {
         fail("the flash file's name is too long");
     }
@@ -108,8 +156,13 @@ static void make_flash(const char *path) {
     if (flash < 0) {
         fail("the flash file cannot be made");
     }
+    for (block = 0; block < BLOCKS; block++) {
+        erase_block(block);
+    }
     for (k = 0; k < SLOTS; k++) {
-        program(k);
+        if (!is_blank(k)) {
+            program(k);
+        }
     }
     close(flash);
     if (rename(fresh, path) != 0) {
@@ -145,21 +198,66 @@ static void power_up(const char *path) {
         load(k);
     }
     memset(state, 0xFF, sizeof state);
-    done("recover", bpcc_recover(VOLUME, WORDS, STATE));
+    done("recover", bpcc_recover(VOLUME, WORDS, CONTENTS, STATE));
 }
 
-/* A blank slot; where there is none, one that the library suggests is erased first. */
-static uint32_t blank_slot(uint32_t start) {
-    uint32_t i, slot;
-    for (i = 0; i < SLOTS; i++) {
-        slot = (start + i) % SLOTS;
-        if (words[BPCC_SLOT_WORDS * slot] == BPCC_NONE) {
-            return slot;
+/* Cleans a block: first in the images, then on the chip. The copies are the slots that were blank and no longer are; all of them are
+ * programmed, rising, before the block is erased. Gives 0 where there are too few blank slots for the copies. */
+static int clean(uint32_t block) {
+    int was_blank[SLOTS];
+    uint64_t reply;
+    uint32_t k;
+    for (k = 0; k < SLOTS; k++) {
+        was_blank[k] = is_blank(k);
+    }
+    reply = bpcc_clean(VOLUME, WORDS, CONTENTS, STATE, block);
+    if (bpcc_answer(reply) == BPCC_TOO_FEW_BLANK) {
+        return 0;
+    }
+    done("clean", reply);
+    for (k = 0; k < SLOTS; k++) {
+        if (was_blank[k] && !is_blank(k)) {
+            program(k);
         }
     }
-    slot = done("suggest", bpcc_suggest(VOLUME, WORDS, STATE));
-    done("erase", bpcc_erase(VOLUME, WORDS, CONTENTS, STATE, &slot, 1));
-    program(slot);
+    erase_block(block);
+    return 1;
+}
+
+static uint32_t blank_slots(void) {
+    uint32_t k, count = 0;
+    for (k = 0; k < SLOTS; k++) {
+        count += (uint32_t)is_blank(k);
+    }
+    return count;
+}
+
+/* How many blocks were cleaned since power-up. */
+static uint32_t cleaned;
+
+/* Cleans blocks in turn, which wears them alike, until more slots are blank than the reserve. Copies that a power failure left beside
+ * their originals may have used some of the reserve, so that a block has to wait; the one that was being cleaned never has to. */
+static void make_room(void) {
+    static uint32_t block;
+    uint32_t refused = 0;
+    while (blank_slots() <= RESERVE) {
+        if (clean(block)) {
+            cleaned++;
+            refused = 0;
+        } else if (++refused == BLOCKS) {
+            fail("no block can be cleaned");
+        }
+        block = (block + 1) % BLOCKS;
+    }
+}
+
+/* A blank slot, the next from `start` on, that is not of the reserve. */
+static uint32_t blank_slot(uint32_t start) {
+    uint32_t slot = start;
+    make_room();
+    while (!is_blank(slot)) {
+        slot = (slot + 1) % SLOTS;
+    }
     return slot;
 }
 
@@ -190,16 +288,17 @@ static int store(const uint32_t *set, uint32_t count, uint32_t n, uint32_t piece
     return 0;
 }
 
-/* What the console tells its observer: it is about to store a set (its pistons as bits), or the set is stored. */
+/* What the console tells its observer: it is about to store a set (its pistons as bits), or the set is stored; and how many blocks
+ * it has cleaned. */
 struct note {
-    uint32_t stored, n, set;
+    uint32_t stored, n, set, cleaned;
 };
 
 /* Stores random sets until the power fails. */
 static void play(const char *path, int notes, uint32_t n) {
     power_up(path);
     for (;; n++) {
-        struct note note = {0, n, 0};
+        struct note note = {0, n, 0, cleaned};
         uint32_t set[PAGES], i, count = 1 + (uint32_t)rand() % PAGES, first = (uint32_t)rand() % PAGES;
         uint32_t stride = 1 + 2 * ((uint32_t)rand() % 4), pieces = rand() % 3 == 0 ? (uint32_t)rand() % count : count;
         for (i = 0; i < count; i++) {
@@ -210,6 +309,7 @@ static void play(const char *path, int notes, uint32_t n) {
             exit(1);
         }
         note.stored = (uint32_t)store(set, count, n, pieces);
+        note.cleaned = cleaned;
         step();
         if (note.stored && write(notes, &note, sizeof note) != (ssize_t)sizeof note) {
             exit(1);
@@ -240,7 +340,7 @@ static int whole(uint32_t *kept, const struct note *last) {
 
 /* Reads the console's notes to their end: the last one, and what each piston holds by the sets that were stored. */
 static struct note follow(int notes, uint32_t *kept, unsigned *sets) {
-    struct note note, last = {0, 0, 0};
+    struct note note, last = {0, 0, 0, 0};
     while (read(notes, &note, sizeof note) == (ssize_t)sizeof note) {
         uint32_t page;
         last = note;
@@ -255,7 +355,7 @@ static struct note follow(int notes, uint32_t *kept, unsigned *sets) {
 /* Kills the console so many times at a random step, powers up after each, and compares. */
 static int trial(const char *path, unsigned kills, unsigned seed) {
     uint32_t kept[PAGES] = {0}, n = 1;
-    unsigned i, sets = 0;
+    unsigned i, sets = 0, blocks = 0;
     is_there(path);
     make_flash(path);
     close(flash);
@@ -274,6 +374,7 @@ static int trial(const char *path, unsigned kills, unsigned seed) {
         }
         close(ends[1]);
         last = follow(ends[0], kept, &sets);
+        blocks += last.cleaned;
         close(ends[0]);
         n = last.n == 0 ? n : last.n + 1;
         waitpid(child, &status, 0);
@@ -288,7 +389,7 @@ static int trial(const char *path, unsigned kills, unsigned seed) {
         }
         close(flash);
     }
-    printf("%u kills, %u sets stored, every set whole\n", kills, sets);
+    printf("%u kills, %u sets stored, %u blocks cleaned, every set whole\n", kills, sets, blocks);
     return 0;
 }
 

@@ -13,7 +13,11 @@
  *
  * A blank slot has BPCC_NONE in all five words. Any other slot is a record: its page p, its version v, its back pointer c (the
  * page's committed version at launch), the next page np of its transaction and that page's version nv. docs/SPEC.md says when a
- * record (section 2) and a state (section 3) are sound.
+ * record (section 2) and a state (section 3) are sound. A record may be in several slots: twins, equal in all five words and all W
+ * bytes, as a cut in bpcc_clean leaves them.
+ *
+ * A block is BPCC_BLOCK_SLOTS slots that the chip erases together: block b, 0 to 15, has those from 64*b on, up to the next block
+ * or to S.
  *
  * A buffer, and a list is one, is a pointer and then its length, in elements; it is really there and as long as stated, as
  * premise 1 of README.md says. What the buffers hold, and all numbers and lengths, may be anything: every call either is done or
@@ -35,8 +39,8 @@ extern "C" {
 
 /* The interface's version: the major number rises where a caller must change, the minor where something is added, made
  * stricter, or costs otherwise (docs/CHANGES.md). */
-#define BPCC_VERSION_MAJOR 2
-#define BPCC_VERSION_MINOR 2
+#define BPCC_VERSION_MAJOR 3
+#define BPCC_VERSION_MINOR 0
 
 /* The two widths: bytes of contents for each slot, and the length of what is written and read. */
 #define BPCC_WIDTH_32 32
@@ -49,6 +53,10 @@ extern "C" {
 #define BPCC_MAX_PAGES 256
 #define BPCC_MAX_SLOTS 1024
 #define BPCC_MAX_WIDTH BPCC_WIDTH_64
+
+/* Slots of a block, and the most blocks of a volume. */
+#define BPCC_BLOCK_SLOTS 64
+#define BPCC_MAX_BLOCKS 16
 
 /* Words of a slot in the table, and of a page in the state. */
 #define BPCC_SLOT_WORDS 5
@@ -75,7 +83,8 @@ enum bpcc_answers {
     BPCC_SLOT_NOT_BLANK = 11,
     BPCC_MAY_NOT_ERASE = 12,
     BPCC_NOTHING_TO_ERASE = 13,
-    BPCC_NO_COMMITTED_RECORD = 14
+    BPCC_NO_COMMITTED_RECORD = 14,
+    BPCC_TOO_FEW_BLANK = 15
 };
 
 /* The answer, 0 for done. */
@@ -92,7 +101,7 @@ static inline const char *bpcc_answer_text(uint32_t answer) {
     case BPCC_RECORDS_CLASH: return "records clash or a page has none";
     case BPCC_LINKS_ASTRAY: return "links astray";
     case BPCC_STATE_UNSOUND: return "state not sound";
-    case BPCC_WRONG_LIST: return "wrong list, page or slot";
+    case BPCC_WRONG_LIST: return "wrong list, page, slot or block";
     case BPCC_PAGE_IN_FLIGHT: return "page in flight";
     case BPCC_VERSIONS_EXHAUSTED: return "versions exhausted";
     case BPCC_PAGE_NOT_IN_FLIGHT: return "page not in flight";
@@ -101,6 +110,7 @@ static inline const char *bpcc_answer_text(uint32_t answer) {
     case BPCC_MAY_NOT_ERASE: return "slot may not be erased";
     case BPCC_NOTHING_TO_ERASE: return "nothing to erase";
     case BPCC_NO_COMMITTED_RECORD: return "no committed record";
+    case BPCC_TOO_FEW_BLANK: return "too few blank slots outside the block";
     case 16: return "a record would be buried";
     default: return "no answer of this library";
     }
@@ -153,9 +163,10 @@ uint64_t bpcc_withdraw(uint32_t pages, uint32_t slots, uint32_t width,
                        uint32_t page);
 
 /*
- * Erases the listed slots: all become blank with bytes 255; nothing else changes. Whether they may be erased (docs/SPEC.md,
- * section 5) is judged for every slot on the table before the call.
- * Refuses: 1, 2, 5, 6, 12. Uses less than 7 KiB of stack.
+ * Erases the listed slots: all become blank with bytes 255; nothing else changes. A slot may be erased if a twin of it is not in
+ * the list, or else if its record may go (docs/SPEC.md, section 5); this is judged for every slot on the flash before the call. So
+ * one of twins always stays, unless the record may go.
+ * Refuses: 1, 2, 5, 6, 12. Uses less than 8 KiB of stack.
  */
 uint64_t bpcc_erase(uint32_t pages, uint32_t slots, uint32_t width,
                     uint32_t *words, size_t words_length,
@@ -164,22 +175,43 @@ uint64_t bpcc_erase(uint32_t pages, uint32_t slots, uint32_t width,
                     const uint32_t *list, size_t list_length);
 
 /*
- * Names, as the second number, the lowest slot that may be erased. Alters nothing.
- * Refuses, with BPCC_NONE as the second number: 1, 2, 5, 13. Uses less than 7 KiB of stack.
+ * Names, as the second number, the lowest slot that may be erased in a list of its own: the lower of twins, too. Alters nothing.
+ * Refuses, with BPCC_NONE as the second number: 1, 2, 5, 13. Uses less than 8 KiB of stack.
  */
 uint64_t bpcc_suggest(uint32_t pages, uint32_t slots, uint32_t width,
                       const uint32_t *words, size_t words_length,
+                      const uint8_t *contents, size_t contents_length,
                       const uint32_t *state, size_t state_length);
 
 /*
- * Fills the state from the slot table alone; the old state may hold anything. Each page gets the version last committed, the
- * highest version that any record gives it or links to as used, not in flight, written 0. The first call after power-up.
+ * Cleans a block: each record in it that may not be erased, all slots of the block being listed, is copied with its bytes to a
+ * blank slot outside the block, of twins in the block the lowest alone; then every slot of the block becomes blank with bytes 255.
+ * The copies are made in rising order of the block's slots, to the lowest blank slots outside, rising. The state stays.
+ *
+ * The call alters the images alone, as every call does. The driver then programs the copies and erases the block, in this order:
+ * first the slots outside the block that were blank before the call and hold a record after it, one after the other in rising
+ * order, and only when all are programmed the block, as one. After a cut anywhere in this bpcc_recover finds every page, some
+ * records perhaps in two slots, as twins; clean the block again.
+ * Refuses: 1, 2, 5, 6 (no such block), 15 (fewer blank slots outside the block than records to copy). Uses less than 12 KiB of
+ * stack.
+ */
+uint64_t bpcc_clean(uint32_t pages, uint32_t slots, uint32_t width,
+                    uint32_t *words, size_t words_length,
+                    uint8_t *contents, size_t contents_length,
+                    const uint32_t *state, size_t state_length,
+                    uint32_t block);
+
+/*
+ * Fills the state from the slot table, and from the contents, by which twins are told; the old state may hold anything. Each page
+ * gets the version last committed, the highest version that any record gives it or links to as used, not in flight, written 0.
+ * The first call after power-up. Two records of one page and version are a clash (3) unless they are twins.
  * The second number is the number of links followed, summed over the pages as starts: one for each record whose link is compared,
  * the link that decides and the return to the start included. It is at most P*P, which one set of all pages reaches.
- * Refuses: 1, 2, 3, 4, 14. Uses less than 3.2 KB of stack.
+ * Refuses: 1, 2, 3, 4, 14. Uses less than 3.5 KB of stack.
  */
 uint64_t bpcc_recover(uint32_t pages, uint32_t slots, uint32_t width,
                       const uint32_t *words, size_t words_length,
+                      const uint8_t *contents, size_t contents_length,
                       uint32_t *state, size_t state_length);
 
 /*

@@ -3,7 +3,7 @@
  * passes if every call gave the answer expected. No time is a failure.
  *
  * A time is the shortest of ROUNDS calls, each on the volume as it was made. To see another archive's times beside, prefix its
- * symbols and link both; its calls must have this header's parameters (those before version 2.0 lack the width):
+ * symbols and link both; its calls must have this header's parameters (those before version 3.0 have others):
  *
  *     objcopy --prefix-symbols=before_ OTHER.a before.a
  *     objcopy --redefine-sym before_memset=memset --redefine-sym before_memcpy=memcpy before.a
@@ -17,12 +17,13 @@
 #include <string.h>
 #include <time.h>
 
-enum { SLOTS = BPCC_MAX_SLOTS, ROUNDS = 501 };
+enum { SLOTS = BPCC_MAX_SLOTS, ROUNDS = 201 };
 
 #ifdef BESIDE
 uint64_t before_bpcc_erase(uint32_t, uint32_t, uint32_t, uint32_t *, size_t, uint8_t *, size_t, const uint32_t *, size_t,
                            const uint32_t *, size_t);
-uint64_t before_bpcc_suggest(uint32_t, uint32_t, uint32_t, const uint32_t *, size_t, const uint32_t *, size_t);
+uint64_t before_bpcc_suggest(uint32_t, uint32_t, uint32_t, const uint32_t *, size_t, const uint8_t *, size_t, const uint32_t *,
+                             size_t);
 #endif
 
 static struct volume {
@@ -81,7 +82,8 @@ static void few_exposed(void) { mixed(8, 1000, 16); }
 static void many_exposed(void) { mixed(8, 800, 200); }
 static void formatted(void) { format(BPCC_MAX_PAGES); }
 
-/* By hand: obsolete records of two pages with two back pointers, each of which straddles an exposed link behind them and is not outdone. */
+/* By hand: obsolete records of two pages with two back pointers, each of which straddles an exposed link behind them and is not
+ * outdone. Each has bytes of its own, which differ at their end: there are no twins. */
 static void all_needed(void) {
     const uint32_t state[] = {5, 6, 1, 0, 5, 6, 2, 0, 0, 1, 0, 0};
     uint32_t slot;
@@ -90,10 +92,12 @@ static void all_needed(void) {
     for (slot = 0; slot < SLOTS; slot++) {
         const uint32_t obsolete[] = {slot % 2, 3, slot / 2 % 2, slot % 2, 3}, exposed[] = {2, 1, 0, slot % 2, 2};
         memcpy(v.words + BPCC_SLOT_WORDS * slot, slot < SLOTS - 2 ? obsolete : exposed, sizeof obsolete);
+        memset(v.contents + v.width * slot, 0, v.width);
+        memcpy(v.contents + v.width * (slot + 1) - sizeof slot, &slot, sizeof slot);
     }
 }
 
-/* Each case: its volume and width, how many slots an erase lists (0: a suggest, which takes no contents), and the answer expected. */
+/* Each case: its volume and width, how many slots an erase lists (0: a suggest), and the answer expected. */
 static const struct kind {
     const char *what;
     void (*make)(void);
@@ -109,16 +113,17 @@ static const struct kind {
     {"erase, one obsolete slot listed, 0 exposed records, width 64", none_exposed, BPCC_WIDTH_64, 1, BPCC_DONE},
     {"erase, one obsolete slot listed, 16 exposed records", few_exposed, BPCC_WIDTH_32, 1, BPCC_DONE},
     {"suggest, 1,022 needed records, nothing may go", all_needed, BPCC_WIDTH_32, 0, BPCC_NOTHING_TO_ERASE},
+    {"suggest, 1,022 needed records, nothing may go, width 64", all_needed, BPCC_WIDTH_64, 0, BPCC_NOTHING_TO_ERASE},
     {"suggest, a formatted volume, nothing may go", formatted, BPCC_WIDTH_32, 0, BPCC_NOTHING_TO_ERASE},
 };
 
 static uint64_t reply_of(size_t listed) {
-    return listed > 0 ? bpcc_erase(VOLUME, WORDS, CONTENTS, STATE, list, listed) : bpcc_suggest(VOLUME, WORDS, STATE);
+    return listed > 0 ? bpcc_erase(VOLUME, WORDS, CONTENTS, STATE, list, listed) : bpcc_suggest(VOLUME, WORDS, CONTENTS, STATE);
 }
 
 #ifdef BESIDE
 static uint64_t reply_before(size_t listed) {
-    return listed > 0 ? before_bpcc_erase(VOLUME, WORDS, CONTENTS, STATE, list, listed) : before_bpcc_suggest(VOLUME, WORDS, STATE);
+    return listed > 0 ? before_bpcc_erase(VOLUME, WORDS, CONTENTS, STATE, list, listed) : before_bpcc_suggest(VOLUME, WORDS, CONTENTS, STATE);
 }
 #endif
 

@@ -1,7 +1,8 @@
 /*
- * What the samples of both families share: a volume of two pages and four slots with its buffers, the checks of replies and
- * buffers, and each call with NULL, 0 for every choice of its buffers and with widths that there are not. A sample defines
- * TABLE_WORDS, then reads this, and has a table `calls` with what each of its calls takes, `make` and `ready`. C99 and C++.
+ * What the samples of both families share: a volume of two pages and four slots, or of two slots more than a block has, with its
+ * buffers, the checks of replies and buffers, and each call with NULL, 0 for every choice of its buffers and with widths that there
+ * are not. A sample defines TABLE_WORDS, then reads this, and has a table `calls` with what each of its calls takes, `make` and
+ * `ready`. C99 and C++.
  */
 #ifndef SAMPLE_H
 #define SAMPLE_H
@@ -11,19 +12,19 @@
 #include <stdio.h>
 #include <string.h>
 
-enum { PAGES = 2, SLOTS = 4 };
+enum { PAGES = 2, SLOTS = 4, TWO_BLOCKS = BPCC_BLOCK_SLOTS + 2 };
 
 /* The buffers that calls are lent, each a bit. */
 enum { WORDS = 1, CONTENTS = 2, STATE = 4, LIST = 8, BYTES = 16, OUT = 32 };
 
 /* The memory of every buffer, and a copy. */
 static struct {
-    uint32_t words[BPCC_SLOT_WORDS * SLOTS], state[BPCC_PAGE_WORDS * PAGES], list[1];
-    uint8_t contents[BPCC_MAX_WIDTH * SLOTS], bytes[BPCC_MAX_WIDTH], out[BPCC_MAX_WIDTH + 1];
+    uint32_t words[BPCC_SLOT_WORDS * TWO_BLOCKS], state[BPCC_PAGE_WORDS * PAGES], list[1];
+    uint8_t contents[BPCC_MAX_WIDTH * TWO_BLOCKS], bytes[BPCC_MAX_WIDTH], out[BPCC_MAX_WIDTH + 1];
 } memory, before;
 
-/* The width of the volume, and the width that calls are told. */
-static uint32_t width, told;
+/* The slots of the volume, its width, and the width that calls are told. */
+static uint32_t volume_slots = SLOTS, width, told;
 
 /* The buffers as they are lent. */
 static uint32_t *words, *state, *list;
@@ -51,9 +52,9 @@ static void expect(uint64_t reply, uint32_t answer, uint32_t second, const char 
 /* Lends every buffer, the absent ones as NULL, 0. */
 static void lend(unsigned absent) {
     words = absent & WORDS ? NULL : memory.words;
-    words_length = absent & WORDS ? 0 : TABLE_WORDS(SLOTS);
+    words_length = absent & WORDS ? 0 : TABLE_WORDS(volume_slots);
     contents = absent & CONTENTS ? NULL : memory.contents;
-    contents_length = absent & CONTENTS ? 0 : BPCC_CONTENTS_BYTES(SLOTS, width);
+    contents_length = absent & CONTENTS ? 0 : BPCC_CONTENTS_BYTES(volume_slots, width);
     state = absent & STATE ? NULL : memory.state;
     state_length = absent & STATE ? 0 : BPCC_STATE_WORDS(PAGES);
     list = absent & LIST ? NULL : memory.list;
@@ -85,8 +86,8 @@ static void expect_state(uint32_t page, uint32_t committed, uint32_t used, uint3
     check(at[0] == committed && at[1] == used && at[2] == next && at[3] == written, name);
 }
 
-/* The calls of both families; suggest and count are bpcc.h's alone. */
-enum call { FORMAT, LAUNCH, WRITE, WITHDRAW, ERASE, SUGGEST, RECOVER, COUNT, READ };
+/* The calls of both families; suggest, clean and count are bpcc.h's alone. */
+enum call { FORMAT, LAUNCH, WRITE, WITHDRAW, ERASE, SUGGEST, CLEAN, RECOVER, COUNT, READ };
 
 /* A call, and the buffers that it takes. */
 struct taking {

@@ -8,7 +8,7 @@
  *
  * A time is the shortest of ROUNDS calls, each on the volume as it was made, less what reading the clock takes: what else the
  * machine does is left out. The calls themselves make the volumes, but for those made by hand, to which no list of calls leads:
- * erase, suggest and recover accept any sound records, and search or follow longest on these.
+ * erase, suggest, clean and recover accept any sound records, and search or follow longest on these.
  */
 #define _POSIX_C_SOURCE 200809L
 
@@ -20,14 +20,14 @@
 #include <time.h>
 
 enum { SIZES = 5, ROUNDS = 101 };
-enum call { FORMAT, LAUNCH, WRITE, WITHDRAW, ERASE, SUGGEST, RECOVER, COUNT, READ, SCC_WRITE, SCC_ERASE, SCC_RECOVER, CALLS };
+enum call { FORMAT, LAUNCH, WRITE, WITHDRAW, ERASE, SUGGEST, CLEAN, RECOVER, COUNT, READ, SCC_WRITE, SCC_ERASE, SCC_RECOVER, CALLS };
 
-static const char *const names[CALLS] = {"format",  "launch", "write", "withdraw",  "erase",     "suggest",
+static const char *const names[CALLS] = {"format",  "launch", "write", "withdraw",  "erase",     "suggest",    "clean",
                                          "recover", "count",  "read",  "scc_write", "scc_erase", "scc_recover"};
 static const uint32_t sizes[SIZES] = {64, 128, 256, 512, 1024};
 
-/* A volume. Calls on it are given its last page, its last slot, and the list of the `listed` pages or slots from `first` up;
- * `links` has how many recover follows, where it is the call timed. */
+/* A volume. Calls on it are given its last page, its last slot, its block 0, and the list of the `listed` pages or slots from
+ * `first` up; `links` has how many recover follows, where it is the call timed. */
 static struct volume {
     uint32_t pages, slots, first, listed, links;
     uint32_t words[BPCC_SLOT_WORDS * BPCC_MAX_SLOTS];
@@ -56,9 +56,10 @@ static uint64_t reply_of(enum call call) {
     case WITHDRAW: return bpcc_withdraw(VOLUME, STATE, v.pages - 1);
     case ERASE:
     case SCC_ERASE: return FAMILY(erase, VOLUME, WORDS, CONTENTS, STATE, list + v.first, v.listed);
-    case SUGGEST: return bpcc_suggest(VOLUME, WORDS, STATE);
-    case RECOVER:
-    case SCC_RECOVER: return FAMILY(recover, VOLUME, WORDS, STATE);
+    case SUGGEST: return bpcc_suggest(VOLUME, WORDS, CONTENTS, STATE);
+    case CLEAN: return bpcc_clean(VOLUME, WORDS, CONTENTS, STATE, 0);
+    case RECOVER: return bpcc_recover(VOLUME, WORDS, CONTENTS, STATE);
+    case SCC_RECOVER: return scc_recover(VOLUME, WORDS, STATE);
     case COUNT: return bpcc_count(bytes, width);
     case READ: return bpcc_read(VOLUME, WORDS, CONTENTS, STATE, v.pages - 1, bytes, width);
     default: return BPCC_DONE; /* no call: what reading the clock takes */
@@ -135,7 +136,8 @@ static uint32_t either(void) {
     return (uint32_t)rand() / 64 % 2;
 }
 
-/* By hand: a record of page p that links to page np; of four words it has no c. */
+/* By hand: a record of page p that links to page np; of four words it has no c. Its bytes differ from those of others at their end:
+ * it has no twin. */
 static void set(uint32_t slot, uint32_t p, uint32_t version, uint32_t c, uint32_t np, uint32_t nv) {
     const uint32_t five_words[] = {p, version, c, np, nv}, four_words[] = {p, version, np, nv};
     if (four) {
@@ -143,6 +145,8 @@ static void set(uint32_t slot, uint32_t p, uint32_t version, uint32_t c, uint32_
     } else {
         memcpy(v.words + BPCC_SLOT_WORDS * slot, five_words, sizeof five_words);
     }
+    memset(v.contents + width * slot, 0, width);
+    memcpy(v.contents + width * (slot + 1) - sizeof slot, &slot, sizeof slot);
 }
 
 /* As many pages as there may be, stored in rings of all of them until no slot is blank. */
@@ -296,6 +300,52 @@ static void chain_outdone(uint32_t slots) {
     v.listed = slots - 3;
 }
 
+/* By hand: one record of one page in all slots, its bytes the same in all; all but the last are listed. */
+static void twins(uint32_t slots) {
+    uint32_t slot;
+    format(slots, 1);
+    for (slot = 0; slot < slots; slot++) {
+        set(slot, 0, 0, 0, 0, 0);
+        memset(v.contents + width * slot, 7, width);
+    }
+    v.listed = slots - 1;
+    v.links = 1;
+}
+
+/* … and with other bytes at the end of each. */
+static void alike(uint32_t slots) {
+    uint32_t slot;
+    format(slots, 1);
+    for (slot = 0; slot < slots; slot++) {
+        set(slot, 0, 0, 0, 0, 0);
+    }
+}
+
+/* By hand: room for what is copied out of a block, the last 64 slots; a volume of one block has none. */
+static void room(uint32_t slots) {
+    if (slots > BPCC_BLOCK_SLOTS) {
+        memset(v.words + BPCC_SLOT_WORDS * (slots - BPCC_BLOCK_SLOTS), 0xFF, 4 * BPCC_SLOT_WORDS * BPCC_BLOCK_SLOTS);
+    }
+}
+
+/* Formatted pages that fill a block, or half of the only one. */
+static void block_of_pages(uint32_t slots) {
+    format(slots, slots > BPCC_BLOCK_SLOTS ? BPCC_BLOCK_SLOTS : slots / 2);
+}
+
+/* By hand: a block of records alike, each to be copied, and as many more as leave room. */
+static void block_alike(uint32_t slots) {
+    alike(slots);
+    room(slots);
+}
+
+/* By hand: a block of needed records with their link at its end, each to be copied, and as many more as leave room. */
+static void block_needed(uint32_t slots) {
+    chain_needed(slots);
+    room(slots);
+    set(BPCC_BLOCK_SLOTS - 1, 1, 1, 0, 0, 6);
+}
+
 /* Each call on its kinds of volume, and the answer expected. */
 static const struct kind {
     enum call call;
@@ -312,11 +362,17 @@ static const struct kind {
     {ERASE, BPCC_DONE, unstraddled, "P = 2, half of the slots, the others exposed"},
     {ERASE, BPCC_DONE, outdone, "P = 2, S-4 records, each outdone by those before it"},
     {ERASE, BPCC_DONE, chain_outdone, "P = S, by hand, S-3 records of one chain, outdone by its first two"},
+    {ERASE, BPCC_DONE, twins, "P = 1, by hand, S-1 of S twins"},
     {SUGGEST, BPCC_DONE, needed, "P = 2, S/2-2 needed records before their links"},
     {SUGGEST, BPCC_NOTHING_TO_ERASE, chain_needed, "P = S, by hand, S-1 needed records of one chain"},
+    {SUGGEST, BPCC_NOTHING_TO_ERASE, alike, "P = 1, by hand, S records alike but for their last bytes"},
+    {CLEAN, BPCC_DONE, block_of_pages, "P = 64, a record of each to copy"},
+    {CLEAN, BPCC_DONE, block_alike, "P = 1, by hand, S-64 records alike but for their last bytes, 64 to copy"},
+    {CLEAN, BPCC_DONE, block_needed, "P = S, by hand, S-65 needed records of one chain, 63 and their link to copy"},
     {RECOVER, BPCC_DONE, ring, "P = S/2, a ring of all, no slot blank"},
     {RECOVER, BPCC_DONE, one_ring, "P = S, by hand, a ring of all, no other record"},
     {RECOVER, BPCC_DONE, old_links, "P = S-2, links to older versions"},
+    {RECOVER, BPCC_DONE, twins, "P = 1, by hand, S twins"},
     {COUNT, BPCC_DONE, at_rest, "the bytes of a page"},
     {READ, BPCC_DONE, in_flight, "P = S, all in flight"},
     {SCC_WRITE, BPCC_DONE, ring_but_one, "P = S/2, the last page of a ring of all"},
@@ -368,6 +424,11 @@ static uint32_t followed(enum call recover) {
     return links;
 }
 
+/* Whether a volume of one block is to be cleaned: its slots are judged, and there is none to copy to. */
+static int one_block(const struct kind *kind, uint32_t slots) {
+    return kind->call == CLEAN && slots <= BPCC_BLOCK_SLOTS;
+}
+
 /* Times a kind at each size, counts it, and raises the longest times of its call. */
 static void measure(const struct kind *kind, double clock_time, double *longest) {
     double times[SIZES];
@@ -379,7 +440,7 @@ static void measure(const struct kind *kind, double clock_time, double *longest)
         wrong = 0;
         kind->make(sizes[s]);
         made = v;
-        times[s] = shortest(kind->call, kind->answer) - clock_time;
+        times[s] = shortest(kind->call, one_block(kind, sizes[s]) ? BPCC_TOO_FEW_BLANK : kind->answer) - clock_time;
         longest[s] = times[s] > longest[s] ? times[s] : longest[s];
         links[s] = recovers ? followed(kind->call) : 0;
         right += wrong == 0;

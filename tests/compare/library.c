@@ -65,7 +65,7 @@ static uint32_t blank_slot(void) {
         slot++;
     }
     if (slot == SLOTS) {
-        slot = done("suggest", bpcc_suggest(VOLUME, WORDS, STATE));
+        slot = done("suggest", bpcc_suggest(VOLUME, WORDS, CONTENTS, STATE));
         done("erase", bpcc_erase(VOLUME, WORDS, CONTENTS, STATE, &slot, 1));
         program(slot);
     }
@@ -104,7 +104,7 @@ static void store_sets(uint32_t sets, uint32_t size) {
     for (i = 0; i < SLOTS; i++) {
         load(i);
     }
-    done("recover", bpcc_recover(VOLUME, WORDS, STATE));
+    done("recover", bpcc_recover(VOLUME, WORDS, CONTENTS, STATE));
     for (i = 1; i <= sets; i++) {
         store(i, size);
     }

@@ -1,33 +1,37 @@
 -- Document 01's records, with a back pointer, are a family that runs can be shown of.
-use Prim.Native.Nat.{ℕ, _<_}
+use Prim.Native.Nat.{ℕ}
 use native.Mathlib.Omega.{arith}
-use mathlib.Core.Path.{_≡_, refl}
-use mathlib.Core.List.{List}
-use Rattle.bounded.specs.Limits.{Widths}
+use mathlib.Core.Path.{_≡_, refl, sym, ap}
+use mathlib.Core.List.{List, [], _∷_, _++_, map, append-nil, flatten}
+use Rattle.outcome.specs.Outcome.{settled}
+use Rattle.sizes.specs.declared.Block.{Block}
+use Rattle.sizes.specs.declared.Layout.the-variants.{FiveWords}
 use Rattle.sizes.specs.declared.Sizes.{Sizes}
+use Rattle.sizes.specs.Blocks.{blockAt}
 use Rattle.record.specs.declared.Record.{Record}
 use Rattle.record.specs.SlotLaws.{sound-facts}
-use Rattle.state.specs.Change.{atRest}
+use Rattle.record.specs.Flash.{Step, applyAllIn}
 use Rattle.rules.specs.Volume.{Volume}
 use Rattle.rules.specs.Write.{planOf, writeAnswer, writeStep, writeChange, writeOutcome}
-use Rattle.rules.specs.Permission.{mayErase}
 use Rattle.rules.specs.Erase.{eraseAnswer, eraseOutcome}
+use Rattle.rules.specs.Clean.{cleanCopies, cleanBlanks, cleanSteps, cleanStages, cleanAnswer, cleanOutcome}
 use Rattle.rules.specs.Recover.{linksOf, recovered, recoverAnswer, recoverOutcome}
-use Rattle.rules.specs.laws.Permission.{may-erase-all}
-use Rattle.rules.specs.laws.Accepted.{write-tests, erase-tests}
+use Rattle.rules.specs.laws.Accepted.{write-tests}
 use Rattle.protocol.specs.View.{recordView}
 use Rattle.protocol.specs.Shared.{SharedCore}
 use Rattle.protocol.specs.BackPointer.{Core}
 use Rattle.protocol.specs.SameSet.{core-same}
 use Rattle.protocol.specs.OneMore.{core-more}
 use Rattle.protocol.specs.CompletedCore.{core-completed}
-use Rattle.protocol.specs.Permitted.{Permitted, may-erase-permitted}
+use Rattle.protocol.specs.Permitted.{Permitted}
 use Rattle.protocol.specs.Fewer.{Erased, core-fewer, live-erased}
 use Rattle.protocol.specs.WriteSteps.{planned-sound}
 use Rattle.protocol.specs.Recovers.{committed-found}
 use Rattle.protocol.specs.RecoverAnswers.{recover-accepts}
 use Rattle.atomicity.specs.Family.{backPointer}
-use Rattle.atomicity.specs.steps.Theory.{Pairs, ErasedBy, Theory}
+use Rattle.atomicity.specs.steps.Sparing.{Pairs, ErasedBy}
+use Rattle.atomicity.specs.steps.Cleaning.{erase-spares, clean-spares}
+use Rattle.atomicity.specs.steps.Theory.{Theory}
 
 -- nothing is exposed where every version is 0
 at-start : (R : Pairs) (P : ℕ) (kept : ℕ → List ℕ) → SharedCore recordView R (λ p. 0) P kept → ((r : Record) (b : List ℕ) → R r b → (r .v ≡ 0) × (r .nv ≡ 0)) → Core R (λ p. 0) P kept
@@ -44,8 +48,17 @@ at-start R P kept shared zero =
 erased-of : {R R′ : Pairs} {st : ℕ → _} → ErasedBy Permitted R R′ st → Erased R R′ st
 erased-of e = record { fewer = e .fewer; finds-before = e .finds-before; finds = e .finds; stays-or-permitted = e .stays-or-permitted }
 
+-- the stages of a cleaning are its steps
+steps-in-stages : (sizes : Sizes) (v : Volume) (block : Block) → cleanSteps sizes v block ≡ flatten (cleanStages sizes v block)
+unfolding cleanSteps cleanStages flatten
+steps-in-stages sizes v block = by (cleanCopies sizes v block)
+  where
+    by : (copies : List Step) → copies ++ cleanBlanks sizes v block ≡ flatten (map (λ s. s ∷ []) copies ++ (cleanBlanks sizes v block ∷ []))
+    by [] = sym (append-nil (cleanBlanks sizes v block))
+    by (s ∷ copies) = ap (λ (l : List Step). s ∷ l) (by copies)
+
 pub back-pointer : Theory backPointer
-unfolding planOf writeOutcome writeChange writeStep eraseOutcome recoverOutcome recovered
+unfolding planOf writeOutcome writeChange writeStep eraseOutcome cleanOutcome recoverOutcome recovered
 back-pointer =
     record {
       back = λ u c. c;
@@ -65,18 +78,21 @@ back-pointer =
           let a = write-tests widths sizes v page slot bytes e in
           record { whole = a .whole; page-below = a .page-below; slot-below = a .slot-below; flying = a .flying; unwritten = a .unwritten; free = a .free };
       write-fresh = λ widths sizes v page slot bytes e contents. tt;
-      mayErase = mayErase;
+      Apart = λ S t. Unit {0};
+      apart-at-first = λ S t a. tt;
+      apart-stored = λ S t k r none a. tt;
       Permitted = Permitted;
-      permits = may-erase-permitted;
       fewer = λ P R R′ st kept e core. core-fewer (erased-of e) core;
       live-fewer = λ P R R′ st kept Entered e core state live. live-erased (erased-of e) core state live;
       eraseAnswer = eraseAnswer;
       erase-is = λ widths sizes v slots. refl;
-      erase-listed = λ widths sizes v slots e. erase-tests widths sizes v slots e .listed;
-      erase-permitted = λ widths sizes v slots e. may-erase-all _ _ _ slots .0 (erase-tests widths sizes v slots e .permitted);
+      erase-spares = erase-spares;
+      cleanAnswer = cleanAnswer;
+      clean-is = λ widths sizes v block. ap (λ (l : List Step). settled (cleanAnswer widths sizes v block) 0 0 (v .flash) (applyAllIn FiveWords (sizes .width) (v .flash) l)) (steps-in-stages sizes v (blockAt (sizes .slots) block));
+      clean-spares = clean-spares;
       recoverAnswer = recoverAnswer;
       links = linksOf;
-      recover-is = λ widths sizes words state. refl;
-      recover-accepts = λ widths sizes words state bytes comm kept ok fits room apart core. recover-accepts widths sizes words state ok fits room apart core;
+      recover-is = λ widths sizes v. refl;
+      recover-accepts = λ widths sizes v comm kept fits apart core. recover-accepts widths sizes v fits core;
       committed-found = λ P S t bytes comm kept core p h. committed-found core p h;
     }

@@ -14,13 +14,14 @@ use Rattle.rules.specs.Withdraw.{withdrawOutcome}
 use Rattle.rules.specs.Erase.{eraseSteps}
 use Rattle.atomicity.specs.Family.{Family}
 
--- "It holds launch, write, withdraw, erase and recover, with any pages, slots, lists and bytes"
+-- "It holds launch, write, withdraw, erase and recover, with any pages, slots, lists and bytes"; document 02: "Cleaning joins the calls of promise 3."
 pub data Call : Type 0 where
   Launch : (pages : List ℕ) → Call
   Write : (page slot : ℕ) (bytes : List ℕ) → Call
   Withdraw : (page : ℕ) → Call
   Erase : (slots : List ℕ) → Call
   Recover : Call
+  Clean : (block : ℕ) → Call
 
 -- the volume's outcome where a call alters the state alone; and where it alters the flash alone
 unfoldable pub withState : Volume → Outcome (List ℕ) → Outcome Volume
@@ -35,17 +36,20 @@ perform F widths sizes v (Launch pages) = withState v (launchOutcome widths size
 perform F widths sizes v (Write page slot bytes) = F .write widths sizes v page slot bytes
 perform F widths sizes v (Withdraw page) = withState v (withdrawOutcome widths sizes (v .state) page)
 perform F widths sizes v (Erase slots) = withFlash v (F .erase widths sizes v slots)
-perform F widths sizes v Recover = withState v (F .recover widths sizes (v .flash .words) (v .state))
+perform F widths sizes v Recover = withState v (F .recover widths sizes v)
+perform F widths sizes v (Clean block) = withFlash v (F .clean widths sizes v block)
 
 -- What the call does to the flash, were it accepted: stages, one after the other, each of single steps. They are fixed before the call.
--- A write is one stage with its one step, an erase one stage with a step for each listed slot; every other call alters no flash.
-unfoldable pub plannedStages : Family → Volume → Call → List (List Step)
-plannedStages F v (Launch pages) = []
-plannedStages F v (Write page slot bytes) = (Step.Store slot (F .plan (stateAt (v .state)) page) bytes ∷ []) ∷ []
-plannedStages F v (Withdraw page) = []
-plannedStages F v (Erase slots) = eraseSteps slots ∷ []
-plannedStages F v Recover = []
+-- A write is one stage with its one step, an erase one stage with a step for each listed slot; of a cleaning each copy is a stage by itself, and the blankings of its block
+-- are the last; every other call alters no flash.
+unfoldable pub plannedStages : Family → Sizes → Volume → Call → List (List Step)
+plannedStages F sizes v (Launch pages) = []
+plannedStages F sizes v (Write page slot bytes) = (Step.Store slot (F .plan (stateAt (v .state)) page) bytes ∷ []) ∷ []
+plannedStages F sizes v (Withdraw page) = []
+plannedStages F sizes v (Erase slots) = eraseSteps slots ∷ []
+plannedStages F sizes v Recover = []
+plannedStages F sizes v (Clean block) = F .cleanStages sizes v block
 
 -- the stages that the call does: none where it is refused
 unfoldable pub flashStages : Family → Widths → Sizes → Volume → Call → List (List Step)
-flashStages F widths sizes v call = cond (eqb (perform F widths sizes v call .answer) 0) (plannedStages F v call) []
+flashStages F widths sizes v call = cond (eqb (perform F widths sizes v call .answer) 0) (plannedStages F sizes v call) []

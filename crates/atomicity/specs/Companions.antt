@@ -1,4 +1,5 @@
--- Promise 3's companions, stated: the paper's invariants, that the premises are met, and what ties a call's stages to what it leaves and to a crash in it.
+-- Promise 3's companions, stated: the paper's invariants, that the premises are met, what ties a call's stages to what it leaves and to a crash in it, and that recovery finds the same
+-- committed versions and contents before and after a cleaning.
 use Prim.Native.Nat.{ℕ, suc, _*_, _≤_, _<_}
 use mathlib.Core.Path.{_≡_}
 use mathlib.Core.List.{List, [], _∷_, _++_, map, flatten}
@@ -13,6 +14,7 @@ use Rattle.state.specs.State.{stateAt, inFlight}
 use Rattle.table.specs.Table.{mentioned, usedOf}
 use Rattle.rules.specs.Volume.{Volume}
 use Rattle.rules.specs.laws.Volume.{FitsIn}
+use Rattle.rules.specs.Read.{readOutcomeIn}
 use Rattle.atomicity.specs.Family.{Family}
 use Rattle.atomicity.specs.Call.{Call, perform, flashStages}
 use Rattle.atomicity.specs.Run.{Event, doneOf, cutShort, wasDone, started, after}
@@ -80,3 +82,25 @@ pub record StagesInOrder (F : Family) : Type 0 where
   pub exactly : (stage : ℕ) (done : ℕ → Bool) (stages : List (List Step)) → cutShort stage done stages ≡ doneIn (wasDone stage done) 0 stages
   -- where a step of a stage was done, every step of each stage before it was
   pub in-order : (stage : ℕ) (done : ℕ → Bool) (k i j n : ℕ) → wasDone stage done k i ≡ true → j < k → wasDone stage done j n ≡ true
+
+-- ---- cleaning
+
+-- recovery on both volumes answers 0, finds the same committed version of each page, and read then copies the same contents
+pub record SameFound (F : Family) (widths : Widths) (sizes : Sizes) (v w : Volume) : Type 0 where
+  pub answers : (F .recover widths sizes v .answer ≡ 0) × (F .recover widths sizes w .answer ≡ 0)
+  pub same-versions : (p : ℕ) → p < sizes .pages → stateAt (F .recover widths sizes v .left) p .committed ≡ stateAt (F .recover widths sizes w .left) p .committed
+  pub same-contents :
+      (page : ℕ) (out : List ℕ)
+      → page < sizes .pages
+      → length out ≡ sizes .width
+      → readOutcomeIn (F .layout) widths sizes (record { flash = v .flash; state = F .recover widths sizes v .left }) page out
+      ≡ readOutcomeIn (F .layout) widths sizes (record { flash = w .flash; state = F .recover widths sizes w .left }) page out
+
+-- after every list under the premises that leaves the state known, recovery straight before a cleaning and after it, whichever block it is of
+abbrev pub CleaningUnseen : Family → Type 0
+CleaningUnseen F =
+    (widths : Widths) (sizes : Sizes) (v : Volume) (events : List Event)
+    → Premises F widths sizes v events
+    → StateKnown F widths sizes v events
+    → (block : ℕ)
+    → SameFound F widths sizes (after F widths sizes (started F widths sizes v) events .volume) (perform F widths sizes (after F widths sizes (started F widths sizes v) events .volume) (Call.Clean block) .left)

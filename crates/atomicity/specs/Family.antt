@@ -1,20 +1,22 @@
 -- A family of cyclic-commit records, as runs see it: how its records lie in a slot, and what the calls that look at records give and leave. Format and read
 -- depend on the layout alone, launch and withdraw on the state alone, so that every family shares them.
 use Prim.Native.Nat.{ℕ}
-use mathlib.Core.List.{List}
+use mathlib.Core.List.{List, []}
 use Rattle.bounded.specs.Limits.{Widths}
 use Rattle.outcome.specs.Outcome.{Outcome}
 use Rattle.sizes.specs.declared.Layout.{Layout}
 use Rattle.sizes.specs.declared.Layout.the-variants.{FiveWords, FourWords}
 use Rattle.sizes.specs.declared.Sizes.{Sizes}
+use Rattle.sizes.specs.Blocks.{blockAt}
 use Rattle.record.specs.declared.Record.{Record}
 use Rattle.record.specs.declared.Slot.{Slot}
-use Rattle.record.specs.Flash.{Flash}
+use Rattle.record.specs.Flash.{Flash, Step}
 use Rattle.state.specs.declared.PageState.{PageState}
 use Rattle.table.specs.Table.{versionIn}
 use Rattle.rules.specs.Volume.{Volume}
 use Rattle.rules.specs.Write.{planOf, writeOutcome}
 use Rattle.rules.specs.Erase.{eraseOutcome}
+use Rattle.rules.specs.Clean.{cleanStages, cleanOutcome}
 use Rattle.rules.specs.Recover.{committedOf, recoverOutcome}
 use Rattle.rules.specs.Simple.{committedSlotOf}
 use Rattle.rules.specs.SimpleCalls.{simplePlanOf, simpleWriteOutcome, simpleEraseOutcome, simpleRecoverOutcome}
@@ -27,11 +29,28 @@ pub record Family : Type 0 where
   pub committed : (P S : ℕ) → (ℕ → Slot) → ℕ → ℕ
   pub write : Widths → Sizes → Volume → (page slot : ℕ) (bytes : List ℕ) → Outcome Volume
   pub erase : Widths → Sizes → Volume → (slots : List ℕ) → Outcome Flash
-  pub recover : Widths → Sizes → (words state : List ℕ) → Outcome (List ℕ)
+  pub recover : Widths → Sizes → Volume → Outcome (List ℕ)
+  pub clean : Widths → Sizes → Volume → (block : ℕ) → Outcome Flash
+  -- what an accepted cleaning does to the flash: its stages, one after the other, each of single steps
+  pub cleanStages : Sizes → Volume → (block : ℕ) → List (List Step)
 
 -- document 01's records, with a back pointer
 abbrev pub backPointer : Family
-backPointer = record { layout = FiveWords; plan = planOf; committed = committedOf; write = writeOutcome; erase = eraseOutcome; recover = recoverOutcome }
+backPointer =
+    record {
+      layout = FiveWords;
+      plan = planOf;
+      committed = committedOf;
+      write = writeOutcome;
+      erase = eraseOutcome;
+      recover = recoverOutcome;
+      clean = cleanOutcome;
+      cleanStages = λ sizes v block. cleanStages sizes v (blockAt (sizes .slots) block);
+    }
+
+-- "These volumes are not cleaned": they have no blocks, so that each block's number is out of range
+unfoldable pub notCleaned : Volume → Outcome Flash
+notCleaned v = record { answer = 6; second = 0; left = v .flash }
 
 -- document 02's, wish 5, without: "p, v, np, nv and no back pointer"
 abbrev pub simple : Family
@@ -42,5 +61,7 @@ simple =
       committed = λ P S t p. versionIn (committedSlotOf P S t p);
       write = simpleWriteOutcome;
       erase = simpleEraseOutcome;
-      recover = simpleRecoverOutcome;
+      recover = λ widths sizes v. simpleRecoverOutcome widths sizes (v .flash .words) (v .state);
+      clean = λ widths sizes v block. notCleaned v;
+      cleanStages = λ sizes v block. [];
     }

@@ -94,6 +94,8 @@ accept m (Call.Withdraw page) = record { kept = m .kept; rings = closeRing page 
 accept m (Call.Erase slots) = m
 -- "Recover, 0: every open ring closes."
 accept m Call.Recover = closeAll m
+-- "any other: nothing"
+accept m (Call.Clean block) = m
 
 unfoldable pub learns : Model → Told → Model
 -- "Any refused call …: nothing."

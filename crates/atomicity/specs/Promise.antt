@@ -23,6 +23,7 @@ toldOfCrash (Call.Write page slot bytes) answer stage done = Told.CrashedWrite p
 toldOfCrash (Call.Withdraw page) answer stage done = Told.Crashed
 toldOfCrash (Call.Erase slots) answer stage done = Told.Crashed
 toldOfCrash Call.Recover answer stage done = Told.Crashed
+toldOfCrash (Call.Clean block) answer stage done = Told.Crashed
 
 -- what the model is told of an event
 unfoldable pub told : Family → Widths → Sizes → World → Event → Told
@@ -38,12 +39,12 @@ modelAfter F widths sizes x m (e ∷ events) = modelAfter F widths sizes (happen
 -- "After the list recover answers 0, and Read of each page, on the sheet so filled, answers 0 and copies exactly the ledger's kept contents of
 -- that page": on any state words of the right number, and into any slice of the right length.
 pub record Recovers (F : Family) (widths : Widths) (sizes : Sizes) (f : Flash) (kept : ℕ → List ℕ) (state : List ℕ) : Type 0 where
-  pub recover-answers : F .recover widths sizes (f .words) state .answer ≡ 0
+  pub recover-answers : F .recover widths sizes (record { flash = f; state = state }) .answer ≡ 0
   pub reads-kept :
       (page : ℕ) (out : List ℕ)
       → page < sizes .pages
       → length out ≡ sizes .width
-      → readOutcomeIn (F .layout) widths sizes (record { flash = f; state = F .recover widths sizes (f .words) state .left }) page out
+      → readOutcomeIn (F .layout) widths sizes (record { flash = f; state = F .recover widths sizes (record { flash = f; state = state }) .left }) page out
       ≡ record { answer = 0; second = 0; left = kept page }
 
 -- What a list of events is held to: these are all the premises of promise 3. (That the volume's sizes stay, the width too, that every call is lent this volume's

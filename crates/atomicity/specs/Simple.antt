@@ -1,21 +1,36 @@
 -- Records without a back pointer (Simple Cyclic Commit), document 02, wish 5, are a family that runs can be shown of.
-use Prim.Native.Nat.{ℕ, _≤_, _<_}
+use Prim.Native.Nat.{ℕ, _<_}
 use native.Mathlib.Omega.{arith}
-use mathlib.Core.Path.{_≡_, refl}
-use mathlib.Core.List.{List}
+use mathlib.Core.Path.{_≡_, refl, sym, ap, _∙_}
+use mathlib.Core.Logic.{inr}
+use mathlib.Core.List.{List, [], _∷_, flatten}
+use lib.ListN.{getD}
 use Rattle.bounded.specs.Limits.{Widths}
+use Rattle.bounded.specs.Choice.{on-eq}
+use Rattle.bounded.specs.Parts.{update}
+use Rattle.bounded.specs.PartsLaws.{update-same, update-other}
+use Rattle.bounded.specs.Members.{member-at}
+use Rattle.outcome.specs.OutcomeLaws.{settled-refused}
 use Rattle.sizes.specs.declared.Layout.the-variants.{FourWords}
 use Rattle.sizes.specs.declared.Sizes.{Sizes}
+use Rattle.sizes.specs.SizesLaws.{sizes-test, words-fit-in, state-fits-exactly}
+use Rattle.sizes.specs.Lists.{list-facts}
 use Rattle.record.specs.declared.Record.{Record}
-use Rattle.record.specs.SlotLaws.{sound-facts}
-use Rattle.state.specs.Change.{atRest}
-use Rattle.table.specs.Table.{versionIn}
+use Rattle.record.specs.declared.Slot.{Slot}
+use Rattle.record.specs.declared.Slot.the-variants.{Holds}
+use Rattle.record.specs.Slot.{slotIn}
+use Rattle.record.specs.SlotLaws.{sound-facts, holds-one}
+use Rattle.record.specs.Flash.{applyAllIn}
+use Rattle.record.specs.FlashLaws.{members-below}
+use Rattle.state.specs.State.{stateAt}
 use Rattle.rules.specs.Volume.{Volume}
-use Rattle.rules.specs.Simple.{committedSlotOf, simpleRecovered, simpleMayErase}
+use Rattle.rules.specs.Erase.{eraseSteps}
+use Rattle.rules.specs.Simple.{simpleRecovered}
+use Rattle.rules.specs.laws.Volume.{FitsIn}
 use Rattle.rules.specs.SimpleCalls.{simplePlanOf, simpleWriteAnswer, simpleWriteChange, simpleWriteOutcome, simpleEraseAnswer, simpleEraseOutcome, simpleLinksOf, simpleRecoverAnswer, simpleRecoverOutcome}
 use Rattle.rules.specs.laws.Simple.{simple-may-erase-all}
 use Rattle.rules.specs.laws.SimpleAccepted.{simple-write-tests, simple-erase-tests}
-use Rattle.protocol.specs.View.{planned-record-back}
+use Rattle.protocol.specs.View.{NoTwins, planned-record-back}
 use Rattle.protocol.specs.Shared.{SharedCore}
 use Rattle.protocol.specs.RecoverAnswers.{table-sound, all-have-record, no-clash}
 use Rattle.protocol.specs.simple.Core.{simpleView, SimpleCore}
@@ -24,8 +39,9 @@ use Rattle.protocol.specs.simple.Write.{NotBuried, simple-planned-sound, not-bu
 use Rattle.protocol.specs.simple.Erase.{SimplePermitted, SimpleErased, simple-may-erase-permitted, simple-fewer, simple-live-erased}
 use Rattle.protocol.specs.simple.Recovers.{simple-walks-end, simple-has-committed, simple-version-found}
 use Rattle.bounded.specs.BelowLaws.{all-of}
-use Rattle.atomicity.specs.Family.{simple}
-use Rattle.atomicity.specs.steps.Theory.{Pairs, ErasedBy, Theory}
+use Rattle.atomicity.specs.Family.{notCleaned, simple}
+use Rattle.atomicity.specs.steps.Sparing.{Pairs, ErasedBy, Spares, blanking-spares}
+use Rattle.atomicity.specs.steps.Theory.{Theory}
 
 -- nothing is exposed where every version is 0
 pub at-start : (R : Pairs) (P : ℕ) (kept : ℕ → List ℕ) → SharedCore simpleView R (λ p. 0) P kept → ((r : Record) (b : List ℕ) → R r b → (r .v ≡ 0) × (r .nv ≡ 0)) → SimpleCore R (λ p. 0) P kept
@@ -41,8 +57,42 @@ at-start R P kept shared zero =
 pub erased-of : {R R′ : Pairs} {st : ℕ → _} → ErasedBy (λ R st r. SimplePermitted st r) R R′ st → SimpleErased R R′ st
 erased-of e = record { fewer = e .fewer; finds-before = e .finds-before; finds = e .finds; stays-or-permitted = e .stays-or-permitted }
 
+-- a record more, of another page or version than each
+pub stored-apart : (S : ℕ) (t : ℕ → Slot) (k : ℕ) (r : Record) → ((j : ℕ) (x : Record) → j < S → t j ≡ Holds x → x .p ≡ r .p → x .v ≡ r .v → ⊥) → NoTwins S t → NoTwins S (update t k (Holds r))
+stored-apart S t k r new apart i j a b li lj ea eb p v =
+    on-eq i k
+    (λ qi. on-eq j k
+    (λ qj. qi ∙ sym qj)
+    (λ dj. let ar : a ≡ r = is-new i a qi ea in
+    absurd (new j b lj (sym (update-other t k (Holds r) j dj) ∙ eb) (sym p ∙ ap (λ (x : Record). x .p) ar) (sym v ∙ ap (λ (x : Record). x .v) ar))))
+    (λ di. on-eq j k
+    (λ qj. let br : b ≡ r = is-new j b qj eb in
+    absurd (new i a li (sym (update-other t k (Holds r) i di) ∙ ea) (p ∙ ap (λ (x : Record). x .p) br) (v ∙ ap (λ (x : Record). x .v) br)))
+    (λ dj. apart i j a b li lj (sym (update-other t k (Holds r) i di) ∙ ea) (sym (update-other t k (Holds r) j dj) ∙ eb) p v))
+  where
+    is-new : (j : ℕ) (x : Record) → j ≡ k → update t k (Holds r) j ≡ Holds x → x ≡ r
+    is-new j x q e = holds-one (ap (update t k (Holds r)) (sym q) ∙ e) (update-same t k (Holds r))
+
+-- an erasure
+pub simple-erase-spares :
+    (widths : Widths) (sizes : Sizes) (v : Volume) (slots : List ℕ)
+    → FitsIn FourWords widths sizes v
+    → simpleEraseAnswer widths sizes v slots ≡ 0
+    → Spares (record { layout = FourWords; Permitted = λ R st r. SimplePermitted st r; Apart = NoTwins }) (sizes .width) (sizes .slots) (stateAt (v .state)) (v .flash) (eraseSteps slots ∷ [])
+unfolding eraseSteps
+simple-erase-spares widths sizes v slots fits e =
+    blanking-spares (record { layout = FourWords; Permitted = λ R st r. SimplePermitted st r; Apart = NoTwins }) (sizes .width) (sizes .slots) (stateAt (v .state)) (v .flash) (fits .flash-sized) slots
+    (record {
+      inside = members-below (sizes .slots) slots (list-facts (sizes .slots) slots (simple-erase-tests widths sizes v slots e .listed) .in-range);
+      allowed = λ k r m h.
+          let i = member-at slots k m in
+          inr (simple-may-erase-permitted (slotIn FourWords (v .flash .words)) (stateAt (v .state)) (getD slots (i .0) 0) r
+          (simple-may-erase-all _ _ slots .0 (simple-erase-tests widths sizes v slots e .permitted) (i .0) (i .1)) (ap (slotIn FourWords (v .flash .words)) (i .2) ∙ h));
+      apart-fewer = λ t t′ sub apart j k a b lj lk ea eb. apart j k a b lj lk (sub j a ea) (sub k b eb);
+    })
+
 unfoldable pub simple-theory : Theory simple
-unfolding simplePlanOf simpleWriteOutcome simpleWriteChange simpleEraseOutcome simpleRecoverAnswer simpleRecoverOutcome simpleRecovered
+unfolding flatten notCleaned simplePlanOf simpleWriteOutcome simpleWriteChange simpleEraseOutcome simpleRecoverAnswer simpleRecoverOutcome simpleRecovered
 simple-theory =
     record {
       back = λ u c. 0;
@@ -62,19 +112,22 @@ simple-theory =
           let a = simple-write-tests widths sizes v page slot bytes e in
           record { whole = a .whole; page-below = a .page-below; slot-below = a .slot-below; flying = a .flying; unwritten = a .unwritten; free = a .free };
       write-fresh = λ widths sizes v page slot bytes e contents. not-buried _ _ contents _ page (simple-write-tests widths sizes v page slot bytes e .none-buried);
-      mayErase = λ S t st k. simpleMayErase t st k;
+      Apart = NoTwins;
+      apart-at-first = λ S t a. a;
+      apart-stored = stored-apart;
       Permitted = λ R st r. SimplePermitted st r;
-      permits = λ S t bytes st k r. simple-may-erase-permitted t st k r;
       fewer = λ P R R′ st kept e core. simple-fewer (erased-of e) core;
       live-fewer = λ P R R′ st kept Entered e core state live. simple-live-erased (erased-of e) state live;
       eraseAnswer = simpleEraseAnswer;
       erase-is = λ widths sizes v slots. refl;
-      erase-listed = λ widths sizes v slots e. simple-erase-tests widths sizes v slots e .listed;
-      erase-permitted = λ widths sizes v slots e. simple-may-erase-all _ _ slots .0 (simple-erase-tests widths sizes v slots e .permitted);
-      recoverAnswer = simpleRecoverAnswer;
+      erase-spares = simple-erase-spares;
+      cleanAnswer = λ widths sizes v block. 6;
+      clean-is = λ widths sizes v block. sym (settled-refused 6 0 0 (v .flash) (applyAllIn FourWords (sizes .width) (v .flash) []) (λ e. omega arith));
+      clean-spares = λ widths sizes v block fits e. absurd (omega arith);
+      recoverAnswer = λ widths sizes v. simpleRecoverAnswer widths sizes (v .flash .words) (v .state);
       links = simpleLinksOf;
-      recover-is = λ widths sizes words state. refl;
-      recover-accepts = λ widths sizes words state bytes comm kept ok fits room apart core.
-          rw (simpleRecoverAnswer, ok, fits, room, table-sound (λ u c. 0) (core .shared), no-clash _ _ apart, all-have-record (λ u c. 0) (core .shared), simple-walks-end core, all-of _ _ (simple-has-committed core));
+      recover-is = λ widths sizes v. refl;
+      recover-accepts = λ widths sizes v comm kept fits apart core.
+          rw (simpleRecoverAnswer, sizes-test widths sizes (fits .bounds) (fits .allowed), words-fit-in FourWords (sizes .slots) (v .flash .words) .1 (fits .flash-sized .words-sized), state-fits-exactly (sizes .pages) (v .state) .1 (fits .state-sized), table-sound (λ u c. 0) (core .shared), no-clash _ _ apart, all-have-record (λ u c. 0) (core .shared), simple-walks-end core, all-of _ _ (simple-has-committed core));
       committed-found = λ P S t bytes comm kept core p h. simple-version-found core p h;
     }

@@ -5,3 +5,4 @@ pub mod PremisesMet
 pub mod StagesInOrder
 pub mod RunsComputed
 pub mod Unburied
+pub mod CleaningUnseen

@@ -3,6 +3,8 @@ pub mod Limits
 pub mod Below
 pub mod BelowLaws
 pub mod Passing
+pub mod Members
+pub mod Noted
 pub mod Parts
 pub mod PartsLaws
 pub mod Pigeonhole

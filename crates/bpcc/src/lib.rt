@@ -1,4 +1,4 @@
-// The C interface: every call, exported. The functions `star_cases`, `exposed_found`, `promise_3`, `two_widths` and `slowest_start` pin theorems in their contracts.
+// The C interface: every call, exported. The functions `star_cases`, `exposed_found`, `promise_3`, `cleaning`, `two_widths` and `slowest_start` pin theorems in their contracts.
 
 pub mod scc; // scc.rt: the second family
 
@@ -21,16 +21,19 @@ ghost use Rattle.rules.specs.Write.{writeOutcome};
 ghost use Rattle.rules.specs.Withdraw.{withdrawOutcome};
 ghost use Rattle.rules.specs.Erase.{eraseOutcome};
 ghost use Rattle.rules.specs.Suggest.{suggestOutcome};
+ghost use Rattle.rules.specs.Clean.{cleanOutcome};
 ghost use Rattle.rules.specs.Recover.{recoverOutcome};
 ghost use Rattle.rules.specs.Links.{backPointing, LinksAtMost, OneRingReaches, LinksAreSteps, LinksApart};
 ghost use Rattle.rules.specs.cases.Star.{starTable};
 ghost use Rattle.rules.specs.cases.Found.{foundRows};
 ghost use Rattle.rules.specs.cases.Links.{linkRows};
 ghost use Rattle.rules.specs.cases.Width.{widthRows};
+ghost use Rattle.rules.specs.cases.Clean.{cleanRows};
+ghost use Rattle.rules.specs.Cleaned.{Cleaned, CleanedAgain, CleanAccepted};
 ghost use Rattle.rules.specs.laws.Found.{FoundExactly, JudgedByFound};
 ghost use Rattle.atomicity.specs.Family.{backPointer};
 ghost use Rattle.atomicity.specs.Promise.{PromiseAt, Promise3, OwnState};
-ghost use Rattle.atomicity.specs.Companions.{StatesAgree, PremisesMet, StagesInOrder};
+ghost use Rattle.atomicity.specs.Companions.{StatesAgree, PremisesMet, StagesInOrder, CleaningUnseen};
 ghost use Rattle.atomicity.specs.Runs.{RunsComputed};
 use sizes::Layout;
 use sizes::Sizes;
@@ -172,9 +175,11 @@ pub extern "C" fn bpcc_suggest(
     slots: u32,
     width: u32,
     words: &[u32],
+    contents: &[u8],
     state: &[u32],
 ) -> u64
-    ensures { λ r. ⌜ returned r tt ≡ suggestOutcome twoWidths (sizesOf pages slots width) (now (words .entry)) (now (state .entry)) ⌝ }
+    ensures { λ r. ⌜ returned r tt
+        ≡ suggestOutcome twoWidths (sizesOf pages slots width) (volume (now (words .entry)) (now (contents .entry)) (now (state .entry))) ⌝ }
 {
     collect::suggest(
         Sizes {
@@ -183,29 +188,59 @@ pub extern "C" fn bpcc_suggest(
             width,
         },
         words,
+        contents,
         state,
     )
 }
 
-// Recover the state from the slot table, and count the links followed.
+// Clean one flash block.
 #[no_mangle]
-pub extern "C" fn bpcc_recover(
+pub extern "C" fn bpcc_clean(
     pages: u32,
     slots: u32,
     width: u32,
-    words: &[u32],
-    state: &mut [u32],
+    words: &mut [u32],
+    contents: &mut [u8],
+    state: &[u32],
+    block: u32,
 ) -> u64
-    ensures { λ r. ⌜ returned r (now (state .exit)) ≡ recoverOutcome twoWidths (sizesOf pages slots width) (now (words .entry)) (now (state .entry)) ⌝ }
+    ensures { λ r. ⌜ returned r (flash (now (words .exit)) (now (contents .exit)))
+        ≡ cleanOutcome twoWidths (sizesOf pages slots width) (volume (now (words .entry)) (now (contents .entry)) (now (state .entry))) block ⌝ }
 {
-    recovery::recover(
-        Layout::FiveWords,
+    clean::clean(
         Sizes {
             pages,
             slots,
             width,
         },
         words,
+        contents,
+        state,
+        block,
+    )
+}
+
+// Recover the state from the slot table, with the contents to tell twins, and count the links followed.
+#[no_mangle]
+pub extern "C" fn bpcc_recover(
+    pages: u32,
+    slots: u32,
+    width: u32,
+    words: &[u32],
+    contents: &[u8],
+    state: &mut [u32],
+) -> u64
+    ensures { λ r. ⌜ returned r (now (state .exit))
+        ≡ recoverOutcome twoWidths (sizesOf pages slots width) (volume (now (words .entry)) (now (contents .entry)) (now (state .entry))) ⌝ }
+{
+    recovery::recover(
+        Sizes {
+            pages,
+            slots,
+            width,
+        },
+        words,
+        contents,
         state,
     )
 }
@@ -263,6 +298,16 @@ pub fn promise_3()
     ensures premises { λ _. ⌜ PremisesMet backPointer ⌝ }
     ensures stages { λ _. ⌜ StagesInOrder backPointer ⌝ }
     ensures runs { λ _. ⌜ RunsComputed ⌝ }
+{}
+
+// Document 02, wish 1: what an accepted cleaning leaves; that done again it alters nothing; that as many blank slots as the block has are enough for it; that recovery straight
+// before and after one finds the same versions and contents; and twins and cleanings, computed.
+pub fn cleaning()
+    ensures leaves { λ _. ⌜ Cleaned ⌝ }
+    ensures again { λ _. ⌜ CleanedAgain ⌝ }
+    ensures room { λ _. ⌜ CleanAccepted ⌝ }
+    ensures unseen { λ _. ⌜ CleaningUnseen backPointer ⌝ }
+    ensures cleaned { λ _. ⌜ RowsHold cleanRows ⌝ }
 {}
 
 // Document 02, wish 10: promise 3, shown once for any width, used at the two that the calls take; and what the calls answer at these and at others, and

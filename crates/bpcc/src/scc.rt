@@ -14,7 +14,7 @@ ghost use Rattle.rules.specs.Launch.{launchOutcome};
 ghost use Rattle.rules.specs.Withdraw.{withdrawOutcome};
 ghost use Rattle.rules.specs.SimpleCalls.{simpleWriteOutcome, simpleEraseOutcome, simpleRecoverOutcome};
 ghost use Rattle.rules.specs.Links.{simply, LinksAtMost, OneRingReaches, LinksAreSteps, LinksApart};
-ghost use Rattle.rules.specs.cases.Simple.{simpleRows};
+ghost use Rattle.cases.specs.Simple.{simpleRows};
 ghost use Rattle.atomicity.specs.Family.{simple};
 ghost use Rattle.atomicity.specs.Promise.{PromiseOf, PromiseAt, OwnState};
 ghost use Rattle.atomicity.specs.Companions.{StatesAgree, PremisesMet, StagesInOrder};
@@ -164,8 +164,7 @@ pub extern "C" fn scc_recover(
 ) -> u64
     ensures { λ r. ⌜ returned r (now (state .exit)) ≡ simpleRecoverOutcome twoWidths (sizesOf pages slots width) (now (words .entry)) (now (state .entry)) ⌝ }
 {
-    recovery::recover(
-        Layout::FourWords,
+    recovery::simple::recover(
         Sizes {
             pages,
             slots,

@@ -26,6 +26,10 @@ use Rattle.rules.specs.laws.Volume.{FitsIn, fits-in-facts}
 use Rattle.rules.specs.laws.Families.{eraseAnswerIn, eraseOutcomeIn}
 use Rattle.rules.specs.laws.Chains.{judgedIn, judged-passed, eraseOwn, erase-chain}
 
+-- the bytes of all slots of a volume that fits are in its contents
+pub contents-span : (layout : Layout) (widths : Widths) (sizes : Sizes) (v : Volume) → volumeFitsIn layout widths sizes v ≡ true → sizes .width * sizes .slots ≤ length (v .flash .contents)
+contents-span layout widths sizes v e = let s = fits-in-facts layout widths sizes v e .flash-sized .contents-sized in omega arith
+
 -- every listed slot is in the words and in the contents
 pub record ListedIn (layout : Layout) (w : ℕ) (words contents list : List ℕ) : Type 0 where
   pub words-in : (i : ℕ) → i < length list → strideOf layout * getD list i 0 + strideOf layout ≤ length words
@@ -61,7 +65,7 @@ module _ (layout : Layout) (widths : Widths) (sizes : Sizes) (v : Volume) (list 
   pub accepted-tests : eraseAnswerIn layout widths sizes v list ≡ 0 → FitsIn layout widths sizes v × (listOk (sizes .slots) list ≡ true)
   unfolding eraseOwn
   accepted-tests e =
-      let parts = both-pass (judgedIn layout (volumeFitsIn layout widths sizes v) (sizes .pages) (sizes .slots) (v .flash .words) (v .state)) (eraseOwn layout (sizes .slots) (v .flash .words) (v .state) list) (sym (erase-chain layout widths sizes v list) ∙ e) in
+      let parts = both-pass (judgedIn layout (volumeFitsIn layout widths sizes v) (sizes .pages) (sizes .slots) (v .flash .words) (v .state)) (eraseOwn layout sizes v list) (sym (erase-chain layout widths sizes v list) ∙ e) in
       let j = judged-passed layout (volumeFitsIn layout widths sizes v) (sizes .pages) (sizes .slots) (v .flash .words) (v .state) (parts .0) in
       (fits-in-facts layout widths sizes v (j .fitting), held (listOk (sizes .slots) list) _ _ (parts .1) .0)
 

@@ -1,4 +1,4 @@
-// Garbage collection: erase and suggest. The definitions are in crate rules; what may go is judged in crate permit.
+// Garbage collection: erase and suggest. The definitions are in crate rules; what may go is judged in crate judge, and of records without a back pointer in crate permit.
 ghost use mathlib.Core.Path.{_≡_};
 ghost use Prim.Native.Nat.{_+_, _*_, _≤_};
 ghost use lib.ListN.{length};
@@ -11,6 +11,7 @@ ghost use Rattle.record.specs.Slot.{slotIn};
 ghost use Rattle.record.specs.Flash.{flash, Step, applyIn, applyAllIn};
 ghost use Rattle.state.specs.State.{stateAt};
 ghost use Rattle.table.specs.Table.{tableSound};
+ghost use Rattle.twins.specs.Twins.{twins};
 ghost use Rattle.rules.specs.Volume.{volume};
 ghost use Rattle.rules.specs.Erase.{eraseSteps};
 ghost use Rattle.rules.specs.laws.Families.{mayEraseAllIn, eraseAnswerIn, eraseOutcomeIn};
@@ -22,7 +23,7 @@ use sizes::Layout;
 use sizes::Sizes;
 
 // One slot becomes "blank with bytes 255".
-fn blank_slot(layout: Layout, width: u32, words: &mut [u32], contents: &mut [u8], slot: u32)
+pub fn blank_slot(layout: Layout, width: u32, words: &mut [u32], contents: &mut [u8], slot: u32)
     requires { ⌜ strideOf layout * slot + strideOf layout ≤ length (now words) ⌝ }
     requires { ⌜ width * slot + width ≤ length (now contents) ⌝ }
     requires { ⌜ width ≤ 64 ⌝ }
@@ -45,14 +46,23 @@ fn blank_listed(layout: Layout, width: u32, words: &mut [u32], contents: &mut [u
 }
 
 // Each listed slot may be erased, as the records' layout has it.
-fn may_erase_all(layout: Layout, sizes: Sizes, words: &[u32], state: &[u32], list: &[u32]) -> bool
+fn may_erase_all(
+    layout: Layout,
+    sizes: Sizes,
+    words: &[u32],
+    contents: &[u8],
+    state: &[u32],
+    list: &[u32],
+) -> bool
     requires { ⌜ SpansIn layout (sizes .pages) (sizes .slots) (now words) (now state) ⌝ }
+    requires { ⌜ sizes .width * sizes .slots ≤ length (now contents) ⌝ }
     requires { ⌜ tableSound (sizes .pages) (sizes .slots) (slotIn layout (now words)) ≡ true ⌝ }
     requires { ⌜ Listed (sizes .slots) (now list) ⌝ }
-    ensures { λ r. ⌜ r ≡ mayEraseAllIn layout (sizes .slots) (slotIn layout (now (words .entry))) (stateAt (now (state .entry))) (now (list .entry)) ⌝ }
+    ensures { λ r. ⌜ r ≡ mayEraseAllIn layout (sizes .slots) (slotIn layout (now (words .entry))) (stateAt (now (state .entry)))
+        (twins (sizes .width) (flash (now (words .entry)) (now (contents .entry)))) (now (list .entry)) ⌝ }
 {
     match layout {
-        Layout::FiveWords => permit::may_erase_all(sizes, words, state, list),
+        Layout::FiveWords => judge::may_erase_all(sizes, words, contents, state, list),
         Layout::FourWords => permit::simple::may_erase_all(sizes, words, state, list),
     }
 }
@@ -76,7 +86,7 @@ fn erase_answer(
     if !sizes::list_ok(sizes.slots, list) {
         return 6;
     }
-    if !may_erase_all(layout, sizes, words, state, list) {
+    if !may_erase_all(layout, sizes, words, contents, state, list) {
         return 12;
     }
     0
@@ -103,15 +113,15 @@ pub fn erase(
 }
 
 // Suggest the lowest slot that may be erased.
-pub fn suggest(sizes: Sizes, words: &[u32], state: &[u32]) -> u64
-    ensures { λ r. ⌜ returned r tt ≡ suggestOutcome twoWidths sizes (now (words .entry)) (now (state .entry)) ⌝ }
+pub fn suggest(sizes: Sizes, words: &[u32], contents: &[u8], state: &[u32]) -> u64
+    ensures { λ r. ⌜ returned r tt ≡ suggestOutcome twoWidths sizes (volume (now (words .entry)) (now (contents .entry)) (now (state .entry))) ⌝ }
 {
-    let fits = sizes::table_ok(Layout::FiveWords, sizes, words, state);
+    let fits = volume::volume_fits(Layout::FiveWords, sizes, words, contents, state);
     let first = volume::judged(Layout::FiveWords, fits, sizes, words, state);
     if first != 0 {
         return outcome::reply(first, sizes::NO_NUMBER);
     }
-    let slot = permit::first_erasable(sizes, words, state);
+    let slot = judge::first_erasable(sizes, words, contents, state);
     if slot >= sizes.slots {
         return outcome::reply(13, sizes::NO_NUMBER);
     }

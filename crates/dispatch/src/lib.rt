@@ -99,7 +99,7 @@ pub fn call(
                 &list[0..n],
             )
         }
-        Line::Recover => recovery::recover(Layout::FiveWords, sizes, words, state),
+        Line::Recover => recovery::recover(sizes, words, contents, state),
         Line::Cut => {
             lose(state);
             0

@@ -35,7 +35,7 @@ silence w = record { flash = stored0 w 0 .left .flash; state = withdrawOutcome t
 
 -- the state is lost, and recovered
 unfoldable pub silenceRecovered : ℕ → Volume
-silenceRecovered w = record { flash = silence w .flash; state = recoverOutcome twoWidths (twoPages w) (silence w .flash .words) (replicate 8 noNumber) .left }
+silenceRecovered w = record { flash = silence w .flash; state = recoverOutcome twoWidths (twoPages w) (record { flash = silence w .flash; state = replicate 8 noNumber }) .left }
 
 -- "a stored silence is set, with drawn 0"; a page with no committed version but the formatted one is empty
 abbrev silenceText : List ℕ

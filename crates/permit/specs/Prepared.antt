@@ -1,15 +1,12 @@
--- What judging rests on: the bounds of a sound table, the slots found so far, and the chains and found slots that a search goes over.
+-- What judging rests on: the bounds of a sound table, the exposed records, and the chains and found slots that a search goes over.
 use Prim.Native.Nat.{ℕ, _+_, _*_, _≤_, _<_}
 use native.Mathlib.Omega.{arith}
-use native.Mathlib.Numerals.{add-one}
-use mathlib.Core.Path.{_≡_, refl, sym, ap, _∙_, subst}
-use mathlib.Core.List.{List, [], _∷_, _++_}
-use mathlib.Core.Bool.{true, false}
-use lib.ListN.{length, getD, set, take, replicate, length-set, length-replicate}
-use lib.Seq.{take-suc-set}
+use mathlib.Core.Path.{_≡_, sym, subst}
+use mathlib.Core.List.{List}
+use mathlib.Core.Bool.{Bool, true}
+use lib.ListN.{length, getD, take}
 use Rattle.bounded.specs.Limits.{maxPages, maxSlots}
-use Rattle.bounded.specs.Below.{listBelow}
-use Rattle.bounded.specs.Passing.{list-more, list-stays}
+use Rattle.bounded.specs.Noted.{Noted}
 use Rattle.sizes.specs.declared.Layout.{Layout}
 use Rattle.sizes.specs.declared.Layout.the-variants.{FiveWords}
 use Rattle.record.specs.declared.Record.{Record}
@@ -55,39 +52,9 @@ linkable-within P S words state l h = record {
 
 -- ---- the exposed records
 
--- those of the slots below n are noted in the first `count` entries
-pub record Noted (n : ℕ) (words state found : List ℕ) (count : ℕ) : Type 0 where
-  pub sized : length found ≡ maxSlots
-  pub counted : count ≤ n
-  pub noted : take count found ≡ exposedSlots n (slotAt words) (stateAt state)
-
-module _ (words state : List ℕ) where
-  pub noted-none : (N : ℕ) → N ≡ maxSlots → Noted 0 words state (replicate N 0) 0
-  unfolding exposedSlots listBelow
-  noted-none N e = record { sized = length-replicate N 0 ∙ e; counted = omega arith; noted = refl }
-
-  module _ (n : ℕ) (found : List ℕ) (count : ℕ) (f : Noted n words state found count) where
-    -- a slot more that holds no exposed record
-    pub noted-stays : holds (isExposed (stateAt state)) (slotAt words n) ≡ false → Noted (n + 1) words state found count
-    unfolding exposedSlots
-    noted-stays e = record {
-      sized = f .sized;
-      counted = let c = f .counted in omega arith;
-      noted = f .noted ∙ sym (list-stays (λ k. holds (isExposed (stateAt state)) (slotAt words k)) n e);
-    }
-
-    -- and one that does
-    pub noted-more : n < maxSlots → holds (isExposed (stateAt state)) (slotAt words n) ≡ true → Noted (n + 1) words state (set found count n) (count + 1)
-    unfolding exposedSlots
-    noted-more h e = record {
-      sized = length-set found count n ∙ f .sized;
-      counted = let c = f .counted in omega arith;
-      noted =
-          ap (λ (c : ℕ). take c (set found count n)) (add-one count)
-          ∙ take-suc-set found count n (let c = f .counted in let s = f .sized in omega arith)
-          ∙ ap (λ (l : List ℕ). l ++ (n ∷ [])) (f .noted)
-          ∙ sym (list-more (λ k. holds (isExposed (stateAt state)) (slotAt words k)) n e);
-    }
+-- slot k holds one
+abbrev pub exposedAt : (words state : List ℕ) → ℕ → Bool
+exposedAt words state k = holds (isExposed (stateAt state)) (slotAt words k)
 
 -- ---- the search
 
@@ -98,7 +65,8 @@ pub record Searchable (S : ℕ) (words chains found : List ℕ) : Type 0 where
   pub chained : Chained S (slotAt words) chains
   pub found-in : (i : ℕ) → i < length found → getD found i 0 < S
 
-pub searchable : (P S : ℕ) (words state chains found : List ℕ) (count : ℕ) → Linkable P S words → Chained S (slotAt words) chains → Noted S words state found count → Searchable S words chains (take count found)
+pub searchable : (P S : ℕ) (words state chains found : List ℕ) (count : ℕ) → Linkable P S words → Chained S (slotAt words) chains → Noted (exposedAt words state) S found count → Searchable S words chains (take count found)
+unfolding exposedSlots
 searchable P S words state chains found count l c f = record {
   slots-few = l .slots-few;
   slots-in = l .slots-in;

@@ -1,15 +1,14 @@
 -- The permission as the code decides it: what one slot, one straddler and one record settle.
-use Prim.Native.Nat.{ℕ, _+_, _≤_, _<_}
-use native.Mathlib.Omega.{arith}
-use mathlib.Core.Path.{_≡_, refl, ap, _∙_}
+use Prim.Native.Nat.{ℕ, _<_}
+use mathlib.Core.Path.{_≡_, refl}
 use mathlib.Core.List.{List}
 use mathlib.Core.Bool.{Bool, true, false, not, _&&_}
 use lib.Dec.{ltb, eqb}
 use lib.ListN.{length, getD}
 use borrow.Author.Tests.{eqb-true, eq-eqb}
-use Rattle.bounded.specs.Choice.{on-lt, both-left, both-right}
-use Rattle.bounded.specs.Below.{someBelow, firstBelow}
-use Rattle.bounded.specs.BelowLaws.{some-of, some-none, first-passes, first-none-before}
+use Rattle.bounded.specs.Choice.{both-left, both-right}
+use Rattle.bounded.specs.Below.{someBelow}
+use Rattle.bounded.specs.BelowLaws.{some-of}
 use Rattle.record.specs.declared.Record.{Record}
 use Rattle.record.specs.declared.Slot.{Slot}
 use Rattle.record.specs.declared.Slot.the-variants.{Blank, Holds}
@@ -20,20 +19,6 @@ use Rattle.table.specs.TableLaws.{holds-of}
 use Rattle.rules.specs.Permission.{isObsolete, isExposed, outdoneBy, isCurrent}
 use Rattle.rules.specs.Found.{neededBy, mayEraseRecordBy}
 use Rattle.chain.specs.Chain.{chainOf, inChain}
-
--- ---- a search upward
-
--- one number more that does not pass
-pub none-more : (f : ℕ → Bool) (n : ℕ) → ((k : ℕ) → k < n → f k ≡ false) → f n ≡ false → (k : ℕ) → k < n + 1 → f k ≡ false
-none-more f n none e k h = on-lt k n (none k) (λ l. let q : k ≡ n = omega arith in ap f q ∙ e)
-
--- what the first that passes says of "some"
-module _ (S : ℕ) (f : ℕ → Bool) (k : ℕ) (e : k ≡ firstBelow S f) where
-  pub found-some : k < S → someBelow S f ≡ true
-  found-some h = some-of f S (firstBelow S f) (omega arith) (first-passes f S (omega arith))
-
-  pub found-none : S ≤ k → someBelow S f ≡ false
-  found-none h = some-none f S (λ j l. first-none-before f S j (omega arith))
 
 -- ---- what a slot holds
 

@@ -1,4 +1,4 @@
-// The permission to erase: the exposed records are found once, and every slot is judged by what was found. The definitions are in crate rules.
+// The permission to erase one slot: the exposed records are found once, and the slot is judged by what was found. The definitions are in crate rules.
 
 pub mod simple; // simple.rt: records without a back pointer
 
@@ -6,18 +6,15 @@ ghost use mathlib.Core.Path.{_≡_};
 ghost use mathlib.Core.Bool.{true};
 ghost use Prim.Native.Nat.{_+_, _*_, _≤_, _<_};
 ghost use lib.ListN.{length, take};
-ghost use Rattle.bounded.specs.Below.{someBelow, firstBelow};
-ghost use Rattle.sizes.specs.Lists.{Listed};
+ghost use Rattle.bounded.specs.Below.{someBelow};
+ghost use Rattle.bounded.specs.Noted.{Noted};
 ghost use Rattle.record.specs.Slot.{holds, straddles, slotAt};
 ghost use Rattle.state.specs.State.{stateAt};
-ghost use Rattle.rules.specs.Permission.{isObsolete, isExposed, outdoneBy, isCurrent, mayEraseAll};
-ghost use Rattle.rules.specs.Suggest.{suggestedSlot};
-ghost use Rattle.rules.specs.Found.{exposedSlots, neededBy, mayEraseRecordBy, mayEraseBy, mayEraseAllBy};
-ghost use Rattle.chain.specs.Chain.{Linkable};
-ghost use Rattle.permit.specs.Prepared.{Within, Noted, Searchable};
+ghost use Rattle.rules.specs.Permission.{isObsolete, isExposed, outdoneBy, isCurrent};
+ghost use Rattle.rules.specs.Found.{exposedSlots, neededBy, mayEraseRecordBy, mayEraseBy};
+ghost use Rattle.permit.specs.Prepared.{exposedAt, Within, Searchable};
 use record::Record;
 use record::Slot;
-use sizes::Sizes;
 
 // "A record is obsolete if v is below its page's committed version"
 fn is_obsolete(state: &[u32], record: Record) -> bool
@@ -170,7 +167,7 @@ fn may_erase_record(
 }
 
 // The slot may be erased, judged by what was found.
-fn may_erase(
+pub fn may_erase(
     slots: u32,
     words: &[u32],
     state: &[u32],
@@ -189,52 +186,6 @@ fn may_erase(
     may_erase_record(slots, words, state, chains, found, slot, record)
 }
 
-// Each listed slot may be erased, judged by what was found.
-fn all_permitted(
-    slots: u32,
-    words: &[u32],
-    state: &[u32],
-    chains: &[u16; 2048],
-    found: &[u16],
-    list: &[u32],
-) -> bool
-    requires { ⌜ Searchable slots (now words) (now chains) (now found) ⌝ }
-    requires { ⌜ Within slots (now words) (now state) ⌝ }
-    requires { ⌜ Listed slots (now list) ⌝ }
-    ensures { λ r. ⌜ r ≡ mayEraseAllBy slots (slotAt (now (words .entry))) (stateAt (now (state .entry))) (now (found .entry)) (now (list .entry)) ⌝ }
-{
-    let mut i = 0;
-    while i < list.len() {
-        if !may_erase(slots, words, state, chains, found, list[i]) {
-            return false;
-        }
-        i += 1;
-    }
-    true
-}
-
-// The lowest slot that may be erased, judged by what was found; `slots` where none may.
-fn first_permitted(
-    slots: u32,
-    words: &[u32],
-    state: &[u32],
-    chains: &[u16; 2048],
-    found: &[u16],
-) -> u32
-    requires { ⌜ Searchable slots (now words) (now chains) (now found) ⌝ }
-    requires { ⌜ Within slots (now words) (now state) ⌝ }
-    ensures { λ r. ⌜ r ≡ firstBelow slots (mayEraseBy slots (slotAt (now (words .entry))) (stateAt (now (state .entry))) (now (found .entry))) ⌝ }
-{
-    let mut slot = 0;
-    while slot < slots {
-        if may_erase(slots, words, state, chains, found, slot) {
-            return slot;
-        }
-        slot += 1;
-    }
-    slots
-}
-
 // Slot k, where it holds an exposed record, is the next one found.
 fn note_exposed(
     slots: u32,
@@ -246,8 +197,8 @@ fn note_exposed(
 ) -> usize
     requires { ⌜ Within slots (now words) (now state) ⌝ }
     requires { ⌜ k < slots ⌝ }
-    requires { ⌜ Noted k (now words) (now state) (now found) count ⌝ }
-    ensures { λ r. ⌜ Noted (k + 1) (now (words .entry)) (now (state .entry)) (now (found .exit)) r ⌝ }
+    requires { ⌜ Noted (exposedAt (now words) (now state)) k (now found) count ⌝ }
+    ensures { λ r. ⌜ Noted (exposedAt (now (words .entry)) (now (state .entry))) (k + 1) (now (found .exit)) r ⌝ }
 {
     let Slot::Holds(record) = record::slot_at(words, k) else {
         return count;
@@ -260,9 +211,9 @@ fn note_exposed(
 }
 
 // The exposed records: their slots, rising, found in one pass; says how many.
-fn find_exposed(slots: u32, words: &[u32], state: &[u32], found: &mut [u16; 1024]) -> usize
+pub fn find_exposed(slots: u32, words: &[u32], state: &[u32], found: &mut [u16; 1024]) -> usize
     requires { ⌜ Within slots (now words) (now state) ⌝ }
-    ensures kept { λ r. ⌜ Noted slots (now (words .entry)) (now (state .entry)) (now (found .exit)) r ⌝ }
+    ensures kept { λ r. ⌜ Noted (exposedAt (now (words .entry)) (now (state .entry))) slots (now (found .exit)) r ⌝ }
     ensures finds { λ r. ⌜ take r (now (found .exit)) ≡ exposedSlots slots (slotAt (now (words .entry))) (stateAt (now (state .entry))) ⌝ }
 {
     *found = [0; 1024];
@@ -273,32 +224,4 @@ fn find_exposed(slots: u32, words: &[u32], state: &[u32], found: &mut [u16; 1024
         k += 1;
     }
     count
-}
-
-// "The permission is judged for every slot on the table before the call": each listed slot may be erased. "find the exposed records once for the call,
-// before any listed slot is judged".
-pub fn may_erase_all(sizes: Sizes, words: &[u32], state: &[u32], list: &[u32]) -> bool
-    requires { ⌜ Linkable (sizes .pages) (sizes .slots) (now words) ⌝ }
-    requires { ⌜ 4 * sizes .pages ≤ length (now state) ⌝ }
-    requires { ⌜ Listed (sizes .slots) (now list) ⌝ }
-    ensures { λ r. ⌜ r ≡ mayEraseAll (sizes .slots) (slotAt (now (words .entry))) (stateAt (now (state .entry))) (now (list .entry)) ⌝ }
-{
-    let mut chains = [0u16; 2048];
-    chain::link_slots(sizes, words, &mut chains);
-    let mut found = [0u16; 1024];
-    let count = find_exposed(sizes.slots, words, state, &mut found);
-    all_permitted(sizes.slots, words, state, &chains, &found[..count], list)
-}
-
-// The lowest slot that may be erased; the number of slots where none may.
-pub fn first_erasable(sizes: Sizes, words: &[u32], state: &[u32]) -> u32
-    requires { ⌜ Linkable (sizes .pages) (sizes .slots) (now words) ⌝ }
-    requires { ⌜ 4 * sizes .pages ≤ length (now state) ⌝ }
-    ensures { λ r. ⌜ r ≡ suggestedSlot (sizes .slots) (now (words .entry)) (now (state .entry)) ⌝ }
-{
-    let mut chains = [0u16; 2048];
-    chain::link_slots(sizes, words, &mut chains);
-    let mut found = [0u16; 1024];
-    let count = find_exposed(sizes.slots, words, state, &mut found);
-    first_permitted(sizes.slots, words, state, &chains, &found[..count])
 }

@@ -34,6 +34,18 @@ module _ (R : Record → List ℕ → Type 0) where
   abbrev pub Permitted : (ℕ → PageState) → Record → Type 0
   Permitted st r = (Obsolete recordView (commOf st) r × ¬ (Needed (commOf st) r)) ⊎ ExposedSpare recordView st r
 
+-- the permission sees the set alone
+pub permitted-same :
+    {R R′ : Record → List ℕ → Type 0}
+    → ((r : Record) (b : List ℕ) → R r b → R′ r b)
+    → ((r : Record) (b : List ℕ) → R′ r b → R r b)
+    → (st : ℕ → PageState) (r : Record)
+    → Permitted R st r
+    → Permitted R′ st r
+permitted-same forth back st r (inl o) =
+    inl (o .0, λ n. o .1 (record { furthest = λ s b h. n .furthest s b (forth s b h); supports = let x = n .supports in (x .0, x .1, back (x .0) (x .1) (x .2), x .3, x .4) }))
+permitted-same forth back st r (inr x) = inr x
+
 -- the permission of a slot is that of its record over the set
 pub may-erase-permitted :
     (S : ℕ) (t : ℕ → Slot) (bytes : ℕ → List ℕ) (st : ℕ → PageState) (k : ℕ) (r : Record)

@@ -1,23 +1,31 @@
 -- Under the invariant recover answers 0, and fills the state with the committed versions and the highest versions mentioned.
 use Prim.Native.Nat.{ℕ, _<_}
 use native.Mathlib.Omega.{arith}
-use mathlib.Core.Path.{_≡_, refl}
+use mathlib.Core.Path.{_≡_, refl, sym, ap, _∙_}
 use mathlib.Core.List.{List}
 use mathlib.Core.Bool.{true, false}
+use lib.ListN.{length}
 use Rattle.bounded.specs.Limits.{Widths}
 use Rattle.bounded.specs.Below.{allBelow, someBelow}
 use Rattle.bounded.specs.Choice.{on-test}
 use Rattle.bounded.specs.BelowLaws.{all-of}
 use Rattle.sizes.specs.declared.Sizes.{Sizes}
-use Rattle.sizes.specs.Sizes.{sizesOk, wordsFit, stateFits}
+use Rattle.sizes.specs.declared.Layout.the-variants.{FiveWords}
 use Rattle.record.specs.declared.Slot.{Slot}
 use Rattle.record.specs.declared.Slot.the-variants.{Blank, Holds}
-use Rattle.record.specs.Slot.{slotAt, slotSound}
+use Rattle.record.specs.Slot.{slotAt, bytesAt, slotSound}
+use Rattle.record.specs.Flash.{Flash}
+use Rattle.record.specs.FlashLaws.{SizedIn}
 use Rattle.table.specs.Table.{tableSound, someClash, hasRecord, hasVersion, usedOf}
 use Rattle.table.specs.Used.{used-above-version, used-above-next}
 use Rattle.table.specs.TableLaws.{some-clash, has-record, has-version}
 use Rattle.follow.specs.Follow.{isAstray}
+use Rattle.twins.specs.Twins.{twins, someConflict}
+use Rattle.twins.specs.TwinsLaws.{twins-exactly}
+use Rattle.rules.specs.Volume.{Volume}
 use Rattle.rules.specs.Recover.{walkOf, committedOf, recoverAnswer}
+use Rattle.rules.specs.laws.Volume.{Fits, fits-test, bytes-whole}
+use Rattle.rules.specs.laws.Recover.{twins-agree}
 use Rattle.protocol.specs.View.{InSlots, NoTwins, pointingView}
 use Rattle.protocol.specs.Shared.{SharedCore, WithinUsed}
 use Rattle.protocol.specs.BackPointer.{Core}
@@ -76,15 +84,35 @@ module _ {P S : ℕ} {t : ℕ → Slot} {bytes : ℕ → List ℕ} {comm : ℕ �
   all-have-committed =
       all-of (λ p. hasVersion S t p (committedOf P S t p)) P (λ p h. rw (committed-found core p h) (committed-there (λ u c. c) (core .shared) p h))
 
+-- Records of equal page and version are one, with one contents: they are twins.
+pub no-conflict :
+    (w S : ℕ) (f : Flash) {P : ℕ} {comm : ℕ → ℕ} {kept : ℕ → List ℕ}
+    → SizedIn FiveWords w S f
+    → Core (InSlots S (slotAt (f .words)) (bytesAt w (f .contents))) comm P kept
+    → someConflict S (slotAt (f .words)) (twins w f) ≡ false
+no-conflict w S f size core =
+    twins-agree S (slotAt (f .words)) (twins w f)
+    (λ j k a b l h ea eb p v.
+    let same = core .shared .one-record a b (bytesAt w (f .contents) j) (bytesAt w (f .contents) k) (j, omega arith, ea, refl) (k, h, eb, refl) p v in
+    twins-exactly w f j k (whole j (omega arith)) (whole k h) .1 (a, ea, eb ∙ ap Holds (sym (same .0)), same .1))
+  where
+    whole : (k : ℕ) → k < S → length (bytesAt w (f .contents) k) ≡ w
+    whole k h = bytes-whole w S f size k h
+
 -- Recover answers 0.
 pub recover-accepts :
-    (widths : Widths) (sizes : Sizes) (words state : List ℕ) {bytes : ℕ → List ℕ} {comm : ℕ → ℕ} {kept : ℕ → List ℕ}
-    → sizesOk widths sizes ≡ true
-    → wordsFit (sizes .slots) words ≡ true
-    → stateFits (sizes .pages) state ≡ true
-    → NoTwins (sizes .slots) (slotAt words)
-    → Core (InSlots (sizes .slots) (slotAt words) bytes) comm (sizes .pages) kept
-    → recoverAnswer widths sizes words state ≡ 0
+    (widths : Widths) (sizes : Sizes) (v : Volume) {comm : ℕ → ℕ} {kept : ℕ → List ℕ}
+    → Fits widths sizes v
+    → Core (InSlots (sizes .slots) (slotAt (v .flash .words)) (bytesAt (sizes .width) (v .flash .contents))) comm (sizes .pages) kept
+    → recoverAnswer widths sizes v ≡ 0
 unfolding recoverAnswer
-recover-accepts widths sizes words state ok fits room apart core =
-    rw (recoverAnswer, ok, fits, room, table-sound (λ u c. c) (core .shared), no-clash (sizes .slots) (slotAt words) apart, all-have-record (λ u c. c) (core .shared), walks-end core, all-have-committed core)
+recover-accepts widths sizes v fits core =
+    rw (
+      recoverAnswer,
+      fits-test widths sizes v fits,
+      table-sound (λ u c. c) (core .shared),
+      no-conflict (sizes .width) (sizes .slots) (v .flash) (fits .flash-sized) core,
+      all-have-record (λ u c. c) (core .shared),
+      walks-end core,
+      all-have-committed core,
+    )

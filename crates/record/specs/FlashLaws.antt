@@ -1,11 +1,10 @@
 -- Storing or blanking slot k changes slot k to that record and bytes and no other slot; and what a list of steps leaves.
-use Prim.Native.Nat.{ℕ, suc, _+_, _*_, _≤_, _<_}
+use Prim.Native.Nat.{ℕ, suc, _+_, _*_, _<_}
 use native.Mathlib.Omega.{arith}
 use mathlib.Core.Path.{_≡_, refl, sym, ap, _∙_, subst}
 use mathlib.Core.Logic.{⊎-elim}
 use mathlib.Core.List.{List, [], _∷_, _++_, map, List·Memᴰ, List·Memᴰ·head, List·Memᴰ·tail, List·Memᴰ·not-nil, List·Memᴰ·cases-cons}
 use lib.ListN.{length, take, getD, replicate, length-replicate}
-use Rattle.bounded.specs.Limits.{highestVersion}
 use Rattle.bounded.specs.Choice.{on-eq}
 use Rattle.bounded.specs.Parts.{part, putPart, update}
 use Rattle.bounded.specs.PartsLaws.{parts-put, update-map, update-same, update-other, length-putPart}
@@ -81,7 +80,7 @@ module _ (layout : Layout) (w S : ℕ) (f : Flash) (size : SizedIn layout w S f)
   blank-bytes = bytes-put w S k (replicate w 255) (f .contents) inside (length-replicate w 255) (size .contents-sized)
 
 -- equal tables have equal slots
-at-slot : {A : Type 0} {f g : ℕ → A} → f ≡ g → (i : ℕ) → f i ≡ g i
+pub at-slot : {A : Type 0} {f g : ℕ → A} → f ≡ g → (i : ℕ) → f i ≡ g i
 at-slot {A} e i = ap (λ (t : ℕ → A). t i) e
 
 -- ---- a list of steps

@@ -4,3 +4,4 @@ pub mod Flash
 pub mod FlashLaws
 pub mod Computing
 pub mod CopyLaws
+pub mod BlankAgain

@@ -244,6 +244,10 @@ unfolding isBlank
 is-blank-exactly Blank = (λ e. refl, λ e. refl)
 is-blank-exactly (Holds r) = (λ e. absurd (false≢true e), λ e. absurd (let z : _≡_ {A = ℕ} 0 1 = cc in omega arith))
 
+-- one slot holds one record
+pub holds-one : {s : Slot} {a b : Record} → s ≡ Holds a → s ≡ Holds b → a ≡ b
+holds-one e h = cc
+
 -- ---- records in a table
 
 -- the slot holds a record that passes

@@ -56,7 +56,8 @@ fn copy_contents(to: &mut [u8], from: &[u8])
 }
 
 // One flash step: the slot's words become the record's, and its bytes those given. It is the one function that stores to flash: a format calls it for
-// every slot, and after that a write calls it once and an erase once for each listed slot (format and erase by `fill_slot`).
+// every slot, and after that a write calls it once, an erase once for each listed slot, and a cleaning once for each copy and then for each slot of its block (blank slots by
+// `fill_slot`).
 pub fn put_slot(
     layout: Layout,
     words: &mut [u32],

@@ -1,11 +1,11 @@
 -- Verdicts and committed versions of either layout of records, in the form in which the code computes them, and that they are the rules'.
-use Prim.Native.Nat.{ℕ, suc, _+_, _≤_, _<_}
+use Prim.Native.Nat.{ℕ, _+_, _≤_, _<_}
 use native.Mathlib.Omega.{arith}
 use native.Mathlib.Numerals.{add-one}
 use mathlib.Core.Path.{_≡_, refl, sym, ap, _∙_}
 use mathlib.Core.Bool.{Bool, true, false, cond, not, _&&_}
 use lib.Dec.{ltb, eqb}
-use borrow.Author.Tests.{lt-ltb, le-ltb, eqb-true, ne-eqb}
+use borrow.Author.Tests.{lt-ltb, le-ltb}
 use Rattle.bounded.specs.Limits.{noNumber}
 use Rattle.bounded.specs.Choice.{on-test, never}
 use Rattle.sizes.specs.declared.Layout.{Layout}
@@ -15,7 +15,7 @@ use Rattle.record.specs.declared.Slot.{Slot}
 use Rattle.record.specs.declared.Slot.the-variants.{Blank, Holds}
 use Rattle.record.specs.Slot.{holds, isBlank}
 use Rattle.record.specs.SlotLaws.{sound-facts}
-use Rattle.table.specs.Table.{tableSound, hasVersion, ofPage, above, better, highest, highestVersionOf, versionIn}
+use Rattle.table.specs.Table.{tableSound, hasVersion, ofPage, above, better, raised, highest, highestVersionOf, versionIn}
 use Rattle.table.specs.TableLaws.{sound-at, has-version, highest-is, highest-held, highest-page}
 use Rattle.follow.specs.declared.Verdict.{Verdict}
 use Rattle.follow.specs.declared.Verdict.the-variants.{Committed, Uncommitted, On}
@@ -122,7 +122,7 @@ and-false true = refl
 and-false false = refl
 
 pub rises : (p v n : ℕ) (t : ℕ → Slot) → risen p v (highest n (under v t) p) (t n) ≡ highest (n + 1) (under v t) p
-unfolding risen isRise highest under holds better ofPage
+unfolding risen isRise highest raised under holds better ofPage
 rises p v n t = rw add-one (by (highest n (under v t) p) (t n))
   where
     by : (b s : Slot) → risen p v b s ≡ cond (holds (better p b) (cond (holds (λ r. ltb (r .v) v) s) s Blank)) (cond (holds (λ r. ltb (r .v) v) s) s Blank) b

@@ -21,7 +21,8 @@ ghost use Rattle.record.specs.Slot.{slotIn};
 ghost use Rattle.table.specs.Table.{hasVersion};
 ghost use Rattle.follow.specs.Follow.{isAstray};
 ghost use Rattle.recovery.specs.Committed.{beforeIn, walkIn, linksIn, committedByIn, committedIn};
-ghost use Rattle.recovery.specs.Tables.{Surveyed, verdictCodes, linksAnswer};
+ghost use Rattle.recovery.specs.Tables.{Surveyed, verdictCodes};
+ghost use Rattle.recovery.specs.Answers.{linksAnswer};
 
 // The committed version where the highest record is uncommitted: "the c of p's highest record", or without one the second highest version, which no record has
 // where there is none.

@@ -15,7 +15,7 @@ ghost use Rattle.state.specs.State.{stateWords};
 ghost use Rattle.table.specs.Table.{tableSound};
 ghost use Rattle.rules.specs.laws.Families.{recoveredIn};
 ghost use Rattle.recovery.specs.Committed.{committedIn};
-ghost use Rattle.recovery.specs.Tables.{tableAnswer};
+ghost use Rattle.recovery.specs.Answers.{recordsAnswer};
 
 // Each page at rest, with its versions by the tables.
 fn store_pages(pages: u32, committed: &[u32; 256], used: &[u32; 256], state: &mut [u32])
@@ -42,7 +42,7 @@ pub fn fill_state(
     requires { ⌜ strideOf layout * sizes .slots ≤ length (now words) ⌝ }
     requires { ⌜ sizes .pages ≤ 256 ⌝ }
     requires { ⌜ tableSound (sizes .pages) (sizes .slots) (slotIn layout (now words)) ≡ true ⌝ }
-    requires { ⌜ tableAnswer layout (sizes .pages) (sizes .slots) (slotIn layout (now words)) ≡ 0 ⌝ }
+    requires { ⌜ recordsAnswer layout (sizes .pages) (sizes .slots) (slotIn layout (now words)) ≡ 0 ⌝ }
     requires { ⌜ now committed ≡ tabulate 256 (committedIn layout (sizes .pages) (sizes .slots) (slotIn layout (now words))) ⌝ }
     requires { ⌜ length (now state) ≡ 4 * sizes .pages ⌝ }
     ensures { λ _. ⌜ now (state .exit) ≡ stateWords (sizes .pages) (recoveredIn layout (sizes .pages) (sizes .slots) (slotIn layout (now (words .entry)))) ⌝ }

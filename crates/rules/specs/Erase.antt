@@ -10,6 +10,7 @@ use Rattle.record.specs.Slot.{slotAt}
 use Rattle.record.specs.Flash.{Flash, Step, applyAll}
 use Rattle.state.specs.State.{stateAt, stateSound}
 use Rattle.table.specs.Table.{tableSound}
+use Rattle.twins.specs.Twins.{twins}
 use Rattle.rules.specs.Volume.{Volume, volumeFits}
 use Rattle.rules.specs.Permission.{mayEraseAll}
 
@@ -19,7 +20,7 @@ eraseAnswer widths sizes v slots =
     not (tableSound (sizes .pages) (sizes .slots) (slotAt (v .flash .words))) ⇒ 2 otherwise
     not (stateSound (sizes .pages) (stateAt (v .state))) ⇒ 5 otherwise
     not (listOk (sizes .slots) slots) ⇒ 6 otherwise
-    not (mayEraseAll (sizes .slots) (slotAt (v .flash .words)) (stateAt (v .state)) slots) ⇒ 12 otherwise
+    not (mayEraseAll (sizes .slots) (slotAt (v .flash .words)) (stateAt (v .state)) (twins (sizes .width) (v .flash)) slots) ⇒ 12 otherwise
     0
 
 -- "Erase a list of slots: all become blank with bytes 255; nothing else changes": one step for each listed slot.

@@ -1,14 +1,15 @@
 -- Document 02, wish 2: what a search for the exposed records finds, and the permission judged by what was found.
 use Prim.Native.Nat.{ℕ}
 use mathlib.Core.List.{List}
-use mathlib.Core.Bool.{Bool, cond, not, _&&_}
+use mathlib.Core.Bool.{Bool, cond, not, _&&_, _||_}
 use lib.ListN.{length, getD}
 use Rattle.bounded.specs.Below.{allBelow, someBelow, listBelow}
 use Rattle.record.specs.declared.Record.{Record}
 use Rattle.record.specs.declared.Slot.{Slot}
 use Rattle.record.specs.Slot.{holds, someRecord, straddles}
 use Rattle.state.specs.declared.PageState.{PageState}
-use Rattle.rules.specs.Permission.{isObsolete, isExposed, outdoneBy, isCurrent}
+use Rattle.sizes.specs.Sizes.{listed}
+use Rattle.rules.specs.Permission.{isObsolete, isExposed, outdoneBy, isCurrent, twinOutside}
 
 -- what is found: the slots of the table that hold an exposed record, rising
 unfoldable pub exposedSlots : ℕ → (ℕ → Slot) → (ℕ → PageState) → List ℕ
@@ -26,6 +27,10 @@ mayEraseRecordBy S t st found r = cond (isObsolete st r) (not (neededBy S t foun
 unfoldable pub mayEraseBy : ℕ → (ℕ → Slot) → (ℕ → PageState) → (found : List ℕ) → ℕ → Bool
 mayEraseBy S t st found k = holds (mayEraseRecordBy S t st found) (t k)
 
+-- … or it has a twin that is not in the list
+unfoldable pub mayEraseFromBy : ℕ → (ℕ → Slot) → (ℕ → PageState) → (found : List ℕ) → (twin : ℕ → ℕ → Bool) → (inList : ℕ → Bool) → ℕ → Bool
+mayEraseFromBy S t st found twin inList k = twinOutside S twin inList k || mayEraseBy S t st found k
+
 -- each listed slot may be erased, judged so
-unfoldable pub mayEraseAllBy : ℕ → (ℕ → Slot) → (ℕ → PageState) → (found slots : List ℕ) → Bool
-mayEraseAllBy S t st found slots = allBelow (length slots) (λ i. mayEraseBy S t st found (getD slots i 0))
+unfoldable pub mayEraseAllBy : ℕ → (ℕ → Slot) → (ℕ → PageState) → (found : List ℕ) → (twin : ℕ → ℕ → Bool) → (slots : List ℕ) → Bool
+mayEraseAllBy S t st found twin slots = allBelow (length slots) (λ i. mayEraseFromBy S t st found twin (listed slots) (getD slots i 0))

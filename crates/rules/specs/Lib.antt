@@ -6,6 +6,8 @@ pub mod Withdraw
 pub mod Permission
 pub mod Found
 pub mod Erase
+pub mod Clean
+pub mod Cleaned
 pub mod Suggest
 pub mod Verdict
 pub mod Recover

@@ -25,6 +25,7 @@ use Rattle.follow.specs.declared.End.{End}
 use Rattle.follow.specs.declared.End.the-variants as ends
 use Rattle.follow.specs.Follow.{follow}
 use Rattle.follow.specs.Steps.{Walked, Ring, nextInRing, endFrom}
+use Rattle.rules.specs.Volume.{Volume, volume}
 use Rattle.rules.specs.Verdict.{verdict}
 use Rattle.rules.specs.Recover.{recovered, recoverAnswer, recoverOutcome}
 use Rattle.rules.specs.Simple.{simpleVerdict, simpleRecovered}
@@ -36,8 +37,8 @@ pub record Following : Type 0 where
   pub layout : Layout
   pub verdict : ℕ → (ℕ → Slot) → ℕ → Verdict
   pub recovered : (P S : ℕ) → (ℕ → Slot) → ℕ → PageState
-  pub answer : Widths → Sizes → (words state : List ℕ) → ℕ
-  pub outcome : Widths → Sizes → (words state : List ℕ) → Outcome (List ℕ)
+  pub answer : Widths → Sizes → Volume → ℕ
+  pub outcome : Widths → Sizes → Volume → Outcome (List ℕ)
 
 -- document 01's, with a back pointer
 abbrev pub backPointing : Following
@@ -45,7 +46,7 @@ backPointing = record { layout = FiveWords; verdict = verdict; recovered = recov
 
 -- document 02's, wish 5, without one
 abbrev pub simply : Following
-simply = record { layout = FourWords; verdict = simpleVerdict; recovered = simpleRecovered; answer = simpleRecoverAnswer; outcome = simpleRecoverOutcome }
+simply = record { layout = FourWords; verdict = simpleVerdict; recovered = simpleRecovered; answer = λ widths sizes v. simpleRecoverAnswer widths sizes (v .flash .words) (v .state); outcome = λ widths sizes v. simpleRecoverOutcome widths sizes (v .flash .words) (v .state) }
 
 -- "the one-ring table": all P pages at version 1 in one ring, in the order of their numbers,
 unfoldable pub ringRecord : (P p : ℕ) → Record
@@ -66,16 +67,17 @@ pub record LinksAtMost (F : Following) : Type 0 where
       → ((p : ℕ) → p < P → Walked (F .verdict S t) p (end p) (links p))
       → sumBelow P links ≤ P * P
   -- and recover returns at most P×P, whatever the words are
-  pub returned : (widths : Widths) (sizes : Sizes) (words state : List ℕ) → F .outcome widths sizes words state .second ≤ sizes .pages * sizes .pages
+  pub returned : (widths : Widths) (sizes : Sizes) (v : Volume) → F .outcome widths sizes v .second ≤ sizes .pages * sizes .pages
 
--- "… and build for each P the one-ring table that reaches it": for all sizes that are right recover answers 0 on it, returns P×P and finds every page
--- committed at 1.
+-- "… and build for each P the one-ring table that reaches it": for all sizes that are right, and whatever the contents, recover answers 0 on it, returns P×P and
+-- finds every page committed at 1.
 abbrev pub OneRingReaches : Following → Type 0
 OneRingReaches F =
-    (widths : Widths) (sizes : Sizes) (state : List ℕ)
+    (widths : Widths) (sizes : Sizes) (contents state : List ℕ)
     → sizesOk widths sizes ≡ true
+    → length contents ≡ sizes .width * sizes .slots
     → length state ≡ 4 * sizes .pages
-    → F .outcome widths sizes (oneRing (F .layout) (sizes .pages) (sizes .slots)) state
+    → F .outcome widths sizes (volume (oneRing (F .layout) (sizes .pages) (sizes .slots)) contents state)
     ≡ record { answer = 0; second = sizes .pages * sizes .pages; left = stateWords (sizes .pages) (λ p. atRest 1 1) }
 
 -- "It must equal the definition's steps."
@@ -88,20 +90,20 @@ pub record LinksAreSteps (F : Following) : Type 0 where
       (P S : ℕ) (t : ℕ → Slot) → tableSound P S t ≡ true → (p n : ℕ) (e : End) → p < P → Walked (F .verdict S t) p e n → follow P (F .verdict S t) p ≡ record { end = e; links = n }
   -- where recover answers 0 a walk from each page ends, and the number returned is the sum of the links of any such walks, at least one from each page;
   pub all-end :
-      (widths : Widths) (sizes : Sizes) (words state : List ℕ)
-      → F .answer widths sizes words state ≡ 0
+      (widths : Widths) (sizes : Sizes) (v : Volume)
+      → F .answer widths sizes v ≡ 0
       → (p : ℕ)
       → p < sizes .pages
-      → ¬ (follow (sizes .pages) (F .verdict (sizes .slots) (slotIn (F .layout) words)) p .end ≡ ends.Astray)
+      → ¬ (follow (sizes .pages) (F .verdict (sizes .slots) (slotIn (F .layout) (v .flash .words))) p .end ≡ ends.Astray)
   pub summed :
-      (widths : Widths) (sizes : Sizes) (words state : List ℕ)
-      → F .answer widths sizes words state ≡ 0
+      (widths : Widths) (sizes : Sizes) (v : Volume)
+      → F .answer widths sizes v ≡ 0
       → (end : ℕ → End) (links : ℕ → ℕ)
-      → ((p : ℕ) → p < sizes .pages → Walked (F .verdict (sizes .slots) (slotIn (F .layout) words)) p (end p) (links p))
-      → F .outcome widths sizes words state .second ≡ sumBelow (sizes .pages) links
-  pub least : (widths : Widths) (sizes : Sizes) (words state : List ℕ) → F .answer widths sizes words state ≡ 0 → sizes .pages ≤ F .outcome widths sizes words state .second
+      → ((p : ℕ) → p < sizes .pages → Walked (F .verdict (sizes .slots) (slotIn (F .layout) (v .flash .words))) p (end p) (links p))
+      → F .outcome widths sizes v .second ≡ sumBelow (sizes .pages) links
+  pub least : (widths : Widths) (sizes : Sizes) (v : Volume) → F .answer widths sizes v ≡ 0 → sizes .pages ≤ F .outcome widths sizes v .second
   -- "on refusal 0";
-  pub refused : (widths : Widths) (sizes : Sizes) (words state : List ℕ) → ¬ (F .answer widths sizes words state ≡ 0) → F .outcome widths sizes words state .second ≡ 0
+  pub refused : (widths : Widths) (sizes : Sizes) (v : Volume) → ¬ (F .answer widths sizes v ≡ 0) → F .outcome widths sizes v .second ≡ 0
   -- and a ring of k pages has k links from each of them, in any table.
   pub ring :
       (P S : ℕ) (t : ℕ → Slot) (k : ℕ) (page : ℕ → ℕ)
@@ -115,9 +117,9 @@ pub record LinksAreSteps (F : Following) : Type 0 where
 -- `recovered`, which look at where a walk ends and not at its links; and it ends where it does without a count.
 pub record LinksApart (F : Following) : Type 0 where
   pub ends-alone : (P S : ℕ) (t : ℕ → Slot) (p : ℕ) → follow P (F .verdict S t) p .end ≡ endFrom (F .verdict S t) p P p
-  pub answer : (widths : Widths) (sizes : Sizes) (words state : List ℕ) → F .outcome widths sizes words state .answer ≡ F .answer widths sizes words state
+  pub answer : (widths : Widths) (sizes : Sizes) (v : Volume) → F .outcome widths sizes v .answer ≡ F .answer widths sizes v
   pub filled :
-      (widths : Widths) (sizes : Sizes) (words state : List ℕ)
-      → F .answer widths sizes words state ≡ 0
-      → F .outcome widths sizes words state .left ≡ stateWords (sizes .pages) (F .recovered (sizes .pages) (sizes .slots) (slotIn (F .layout) words))
-  pub unaltered : (widths : Widths) (sizes : Sizes) (words state : List ℕ) → ¬ (F .answer widths sizes words state ≡ 0) → F .outcome widths sizes words state .left ≡ state
+      (widths : Widths) (sizes : Sizes) (v : Volume)
+      → F .answer widths sizes v ≡ 0
+      → F .outcome widths sizes v .left ≡ stateWords (sizes .pages) (F .recovered (sizes .pages) (sizes .slots) (slotIn (F .layout) (v .flash .words)))
+  pub unaltered : (widths : Widths) (sizes : Sizes) (v : Volume) → ¬ (F .answer widths sizes v ≡ 0) → F .outcome widths sizes v .left ≡ v .state

@@ -1,10 +1,11 @@
--- Document 01, "When a slot may be erased".
+-- Document 01, "When a slot may be erased"; and document 02, wish 1, what a slot's twins change.
 use Prim.Native.Nat.{ℕ}
-use mathlib.Core.List.{List}
+use mathlib.Core.List.{List, [], _∷_}
 use mathlib.Core.Bool.{Bool, not, _&&_, _||_}
 use lib.Dec.{ltb, eqb}
 use lib.ListN.{length, getD}
-use Rattle.bounded.specs.Below.{allBelow}
+use Rattle.bounded.specs.Below.{allBelow, someBelow}
+use Rattle.sizes.specs.Sizes.{listed}
 use Rattle.record.specs.declared.Record.{Record}
 use Rattle.record.specs.declared.Slot.{Slot}
 use Rattle.record.specs.Slot.{holds, someRecord, straddles}
@@ -43,6 +44,20 @@ mayEraseRecord S t st r = (isObsolete st r && not (isNeeded S t st r)) || (isExp
 unfoldable pub mayErase : ℕ → (ℕ → Slot) → (ℕ → PageState) → ℕ → Bool
 mayErase S t st k = holds (mayEraseRecord S t st) (t k)
 
+-- ---- twins: `twin j k` says that slots j and k are, `inList j` that slot j is in "the erase list"
+
+-- a listed slot k "whose twin is outside the erase list" (a slot is its own twin, and is listed)
+unfoldable pub twinOutside : ℕ → (twin : ℕ → ℕ → Bool) → (inList : ℕ → Bool) → ℕ → Bool
+twinOutside S twin inList k = someBelow S (λ j. twin j k && not (inList j))
+
+-- "A slot whose twin is outside the erase list may always be erased, and if all twins are listed the old rule judges them"
+unfoldable pub mayEraseFrom : ℕ → (ℕ → Slot) → (ℕ → PageState) → (twin : ℕ → ℕ → Bool) → (inList : ℕ → Bool) → ℕ → Bool
+mayEraseFrom S t st twin inList k = twinOutside S twin inList k || mayErase S t st k
+
 -- "The permission is judged for every slot on the table before the call": each listed slot may be erased.
-unfoldable pub mayEraseAll : ℕ → (ℕ → Slot) → (ℕ → PageState) → List ℕ → Bool
-mayEraseAll S t st slots = allBelow (length slots) (λ i. mayErase S t st (getD slots i 0))
+unfoldable pub mayEraseAll : ℕ → (ℕ → Slot) → (ℕ → PageState) → (twin : ℕ → ℕ → Bool) → (slots : List ℕ) → Bool
+mayEraseAll S t st twin slots = allBelow (length slots) (λ i. mayEraseFrom S t st twin (listed slots) (getD slots i 0))
+
+-- "suggest judges a list of one"
+unfoldable pub mayEraseAlone : ℕ → (ℕ → Slot) → (ℕ → PageState) → (twin : ℕ → ℕ → Bool) → ℕ → Bool
+mayEraseAlone S t st twin k = mayEraseFrom S t st twin (listed (k ∷ [])) k

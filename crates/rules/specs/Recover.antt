@@ -1,23 +1,24 @@
 -- The call recover.
 use Prim.Native.Nat.{ℕ}
 use mathlib.Core.List.{List}
-use mathlib.Core.Bool.{not, _&&_, _||_}
+use mathlib.Core.Bool.{not, _||_}
 use Rattle.bounded.specs.Limits.{Widths}
 use Rattle.bounded.specs.Below.{allBelow, someBelow}
 use Rattle.outcome.specs.Outcome.{_⇒_otherwise_, Outcome, settled}
 use Rattle.sizes.specs.declared.Sizes.{Sizes}
-use Rattle.sizes.specs.Sizes.{sizesOk, wordsFit, stateFits}
 use Rattle.record.specs.declared.Slot.{Slot}
 use Rattle.record.specs.declared.Slot.the-variants.{Blank, Holds}
 use Rattle.record.specs.Slot.{slotAt}
 use Rattle.state.specs.declared.PageState.{PageState}
 use Rattle.state.specs.State.{stateWords}
 use Rattle.state.specs.Change.{atRest}
-use Rattle.table.specs.Table.{tableSound, someClash, hasRecord, hasVersion, highest, versionIn, usedOf}
+use Rattle.table.specs.Table.{tableSound, hasRecord, hasVersion, highest, versionIn, usedOf}
 use Rattle.follow.specs.declared.End.{End}
 use Rattle.follow.specs.declared.End.the-variants as ends
 use Rattle.follow.specs.declared.Walk.{Walk}
 use Rattle.follow.specs.Follow.{follow, linksFollowed, isAstray}
+use Rattle.twins.specs.Twins.{twins, someConflict}
+use Rattle.rules.specs.Volume.{Volume, volumeFits}
 use Rattle.rules.specs.Verdict.{verdict}
 
 -- the walk from page p's highest record
@@ -47,19 +48,19 @@ unfoldable pub recovered : (P S : ℕ) → (ℕ → Slot) → ℕ → PageState
 unfolding atRest
 recovered P S t p = atRest (committedOf P S t p) (usedOf S t p)
 
--- Recovery reads only the slot table: of the state it sees the length, and the old state "may hold anything".
-unfoldable pub recoverAnswer : Widths → Sizes → (words state : List ℕ) → ℕ
-recoverAnswer widths sizes words state =
-    not (sizesOk widths sizes && (wordsFit (sizes .slots) words && stateFits (sizes .pages) state)) ⇒ 1 otherwise
-    not (tableSound (sizes .pages) (sizes .slots) (slotAt words)) ⇒ 2 otherwise
-    (someClash (sizes .slots) (slotAt words) || not (allBelow (sizes .pages) (hasRecord (sizes .slots) (slotAt words)))) ⇒ 3 otherwise
-    someBelow (sizes .pages) (λ p. isAstray (walkOf (sizes .pages) (sizes .slots) (slotAt words) p .end)) ⇒ 4 otherwise
-    not (allBelow (sizes .pages) (λ p. hasVersion (sizes .slots) (slotAt words) p (committedOf (sizes .pages) (sizes .slots) (slotAt words) p))) ⇒ 14 otherwise
+-- "Recovery and suggest now read the contents too", to tell twins: of the state it sees the length, and the old state "may hold anything".
+unfoldable pub recoverAnswer : Widths → Sizes → Volume → ℕ
+recoverAnswer widths sizes v =
+    not (volumeFits widths sizes v) ⇒ 1 otherwise
+    not (tableSound (sizes .pages) (sizes .slots) (slotAt (v .flash .words))) ⇒ 2 otherwise
+    (someConflict (sizes .slots) (slotAt (v .flash .words)) (twins (sizes .width) (v .flash)) || not (allBelow (sizes .pages) (hasRecord (sizes .slots) (slotAt (v .flash .words))))) ⇒ 3 otherwise
+    someBelow (sizes .pages) (λ p. isAstray (walkOf (sizes .pages) (sizes .slots) (slotAt (v .flash .words)) p .end)) ⇒ 4 otherwise
+    not (allBelow (sizes .pages) (λ p. hasVersion (sizes .slots) (slotAt (v .flash .words)) p (committedOf (sizes .pages) (sizes .slots) (slotAt (v .flash .words)) p))) ⇒ 14 otherwise
     0
 
 -- "Recover: fills the sheet from the slot table". It alters the state alone. Document 02: "Recovery … shall also return the number of links followed …; on
 -- refusal 0."
-unfoldable pub recoverOutcome : Widths → Sizes → (words state : List ℕ) → Outcome (List ℕ)
-recoverOutcome widths sizes words state =
-    settled (recoverAnswer widths sizes words state) 0 (linksOf (sizes .pages) (sizes .slots) (slotAt words))
-    state (stateWords (sizes .pages) (recovered (sizes .pages) (sizes .slots) (slotAt words)))
+unfoldable pub recoverOutcome : Widths → Sizes → Volume → Outcome (List ℕ)
+recoverOutcome widths sizes v =
+    settled (recoverAnswer widths sizes v) 0 (linksOf (sizes .pages) (sizes .slots) (slotAt (v .flash .words)))
+    (v .state) (stateWords (sizes .pages) (recovered (sizes .pages) (sizes .slots) (slotAt (v .flash .words))))

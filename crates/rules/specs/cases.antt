@@ -6,6 +6,7 @@ pub mod Write
 pub mod Erase
 pub mod Found
 pub mod Suggest
+pub mod Clean
 pub mod Recover
 pub mod Links
 pub mod Star

@@ -1,6 +1,7 @@
 -- What the definitions say, as facts.
 pub mod Volume
 pub mod Outcomes
+pub mod Copies
 pub mod Accepted
 pub mod Families
 pub mod Chains
@@ -10,3 +11,4 @@ pub mod Recover
 pub mod Links
 pub mod Simple
 pub mod SimpleAccepted
+pub mod Clean

@@ -2,3 +2,4 @@ pub mod Sizes
 pub mod SizesLaws
 pub mod Lists
 pub mod Marks
+pub mod Blocks

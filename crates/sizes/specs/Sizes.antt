@@ -5,7 +5,7 @@ use mathlib.Core.Bool.{Bool, not, _&&_}
 use lib.Dec.{ltb, leb, eqb}
 use lib.ListN.{length, getD}
 use Rattle.bounded.specs.Limits.{maxPages, maxSlots, Widths}
-use Rattle.bounded.specs.Below.{allBelow}
+use Rattle.bounded.specs.Below.{allBelow, someBelow}
 use Rattle.sizes.specs.declared.Layout.{Layout}
 use Rattle.sizes.specs.declared.Layout.the-variants.{FiveWords, FourWords}
 use Rattle.sizes.specs.declared.Sizes.{Sizes}
@@ -54,3 +54,7 @@ inRange n list = allBelow (length list) (λ i. ltb (getD list i 0) n)
 -- no "empty list, repeated entry, or a page or slot out of range"
 unfoldable pub listOk : ℕ → List ℕ → Bool
 listOk n list = leb 1 (length list) && (inRange n list && noRepeats list)
+
+-- the number stands in the list
+unfoldable pub listed : List ℕ → ℕ → Bool
+listed list n = someBelow (length list) (λ i. eqb (getD list i 0) n)

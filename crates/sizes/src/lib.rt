@@ -21,6 +21,12 @@ pub struct Sizes {
     pub width: u32,
 }
 
+// The slots that a flash chip erases together: those from `first` to before `end`.
+pub struct Block {
+    pub first: u32,
+    pub end: u32,
+}
+
 // How a slot's words lie: the five of a record, or four where it has no back pointer.
 pub enum Layout {
     FiveWords,

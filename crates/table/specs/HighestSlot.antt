@@ -16,7 +16,7 @@ use Rattle.record.specs.declared.Slot.{Slot}
 use Rattle.record.specs.declared.Slot.the-variants.{Blank, Holds}
 use Rattle.record.specs.Slot.{holds}
 use Rattle.record.specs.SlotLaws.{sound-facts, holds-exactly}
-use Rattle.table.specs.Table.{tableSound, ofPage, above, better, highest, hasRecord}
+use Rattle.table.specs.Table.{tableSound, ofPage, above, better, raised, highest, hasRecord}
 use Rattle.table.specs.TableLaws.{blank-holds, sound-at, highest-is, highest-held, highest-page, highest-exists}
 
 -- what a slot number names in a table of S slots: the slot, or blank where it is no slot
@@ -39,7 +39,7 @@ named-none S t k h = rw (le-ltb k S h)
 module _ (S : ℕ) (t : ℕ → Slot) (p : ℕ) where
   -- the slot that it names holds the highest record
   pub highest-named : (n : ℕ) → n ≤ S → named S t (highestSlot S n t p) ≡ highest n t p
-  unfolding highestSlot highest
+  unfolding highestSlot highest raised
   highest-named zero h = named-none S t S (omega arith)
   highest-named (suc n) h =
       on-test (holds (better p (highest n t p)) (t n))
@@ -59,7 +59,7 @@ module _ (S : ℕ) (t : ℕ → Slot) (p : ℕ) where
 
   -- the named slot holds a record
   slot-holds-record : (n : ℕ) → highestSlot S n t p < S → (r : Record) × (highest n t p ≡ Holds r)
-  unfolding highestSlot highest
+  unfolding highestSlot highest raised
   slot-holds-record zero l = absurd (omega arith)
   slot-holds-record (suc n) l =
       on-test (holds (better p (highest n t p)) (t n))

@@ -49,10 +49,14 @@ above (Holds best) r = ltb (best .v) (r .v)
 unfoldable pub better : ℕ → Slot → Record → Bool
 better p best r = ofPage p r && above best r
 
+-- a slot where it holds a record of page p above `best`, else `best`
+unfoldable pub raised : ℕ → (best slot : Slot) → Slot
+raised p best slot = cond (holds (better p best) slot) slot best
+
 -- the highest record of page p in the slots below n, as a slot; blank where there is none
 unfoldable pub highest : ℕ → (ℕ → Slot) → ℕ → Slot
 highest zero t p = Blank
-highest (suc n) t p = cond (holds (better p (highest n t p)) (t n)) (t n) (highest n t p)
+highest (suc n) t p = raised p (highest n t p) (t n)
 
 -- the version in a slot; 0 where it is blank
 unfoldable pub versionIn : Slot → ℕ

@@ -14,7 +14,7 @@ use Rattle.record.specs.declared.Slot.{Slot}
 use Rattle.record.specs.declared.Slot.the-variants.{Blank, Holds}
 use Rattle.record.specs.SlotLaws.{holds-exactly}
 use Rattle.record.specs.Slot.{slotSound, recordSound, holds, someRecord}
-use Rattle.table.specs.Table.{tableSound, ofPage, ofVersion, clash, someClash, hasRecord, lowestSlot, hasVersion, above, better, highest, versionIn}
+use Rattle.table.specs.Table.{tableSound, ofPage, ofVersion, clash, someClash, hasRecord, lowestSlot, hasVersion, above, better, raised, highest, versionIn}
 
 -- two slots' contents never both blank and a record
 pub blank-holds : {s : Slot} {r : Record} → s ≡ Blank → s ≡ Holds r → ⊥
@@ -88,7 +88,7 @@ module _ (t : ℕ → Slot) where
 
     -- "the highest record is a record of its page and none is higher; it exists exactly where the page has a record"
     pub highest-is : (n : ℕ) → HighestIs n (highest n t p)
-    unfolding highest
+    unfolding highest raised
     highest-is zero = none (λ k r l e q. omega arith)
     highest-is (suc n) = one-more n (highest n t p) (highest-is n) (t n) refl
 

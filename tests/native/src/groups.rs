@@ -1,5 +1,6 @@
 //! The groups of tests, a file for each; what a group needs besides is in the folder of its name.
 
+pub mod blocks;
 pub mod calls;
 pub mod cases;
 pub mod impostors;
@@ -16,12 +17,13 @@ use crate::volume::Layout;
 pub type Tests = fn(&mut Group, Layout);
 
 /// Every group by its name, with the families that have it, in the order in which they run.
-pub const GROUPS: [(&str, &[Family], Tests); 7] = [
+pub const GROUPS: [(&str, &[Family], Tests); 8] = [
     ("cases", BOTH, cases::tests),
     ("calls", BOTH, calls::tests),
     ("links", BOTH, links::tests),
     ("runs", BOTH, runs::tests),
     ("models", BOTH, models::tests),
+    ("blocks", &[Family::Bpcc], blocks::tests),
     ("scripts", &[Family::Bpcc], scripts::tests),
     ("impostors", BOTH, impostors::tests),
 ];

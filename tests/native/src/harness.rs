@@ -48,6 +48,14 @@ impl Group {
     }
 }
 
+/// How a test that must fail fails.
+pub fn caught(test: impl Fn()) -> String {
+    match catch_unwind(AssertUnwindSafe(test)) {
+        Ok(()) => panic!("not found"),
+        Err(panic) => said(&*panic).chars().take(60).collect(),
+    }
+}
+
 /// The words of a panic.
 pub fn said(panic: &dyn std::any::Any) -> &str {
     let owned = panic.downcast_ref::<String>().map(String::as_str);

@@ -1,10 +1,13 @@
-//! Volumes, states and arguments for the calls: reachable, sound, damaged and sheer garbage.
+//! Volumes, states and arguments for the calls: reachable, sound, with twins, damaged and sheer garbage.
+
+pub mod arguments;
 
 use crate::implementations::reference::Reference;
-use crate::interface::{NONE, WIDTHS};
+use crate::interface::{Family, BLOCK_SLOTS, NONE, WIDTHS};
 use crate::random::Random;
-use crate::rules::{entry, set_entry, slot_words, state_sound, table_sound, Entry, Record, LAST_VERSION};
+use crate::rules::{set_entry, slot_bytes, slot_words, state_sound, Entry, Record, LAST_VERSION};
 use crate::volume::{Call, Layout, Sizes, Volume};
+pub use arguments::{block_to_clean, page_and_slot_to_write, page_to_take, pages_to_launch, slots_to_erase};
 
 /// Widths that no volume has.
 pub const WRONG_WIDTHS: [u32; 7] = [0, 31, 33, 63, 65, 96, NONE];
@@ -38,24 +41,45 @@ pub fn boundary(random: &mut Random, sizes: Sizes) -> u32 {
     ])
 }
 
-/// A volume of a layout, and its state, for one round of calls.
+/// A volume of a layout, and its state, for one round of calls: most often small, now and then the largest, and where volumes are
+/// cleaned one in forty of two or three blocks.
 pub fn volume(random: &mut Random, layout: Layout) -> Volume {
-    let large = random.one_in(2000);
-    let pages = if large {
-        random.pick(&[255, 256])
-    } else if random.one_in(8) {
-        1 + random.below(8)
-    } else {
-        1 + random.below(4)
-    };
-    let slots = if large { 1024 - random.below(2) } else { pages + random.below(9) };
-    let sizes = layout.sizes(pages, slots);
+    match random.below(2000) {
+        0 => {
+            let sizes = layout.sizes(random.pick(&[255, 256]), 1024 - random.below(2));
+            volume_of(random, sizes)
+        }
+        1..=50 if layout.family == Family::Bpcc => blocks_volume(random, layout),
+        _ => {
+            let pages = pages(random);
+            let sizes = layout.sizes(pages, pages + random.below(9));
+            volume_of(random, sizes)
+        }
+    }
+}
+
+/// One of two or three blocks, the last of which has few slots or is whole.
+pub fn blocks_volume(random: &mut Random, layout: Layout) -> Volume {
+    let slots = if random.one_in(3) { 2 * BLOCK_SLOTS + random.below(4) } else { BLOCK_SLOTS + 1 + random.below(9) };
+    let sizes = layout.sizes(pages(random), slots);
+    volume_of(random, sizes)
+}
+
+fn pages(random: &mut Random) -> u32 {
+    let most = if random.one_in(8) { 8 } else { 4 };
+    1 + random.below(most)
+}
+
+fn volume_of(random: &mut Random, sizes: Sizes) -> Volume {
     let mut v = match random.below(10) {
         0..=3 => reached(random, sizes),
         4..=5 => sound_table(random, sizes),
         6..=8 => linked_table(random, sizes),
         _ => garbage(random, sizes),
     };
+    if random.one_in(3) {
+        add_twins(random, &mut v);
+    }
     choose_state(random, &mut v);
     if random.one_in(8) {
         damage(random, sizes, &mut v.words);
@@ -76,6 +100,7 @@ fn reached(random: &mut Random, sizes: Sizes) -> Volume {
                 let (page, slot) = page_and_slot_to_write(random, &v);
                 Call::Write { page, slot, bytes: random.bytes(sizes.width) }
             }
+            6 if sizes.family == Family::Bpcc && sizes.slots > BLOCK_SLOTS && random.one_in(2) => Call::Clean(block_to_clean(random, &v)),
             6 if random.one_in(4) => Call::Withdraw(random.below(sizes.pages)),
             6 if random.one_in(4) => Call::Recover,
             _ => Call::Erase(slots_to_erase(random, &v)),
@@ -102,12 +127,13 @@ fn sound_record(random: &mut Random, pages: u32, p: u32) -> Record {
     Record { p, v, c, np, nv }
 }
 
-/// Sound records and blank slots in any order, pages and versions repeated or missing.
+/// Sound records and blank slots in any order, pages and versions repeated or missing; one slot in three is blank, or few, or none.
 fn sound_table(random: &mut Random, sizes: Sizes) -> Volume {
     let mut v = Volume::with_records(sizes, &[Record::BLANK]);
     v.contents = random.bytes(v.contents.len() as u32);
+    let blank_in = random.pick(&[3, 3, 3, 40, 1000]);
     for k in 0..sizes.slots {
-        if !random.one_in(3) {
+        if !random.one_in(blank_in) {
             let p = random.below(sizes.pages);
             let record = sound_record(random, sizes.pages, p);
             v.words[slot_words(sizes.family, k)].copy_from_slice(&record.words(sizes.family));
@@ -151,6 +177,28 @@ fn garbage(random: &mut Random, sizes: Sizes) -> Volume {
     v.state.iter_mut().for_each(|w| *w = word(random));
     v.contents = random.bytes(v.contents.len() as u32);
     v
+}
+
+/// Copies some records to blank slots, if there are any, most as they are and some with another byte or another word.
+fn add_twins(random: &mut Random, v: &mut Volume) {
+    let Sizes { family, width, .. } = v.sizes;
+    for _ in 0..1 + random.below(4) {
+        let (held, blank) = (v.records(), v.blank_slots());
+        if held.is_empty() || blank.is_empty() {
+            return;
+        }
+        let to = random.pick(&blank);
+        v.copy_within(random.pick(&held).0, to);
+        match random.below(6) {
+            0 => v.contents[slot_bytes(width, to)][random.below(width) as usize] ^= 1 << random.below(8),
+            1 => {
+                let words = &mut v.words[slot_words(family, to)];
+                let at = random.below(words.len() as u32) as usize;
+                words[at] = words[at].wrapping_add(random.pick(&[1, NONE]));
+            }
+            _ => {}
+        }
+    }
 }
 
 /// Keeps the volume's state, recovers it, makes a sound one, or loses it.
@@ -203,64 +251,6 @@ fn damage(random: &mut Random, sizes: Sizes, words: &mut [u32]) {
             _ => words[random.below(words.len() as u32) as usize],
         };
     }
-}
-
-/// A list of numbers below n as it is, or with a repeat, an entry out of range, or empty.
-fn spoiled(random: &mut Random, mut list: Vec<u32>, n: u32) -> Vec<u32> {
-    match random.below(24) {
-        0 => list.clear(),
-        1 if !list.is_empty() => list.push(list[0]),
-        2 => list.push(random.pick(&[n, n + 1, NONE, NONE - 1, 0x8000_0000])),
-        3 => list.insert(0, random.pick(&[n, NONE])),
-        4 if n < 300 => list = (0..n).collect(),
-        5 => list = (0..random.below(2 * n + 2)).map(|_| random.below(n)).collect(),
-        _ => {}
-    }
-    list
-}
-
-pub fn pages_to_launch(random: &mut Random, v: &Volume) -> Vec<u32> {
-    let pages = v.sizes.pages;
-    let free: Vec<u32> = (0..pages).filter(|&p| !entry(&v.state, p).in_flight()).collect();
-    let list = if random.one_in(4) || free.is_empty() { random.subset(pages) } else { random.some_of(free, pages) };
-    spoiled(random, list, pages)
-}
-
-pub fn page_and_slot_to_write(random: &mut Random, v: &Volume) -> (u32, u32) {
-    let Sizes { pages, slots, .. } = v.sizes;
-    let waiting: Vec<u32> = (0..pages).filter(|&p| entry(&v.state, p).in_flight() && entry(&v.state, p).written == 0).collect();
-    let blank = v.blank_slots();
-    let page = if random.one_in(5) || waiting.is_empty() { random.below(pages) } else { random.pick(&waiting) };
-    let slot = if random.one_in(5) || blank.is_empty() { random.below(slots) } else { random.pick(&blank) };
-    match random.below(20) {
-        0 => (boundary(random, v.sizes), slot),
-        1 => (page, boundary(random, v.sizes)),
-        _ => (page, slot),
-    }
-}
-
-pub fn page_to_take(random: &mut Random, v: &Volume) -> u32 {
-    if random.one_in(10) {
-        boundary(random, v.sizes)
-    } else {
-        random.below(v.sizes.pages)
-    }
-}
-
-/// Slots that may be erased, or any that hold an obsolete or exposed record, or any at all.
-pub fn slots_to_erase(random: &mut Random, v: &Volume) -> Vec<u32> {
-    let Sizes { family, pages, slots, .. } = v.sizes;
-    let sound = table_sound(family, pages, &v.words);
-    let tried: Vec<u32> = if slots > 64 { (0..20).map(|i| (i * 53 + random.below(53)) % slots).collect() } else { (0..slots).collect() };
-    let how = random.below(8);
-    let goes = |k: u32| match v.slot(k) {
-        Some(_) if how < 4 => v.may_erase(k),
-        Some(r) => r.v != entry(&v.state, r.p).committed,
-        None => false,
-    };
-    let chosen: Vec<u32> = tried.into_iter().filter(|&k| sound && how < 7 && goes(k)).collect();
-    let list = random.some_of(if chosen.is_empty() { (0..slots).collect() } else { chosen }, slots);
-    spoiled(random, list, slots)
 }
 
 /// A wrong size or length for some call.

@@ -1,5 +1,7 @@
 //! The calls as one interface: which there are, what each takes, and what each gives back.
 
+use crate::crash::{stages, Stage};
+use crate::volume::{Call, Volume};
 use std::fmt;
 
 /// 4,294,967,295: a word of a blank slot, "not in flight", and the slot that a refused suggest names.
@@ -41,6 +43,12 @@ impl Family {
 /// Words of a page in the state (document 01: sheet).
 pub const PAGE_WORDS: usize = 4;
 
+/// The slots that the chip erases together, as the calls take it; the last block of a volume may have fewer.
+pub const BLOCK_SLOTS: u32 = 64;
+
+/// The most blocks of a volume.
+pub const BLOCKS: u32 = 16;
+
 /// Hands the calls to a macro, a row for each: its family, its name, its name in C, and what it takes in the order of the header. A
 /// name in brackets is a buffer, in C a pointer and then a length.
 macro_rules! calls {
@@ -51,8 +59,9 @@ macro_rules! calls {
             Bpcc Write    bpcc_write    (pages, slots, width, [words], [contents], [state], page, slot, [bytes])
             Bpcc Withdraw bpcc_withdraw (pages, slots, width, [state], page)
             Bpcc Erase    bpcc_erase    (pages, slots, width, [words], [contents], [state], [list])
-            Bpcc Suggest  bpcc_suggest  (pages, slots, width, [words], [state])
-            Bpcc Recover  bpcc_recover  (pages, slots, width, [words], [state])
+            Bpcc Suggest  bpcc_suggest  (pages, slots, width, [words], [contents], [state])
+            Bpcc Clean    bpcc_clean    (pages, slots, width, [words], [contents], [state], block)
+            Bpcc Recover  bpcc_recover  (pages, slots, width, [words], [contents], [state])
             Bpcc Count    bpcc_count    ([bytes])
             Bpcc Read     bpcc_read     (pages, slots, width, [words], [contents], [state], page, [out])
             Scc  Format   scc_format    (pages, slots, width, [words], [contents], [state])
@@ -82,6 +91,7 @@ pub struct Arguments<'a> {
     pub page: u32,
     pub slot: u32,
     pub list: &'a [u32],
+    pub block: u32,
     pub bytes: &'a [u8],
     pub out: &'a mut [u8],
 }
@@ -95,6 +105,7 @@ pub enum Name {
     Withdraw,
     Erase,
     Suggest,
+    Clean,
     Recover,
     Count,
     Read,
@@ -145,4 +156,14 @@ impl Reply {
 /// An implementation of the calls.
 pub trait Calls {
     fn call(&self, name: Name, arguments: &mut Arguments) -> Reply;
+
+    /// The slots of a block.
+    fn block_slots(&self) -> u32 {
+        BLOCK_SLOTS
+    }
+
+    /// The slots that the driver alters for a call that is done, in stages.
+    fn stages(&self, call: &Call, before: &Volume, after: &Volume) -> Vec<Stage> {
+        stages(self.block_slots(), call, before, after)
+    }
 }

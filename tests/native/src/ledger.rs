@@ -21,6 +21,11 @@ impl Ledger {
         &self.kept[page as usize]
     }
 
+    /// What is entered for a page in its open transaction, if it is in one.
+    pub fn open(&self, page: u32) -> Option<Option<&[u8]>> {
+        self.open.iter().flatten().find(|(p, _)| *p == page).map(|(_, held)| held.as_deref())
+    }
+
     /// A call and its answer; a refused one changes nothing.
     pub fn called(&mut self, call: &Call, answer: u32) {
         if answer != 0 {
@@ -30,7 +35,7 @@ impl Ledger {
             Call::Launch(list) => self.open.push(list.iter().map(|&p| (p, None)).collect()),
             Call::Write { page, bytes, .. } => self.entered(*page, bytes),
             Call::Withdraw(page) => self.open.retain(|ring| ring.iter().all(|(p, _)| p != page)),
-            Call::Erase(_) => {}
+            Call::Erase(_) | Call::Clean(_) => {}
             Call::Recover => self.open.clear(),
         }
     }

@@ -1,5 +1,7 @@
 //! Native tests of the C library against a second implementation, and that implementation.
 
+pub mod cleaning;
+pub mod crash;
 pub mod groups;
 pub mod harness;
 pub mod implementations;

@@ -96,11 +96,16 @@ pub fn set_slot(layout: Layout, words: &mut [u32], contents: &mut [u8], k: u32, 
 }
 
 /// The records of the table with their slots, rising.
-pub fn records(family: Family, words: &[u32]) -> Vec<(u32, Record)> {
+pub fn held(family: Family, words: &[u32]) -> impl Iterator<Item = (u32, Record)> + '_ {
     let slots = words.len() / family.slot_words();
-    let mut held = Vec::with_capacity(slots);
-    held.extend((0..slots as u32).filter_map(|k| slot(family, words, k).map(|r| (k, r))));
-    held
+    (0..slots as u32).filter_map(move |k| slot(family, words, k).map(|r| (k, r)))
+}
+
+/// The same, as a list.
+pub fn records(family: Family, words: &[u32]) -> Vec<(u32, Record)> {
+    let mut list = Vec::with_capacity(words.len() / family.slot_words());
+    list.extend(held(family, words));
+    list
 }
 
 /// One page's four words of the state.
@@ -147,7 +152,7 @@ pub fn state_fits(pages: u32, state: &[u32]) -> bool {
 
 /// Every slot is blank or sound.
 pub fn table_sound(family: Family, pages: u32, words: &[u32]) -> bool {
-    records(family, words).iter().all(|(_, r)| r.is_sound(pages))
+    held(family, words).all(|(_, r)| r.is_sound(pages))
 }
 
 /// The state's soundness, clause by clause.
@@ -202,8 +207,8 @@ fn is_needed(table: &[(u32, Record)], state: &[u32], k: Record) -> bool {
 }
 
 /// "A slot may be erased if it holds an obsolete record that is no needed straddler, or an exposed record other than one whose page is in flight with v = used."
-/// Of four-word records "any obsolete record may be erased".
-pub fn may_erase(family: Family, words: &[u32], state: &[u32], k: u32) -> bool {
+/// Of four-word records "any obsolete record may be erased". Document 02's "old rule", which twins do not alter.
+pub fn old_rule(family: Family, words: &[u32], state: &[u32], k: u32) -> bool {
     let Some(record) = slot(family, words, k) else { return false };
     let e = entry(state, record.p);
     if record.v < e.committed {
@@ -217,7 +222,7 @@ pub fn may_erase(family: Family, words: &[u32], state: &[u32], k: u32) -> bool {
 
 /// The lowest slot that holds a page at a version.
 pub fn lowest_slot(family: Family, words: &[u32], page: u32, version: u32) -> Option<u32> {
-    records(family, words).iter().find(|(_, r)| r.p == page && r.v == version).map(|&(k, _)| k)
+    held(family, words).find(|(_, r)| r.p == page && r.v == version).map(|(k, _)| k)
 }
 
 /// Each page's highest record, or nothing where a page has no record.

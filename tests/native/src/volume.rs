@@ -1,7 +1,8 @@
 //! A volume with its state, and the calls that a run makes on it.
 
+use crate::cleaning::{may_erase_alone, twins, View};
 use crate::interface::{Arguments, Calls, Family, Name, Reply, NONE, PAGE_WORDS};
-use crate::rules::{is_exposed, may_erase, records, slot, slot_bytes, slot_words, Record};
+use crate::rules::{is_exposed, old_rule, records, slot, slot_bytes, slot_words, Record};
 use std::fmt;
 
 /// How slots lie in a volume's buffers: the family, by which a record has five words or four, and the bytes of contents for each slot.
@@ -43,6 +44,10 @@ impl Arguments<'_> {
     pub fn layout(&self) -> Layout {
         Layout { family: self.family, width: self.width }
     }
+
+    pub fn view(&self) -> View<'_> {
+        View { layout: self.layout(), words: self.words, contents: self.contents, state: self.state }
+    }
 }
 
 /// The records of a ring: the listed pages at version 1, each linked to the next of the list, the last to the first.
@@ -57,6 +62,7 @@ pub enum Call {
     Write { page: u32, slot: u32, bytes: Vec<u8> },
     Withdraw(u32),
     Erase(Vec<u32>),
+    Clean(u32),
     Recover,
 }
 
@@ -97,7 +103,7 @@ impl Volume {
         }
     }
 
-    /// A volume with the given records in its lowest slots, the other slots blank, and the state lost.
+    /// A volume with the given records in its lowest slots, each with bytes of its own, the other slots blank, and the state lost.
     pub fn with_records(sizes: Sizes, held: &[impl Into<Record> + Copy]) -> Volume {
         let mut v = Volume::zeroed(sizes);
         v.words.fill(NONE);
@@ -105,7 +111,9 @@ impl Volume {
         v.state.fill(NONE);
         for (k, &record) in (0..).zip(held) {
             v.words[slot_words(sizes.family, k)].copy_from_slice(&record.into().words(sizes.family));
-            v.contents[slot_bytes(sizes.width, k)].fill(k as u8);
+            let bytes = &mut v.contents[slot_bytes(sizes.width, k)];
+            bytes.fill(k as u8);
+            bytes[..4].copy_from_slice(&k.to_le_bytes());
         }
         v
     }
@@ -131,6 +139,7 @@ impl Volume {
             Call::Write { page, slot, ref bytes } => calls.call(Name::Write, &mut Arguments { page, slot, bytes, ..volume }),
             Call::Withdraw(page) => calls.call(Name::Withdraw, &mut Arguments { page, ..volume }),
             Call::Erase(ref list) => calls.call(Name::Erase, &mut Arguments { list, ..volume }),
+            Call::Clean(block) => calls.call(Name::Clean, &mut Arguments { block, ..volume }),
             Call::Recover => calls.call(Name::Recover, &mut { volume }),
         }
     }
@@ -162,20 +171,46 @@ impl Volume {
         records(self.sizes.family, &self.words)
     }
 
-    /// Whether slot k may be erased.
+    pub fn view(&self) -> View<'_> {
+        View { layout: self.sizes.layout(), words: &self.words, contents: &self.contents, state: &self.state }
+    }
+
+    /// Whether slot k alone may be erased.
     pub fn may_erase(&self, k: u32) -> bool {
-        may_erase(self.sizes.family, &self.words, &self.state, k)
+        may_erase_alone(self.view(), twins, k)
+    }
+
+    /// Whether the old rule lets slot k go.
+    fn old_rule(&self, k: u32) -> bool {
+        old_rule(self.sizes.family, &self.words, &self.state, k)
     }
 
     /// The slots of the exposed records other than those whose page is in flight with v = used.
     pub fn left_exposed(&self) -> Vec<u32> {
-        self.records().into_iter().filter(|&(k, r)| is_exposed(&self.state, r) && self.may_erase(k)).map(|(k, _)| k).collect()
+        self.records().into_iter().filter(|&(k, r)| is_exposed(&self.state, r) && self.old_rule(k)).map(|(k, _)| k).collect()
     }
 
     /// A write that would bury a record is done when those exposed records are erased.
     pub fn assert_cured(&mut self, calls: &dyn Calls, write: &Call) {
         let answers = [&Call::Erase(self.left_exposed()), write].map(|call| self.call(calls, call).answer);
         assert_eq!(answers, [0, 0], "erase of the exposed records and again {write:?}");
+    }
+
+    /// Makes one slot what another is.
+    pub fn copy_within(&mut self, from: u32, to: u32) {
+        let Layout { family, width } = self.sizes.layout();
+        self.words.copy_within(slot_words(family, from), slot_words(family, to).start);
+        self.contents.copy_within(slot_bytes(width, from), slot_bytes(width, to).start);
+    }
+
+    /// The slots whose words or bytes another volume of the same sizes has otherwise, rising.
+    pub fn altered(&self, to: &Volume) -> Vec<u32> {
+        let Layout { family, width } = self.sizes.layout();
+        let differs = |k: u32| {
+            let (words, bytes) = (slot_words(family, k), slot_bytes(width, k));
+            self.words[words.clone()] != to.words[words] || self.contents[bytes.clone()] != to.contents[bytes]
+        };
+        (0..self.sizes.slots).filter(|&k| differs(k)).collect()
     }
 
     /// Makes slot k what it is in another volume of the same sizes.

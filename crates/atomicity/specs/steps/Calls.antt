@@ -2,7 +2,7 @@
 use Prim.Native.Nat.{ℕ, _≤_, _<_}
 use native.Mathlib.Omega.{arith}
 use mathlib.Core.Path.{_≡_, refl, sym, subst}
-use mathlib.Core.List.{List}
+use mathlib.Core.List.{List, [], _∷_, append-nil, flatten}
 use mathlib.Core.Bool.{true}
 use lib.ListN.{length}
 use Rattle.bounded.specs.Limits.{noNumber, Widths}
@@ -12,7 +12,7 @@ use Rattle.sizes.specs.declared.Sizes.{Sizes}
 use Rattle.record.specs.declared.Slot.{Slot}
 use Rattle.record.specs.declared.Slot.the-variants.{Blank, Holds}
 use Rattle.record.specs.Slot.{slotIn, isBlank}
-use Rattle.record.specs.Flash.{Flash, Step, applyIn}
+use Rattle.record.specs.Flash.{Flash, Step, applyIn, applyAllIn}
 use Rattle.record.specs.FlashLaws.{SizedIn, store-sized}
 use Rattle.state.specs.State.{stateAt}
 use Rattle.state.specs.StateLaws.{length-stateWords}
@@ -27,13 +27,14 @@ use Rattle.rules.specs.laws.Accepted.{launch-tests, withdraw-tests}
 use Rattle.atomicity.specs.Family.{Family}
 use Rattle.atomicity.specs.Call.{Call, withState, withFlash, perform}
 use Rattle.atomicity.specs.Model.{Model, accept, closeAll, enter}
-use Rattle.atomicity.specs.steps.Theory.{Theory, written, write-done, erase-done, recover-done}
-use Rattle.atomicity.specs.steps.Stages.{answer-is}
+use Rattle.atomicity.specs.steps.Theory.{Theory, keeping, written, write-done, erase-done, clean-done, recover-done}
+use Rattle.atomicity.specs.steps.Stages.{answer-is, cut-past-last}
 use Rattle.atomicity.specs.steps.Invariant.{Known}
 use Rattle.atomicity.specs.steps.StateWords.{live-words}
 use Rattle.atomicity.specs.steps.Launch.{listed-some, listed-launchable, launched-live}
 use Rattle.atomicity.specs.steps.Withdraw.{withdrawn-live}
-use Rattle.atomicity.specs.steps.Erase.{erasable-free, erased-sized, erased-live}
+use Rattle.atomicity.specs.steps.Sparing.{Spares}
+use Rattle.atomicity.specs.steps.Spared.{Kept, spares-kept}
 use Rattle.atomicity.specs.steps.Recover.{accepts, found-fits, found-again}
 use Rattle.atomicity.specs.steps.Write.{written-live}
 
@@ -64,15 +65,31 @@ module _ {F : Family} (T : Theory F) (widths : Widths) (sizes : Sizes) (v : Volu
         live = live-words T sizes (v .flash) (withdrawn (sizes .pages) (stateAt (v .state)) page) (accept m (Call.Withdraw page)) (withdrawn-live T sizes (v .flash) (stateAt (v .state)) m (k .live) page y);
       })
 
+  -- a call that alters the flash alone, by stages that lose none but records that may be erased
+  spares-accepted :
+      (stages : List (List Step))
+      → Spares (keeping T) (sizes .width) (sizes .slots) (stateAt (v .state)) (v .flash) stages
+      → Known T widths sizes (record { flash = applyAllIn (F .layout) (sizes .width) (v .flash) (flatten stages); state = v .state }) m
+  spares-accepted stages s =
+      let c = subst (λ (l : List Step). Kept T sizes (stateAt (v .state)) m (applyAllIn (F .layout) (sizes .width) (v .flash) l)) (cut-past-last (length stages) (λ i. true) stages (omega arith))
+      (spares-kept T sizes (stateAt (v .state)) m stages (v .flash) (length stages) (λ i. true) s (record { sized = k .fits .flash-sized; live = k .live })) in
+      record {
+        fits = record { bounds = k .fits .bounds; allowed = k .fits .allowed; flash-sized = c .sized; state-sized = k .fits .state-sized };
+        live = c .live;
+      }
+
   erase-accepted : (slots : List ℕ) → T .eraseAnswer widths sizes v slots ≡ 0 → Known T widths sizes (perform F widths sizes v (Call.Erase slots) .left) (accept m (Call.Erase slots))
-  unfolding perform withFlash eraseSteps accept
+  unfolding perform withFlash accept flatten
   erase-accepted slots e =
-      let free = erasable-free T widths sizes v slots e in
       subst (λ (o : Outcome Flash). Known T widths sizes (record { flash = o .left; state = v .state }) m) (sym (erase-done T widths sizes v slots e))
-      (record {
-        fits = record { bounds = k .fits .bounds; allowed = k .fits .allowed; flash-sized = erased-sized T sizes v m (k .fits .flash-sized) slots free; state-sized = k .fits .state-sized };
-        live = erased-live T sizes v m (k .fits .flash-sized) slots free (k .live);
-      })
+      (subst (λ (l : List Step). Known T widths sizes (record { flash = applyAllIn (F .layout) (sizes .width) (v .flash) l; state = v .state }) m) (append-nil (eraseSteps slots))
+      (spares-accepted (eraseSteps slots ∷ []) (T .erase-spares widths sizes v slots (k .fits) e)))
+
+  clean-accepted : (block : ℕ) → T .cleanAnswer widths sizes v block ≡ 0 → Known T widths sizes (perform F widths sizes v (Call.Clean block) .left) (accept m (Call.Clean block))
+  unfolding perform withFlash accept
+  clean-accepted block e =
+      subst (λ (o : Outcome Flash). Known T widths sizes (record { flash = o .left; state = v .state }) m) (sym (clean-done T widths sizes v block e))
+      (spares-accepted (F .cleanStages sizes v block) (T .clean-spares widths sizes v block (k .fits) e))
 
   write-accepted : (page slot : ℕ) (bytes : List ℕ) → T .writeAnswer widths sizes v page slot bytes ≡ 0 → Known T widths sizes (written F sizes v page slot bytes) (enter page bytes (m .kept) (m .rings))
   unfolding isBlank
@@ -98,14 +115,14 @@ module _ {F : Family} (T : Theory F) (widths : Widths) (sizes : Sizes) (v : Volu
       stored-sized : (page slot : ℕ) (bytes : List ℕ) → slot < (sizes .slots) → length bytes ≡ sizes .width → SizedIn (F .layout) (sizes .width) (sizes .slots) (applyIn (F .layout) (sizes .width) (v .flash) (Step.Store slot (F .plan (stateAt (v .state)) page) bytes))
       stored-sized page slot bytes h e = store-sized (F .layout) (sizes .width) (sizes .slots) (v .flash) (k .fits .flash-sized) slot h (F .plan (stateAt (v .state)) page) bytes e
 
-  recover-accepted : Known T widths sizes (perform F widths sizes v Call.Recover .left) (accept m Call.Recover) × (T .recoverAnswer widths sizes (v .flash .words) (v .state) ≡ 0)
+  recover-accepted : Known T widths sizes (perform F widths sizes v Call.Recover .left) (accept m Call.Recover) × (T .recoverAnswer widths sizes v ≡ 0)
   unfolding perform withState accept
   recover-accepted =
-      let e = accepts T widths sizes (v .flash) (k .fits .bounds) (k .fits .allowed) (k .fits .flash-sized) (k .live .no-twins) (k .live .core) (v .state) (k .fits .state-sized) in (
-        subst (λ (o : Outcome (List ℕ)). Known T widths sizes (record { flash = v .flash; state = o .left }) (closeAll m)) (sym (recover-done T widths sizes (v .flash .words) (v .state) e))
+      let e = accepts T widths sizes (v .flash) (k .fits .bounds) (k .fits .allowed) (k .fits .flash-sized) (k .live .apart) (k .live .core) (v .state) (k .fits .state-sized) in (
+        subst (λ (o : Outcome (List ℕ)). Known T widths sizes (record { flash = v .flash; state = o .left }) (closeAll m)) (sym (recover-done T widths sizes v e))
             (record {
-              fits = found-fits T widths sizes (v .flash) (k .fits .bounds) (k .fits .allowed) (k .fits .flash-sized) (k .live .no-twins) (k .live .core) (v .state) (k .fits .state-sized);
-              live = found-again T widths sizes (v .flash) (k .fits .bounds) (k .fits .allowed) (k .fits .flash-sized) (k .live .no-twins) (k .live .core) (v .state) (k .fits .state-sized) m refl;
+              fits = found-fits T widths sizes (v .flash) (k .fits .bounds) (k .fits .allowed) (k .fits .flash-sized) (k .live .apart) (k .live .core) (v .state) (k .fits .state-sized);
+              live = found-again T widths sizes (v .flash) (k .fits .bounds) (k .fits .allowed) (k .fits .flash-sized) (k .live .apart) (k .live .core) (v .state) (k .fits .state-sized) m refl;
             }),
         e,
       )
@@ -119,3 +136,4 @@ module _ {F : Family} (T : Theory F) (widths : Widths) (sizes : Sizes) (v : Volu
   accepted (Call.Withdraw page) e = withdraw-accepted page e
   accepted (Call.Erase slots) e = erase-accepted slots e
   accepted Call.Recover e = recover-accepted .0
+  accepted (Call.Clean block) e = clean-accepted block e

@@ -1,7 +1,7 @@
 -- A crash keeps what the invariant needs after it: the records, and no open ring.
 use Prim.Native.Nat.{ℕ}
 use mathlib.Core.Path.{_≡_, refl, sym, ap, _∙_, subst}
-use mathlib.Core.List.{List, [], _∷_, map}
+use mathlib.Core.List.{List, [], _∷_}
 use mathlib.Core.Bool.{Bool, true, false, cond, _&&_}
 use lib.Dec.{eqb}
 use borrow.Author.Tests.{eq-eqb, ne-eqb}
@@ -9,22 +9,21 @@ use Rattle.bounded.specs.Limits.{Widths}
 use Rattle.bounded.specs.Choice.{on-eq, on-test}
 use Rattle.outcome.specs.Outcome.{Outcome}
 use Rattle.sizes.specs.declared.Sizes.{Sizes}
-use Rattle.record.specs.Flash.{Flash, Step, applyAllIn, applyAll}
+use Rattle.record.specs.Flash.{Flash, Step, applyAllIn}
 use Rattle.record.specs.FlashLaws.{SizedIn}
 use Rattle.state.specs.State.{stateAt}
 use Rattle.rules.specs.Volume.{Volume}
-use Rattle.rules.specs.Erase.{eraseSteps}
 use Rattle.protocol.specs.Shared.{commOf}
 use Rattle.atomicity.specs.Family.{Family}
 use Rattle.atomicity.specs.Call.{Call, perform, plannedStages, flashStages}
 use Rattle.atomicity.specs.Run.{doneOf, cutShort, wasDone}
 use Rattle.atomicity.specs.Model.{Told, Model, accept, closeAll, enter, learns}
 use Rattle.atomicity.specs.Promise.{toldOfCrash}
-use Rattle.atomicity.specs.steps.Theory.{Theory, write-done}
+use Rattle.atomicity.specs.steps.Theory.{Theory, keeping, write-done}
 use Rattle.atomicity.specs.steps.Stages.{answer-is, performs, refused-stages, accepted-stages, cut-one}
 use Rattle.atomicity.specs.steps.Invariant.{Lost, Known}
-use Rattle.atomicity.specs.steps.Blanking.{chosen, done-blanks, chosen-listed}
-use Rattle.atomicity.specs.steps.Erase.{Free, erasable-free, erased-sized, erased-core, erased-apart}
+use Rattle.atomicity.specs.steps.Sparing.{Spares}
+use Rattle.atomicity.specs.steps.Spared.{spares-kept}
 use Rattle.atomicity.specs.steps.Calls.{accepted}
 
 module _ {F : Family} (T : Theory F) (sizes : Sizes) where
@@ -35,12 +34,12 @@ module _ {F : Family} (T : Theory F) (sizes : Sizes) where
 
   pub crash-lost : (f : Flash) (m : Model) → Crashed f m → Crashed f (closeAll m)
   unfolding closeAll
-  crash-lost f m c = record { sized = c .sized; lost = record { comm = c .lost .comm; no-twins = c .lost .no-twins; core = c .lost .core; closed = refl } }
+  crash-lost f m c = record { sized = c .sized; lost = record { comm = c .lost .comm; apart = c .lost .apart; core = c .lost .core; closed = refl } }
 
 module _ {F : Family} (T : Theory F) (widths : Widths) (sizes : Sizes) where
   pub crash-known : (v : Volume) (m : Model) → Known T widths sizes v m → Crashed T sizes (v .flash) (closeAll m)
   unfolding closeAll
-  crash-known v m k = record { sized = k .fits .flash-sized; lost = record { comm = commOf (stateAt (v .state)); no-twins = k .live .no-twins; core = k .live .core; closed = refl } }
+  crash-known v m k = record { sized = k .fits .flash-sized; lost = record { comm = commOf (stateAt (v .state)); apart = k .live .apart; core = k .live .core; closed = refl } }
 
   -- the flash after the steps done of a call
   abbrev pub crashFlash : Volume → Call → (stage : ℕ) (done : ℕ → Bool) → Flash
@@ -54,7 +53,7 @@ module _ {F : Family} (T : Theory F) (widths : Widths) (sizes : Sizes) where
   refused-flash : (v : Volume) (call : Call) (stage : ℕ) (done : ℕ → Bool) → ¬ (answer-is T widths sizes v call ≡ 0) → crashFlash v call stage done ≡ v .flash
   refused-flash v call stage done n = unstaged v call stage done (refused-stages T widths sizes v call n)
 
-  pub no-stages : (v : Volume) (call : Call) (stage : ℕ) (done : ℕ → Bool) → plannedStages F v call ≡ [] → crashFlash v call stage done ≡ v .flash
+  pub no-stages : (v : Volume) (call : Call) (stage : ℕ) (done : ℕ → Bool) → plannedStages F sizes v call ≡ [] → crashFlash v call stage done ≡ v .flash
   no-stages v call stage done e =
       on-eq (answer-is T widths sizes v call) 0
       (λ a. unstaged v call stage done (accepted-stages T widths sizes v call a ∙ e))
@@ -64,7 +63,7 @@ module _ {F : Family} (T : Theory F) (widths : Widths) (sizes : Sizes) where
   one-stage :
       (v : Volume) (call : Call) (stage : ℕ) (done : ℕ → Bool) (steps : List Step)
       → answer-is T widths sizes v call ≡ 0
-      → plannedStages F v call ≡ steps ∷ []
+      → plannedStages F sizes v call ≡ steps ∷ []
       → crashFlash v call stage done ≡ applyAllIn (F .layout) (sizes .width) (v .flash) (doneOf (wasDone stage done 0) 0 steps)
   one-stage v call stage done steps a e =
       ap (λ (l : List (List Step)). applyAllIn (F .layout) (sizes .width) (v .flash) (cutShort stage done l)) (accepted-stages T widths sizes v call a ∙ e)
@@ -74,30 +73,19 @@ module _ {F : Family} (T : Theory F) (widths : Widths) (sizes : Sizes) where
   leaves-flash : (v : Volume) (m : Model) (f : Flash) → Known T widths sizes v m → f ≡ v .flash → Crashed T sizes f (closeAll m)
   leaves-flash v m f k e = subst (λ (x : Flash). Crashed T sizes x (closeAll m)) (sym e) (crash-known v m k)
 
-  -- a crashed erasure: any part of the listed slots is blanked
-  crash-erase : (v : Volume) (m : Model) (slots : List ℕ) (stage : ℕ) (done : ℕ → Bool) → Known T widths sizes v m → Crashed T sizes (crashFlash v (Call.Erase slots) stage done) (closeAll m)
-  unfolding closeAll plannedStages eraseSteps answer-is
-  crash-erase v m slots stage done k =
-      on-eq (answer-is T widths sizes v (Call.Erase slots)) 0
-      (λ e. let all = erasable-free T widths sizes v slots e in
-      let part : List ℕ = chosen (wasDone stage done 0) 0 slots in
-      let free : Free T (sizes .slots) v part = record {
-        inside = λ i l. all .inside i (chosen-listed (wasDone stage done 0) 0 slots i l);
-        allowed = λ i l. all .allowed i (chosen-listed (wasDone stage done 0) 0 slots i l);
-      } in
-      let is : crashFlash v (Call.Erase slots) stage done ≡ applyAllIn (F .layout) (sizes .width) (v .flash) (map Step.Blank part) =
-      one-stage v (Call.Erase slots) stage done (eraseSteps slots) e refl ∙ ap (applyAllIn (F .layout) (sizes .width) (v .flash)) (done-blanks (wasDone stage done 0) 0 slots) in
-      subst (λ (x : Flash). Crashed T sizes x (closeAll m)) (sym is)
-      (record {
-        sized = erased-sized T sizes v m (k .fits .flash-sized) part free;
-        lost = record {
-          comm = commOf (stateAt (v .state));
-          no-twins = erased-apart T sizes v m (k .fits .flash-sized) part free (k .live);
-          core = erased-core T sizes v m (k .fits .flash-sized) part free (k .live);
-          closed = refl;
-        };
-      }))
-      (λ n. leaves-flash v m (crashFlash v (Call.Erase slots) stage done) k (refused-flash v (Call.Erase slots) stage done n))
+  -- a crash in a call whose stages lose none but records that may be erased
+  crash-spares :
+      (v : Volume) (m : Model) (call : Call) (stage : ℕ) (done : ℕ → Bool)
+      → Known T widths sizes v m
+      → (answer-is T widths sizes v call ≡ 0 → Spares (keeping T) (sizes .width) (sizes .slots) (stateAt (v .state)) (v .flash) (plannedStages F sizes v call))
+      → Crashed T sizes (crashFlash v call stage done) (closeAll m)
+  unfolding closeAll
+  crash-spares v m call stage done k spares =
+      on-eq (answer-is T widths sizes v call) 0
+      (λ e. let c = spares-kept T sizes (stateAt (v .state)) m (plannedStages F sizes v call) (v .flash) stage done (spares e) (record { sized = k .fits .flash-sized; live = k .live }) in
+      subst (λ (l : List (List Step)). Crashed T sizes (applyAllIn (F .layout) (sizes .width) (v .flash) (cutShort stage done l)) (closeAll m)) (sym (accepted-stages T widths sizes v call e))
+      (record { sized = c .sized; lost = record { comm = commOf (stateAt (v .state)); apart = c .live .apart; core = c .live .core; closed = refl } }))
+      (λ n. leaves-flash v m (crashFlash v call stage done) k (refused-flash v call stage done n))
 
   -- a crashed write: its slot is stored whole, or left as it was
   crash-write :
@@ -133,9 +121,10 @@ module _ {F : Family} (T : Theory F) (widths : Widths) (sizes : Sizes) where
       told-of q c = subst (λ (b : Bool). Crashed T sizes crashed (closeAll (cond b (enter page bytes (m .kept) (m .rings)) m))) (sym q) c
 
   pub crash-in : (v : Volume) (m : Model) (call : Call) (stage : ℕ) (done : ℕ → Bool) → Known T widths sizes v m → Crashed T sizes (crashFlash v call stage done) (learns m (toldOfCrash call (perform F widths sizes v call .answer) stage done))
-  unfolding learns toldOfCrash plannedStages
+  unfolding learns toldOfCrash plannedStages answer-is
   crash-in v m (Call.Launch pages) stage done k = leaves-flash v m (crashFlash v (Call.Launch pages) stage done) k (no-stages v (Call.Launch pages) stage done refl)
   crash-in v m (Call.Write page slot bytes) stage done k = crash-write v m page slot bytes stage done k
   crash-in v m (Call.Withdraw page) stage done k = leaves-flash v m (crashFlash v (Call.Withdraw page) stage done) k (no-stages v (Call.Withdraw page) stage done refl)
-  crash-in v m (Call.Erase slots) stage done k = crash-erase v m slots stage done k
+  crash-in v m (Call.Erase slots) stage done k = crash-spares v m (Call.Erase slots) stage done k (T .erase-spares widths sizes v slots (k .fits))
   crash-in v m Call.Recover stage done k = leaves-flash v m (crashFlash v Call.Recover stage done) k (no-stages v Call.Recover stage done refl)
+  crash-in v m (Call.Clean block) stage done k = crash-spares v m (Call.Clean block) stage done k (T .clean-spares widths sizes v block (k .fits))

@@ -60,12 +60,12 @@ module _ {F : Family} (T : Theory F) (widths : Widths) (sizes : Sizes) where
   recover-finds : (v : Volume) (m : Model) → FitsIn (F .layout) widths sizes v → Lost T sizes (v .flash) m → Known T widths sizes (perform F widths sizes v Call.Recover .left) (closeAll m) × (perform F widths sizes v Call.Recover .answer ≡ 0)
   unfolding perform withState
   recover-finds v m fits l =
-      let e = accepts T widths sizes (v .flash) (fits .bounds) (fits .allowed) (fits .flash-sized) (l .no-twins) (l .core) (v .state) (fits .state-sized) in
-      let o = recover-done T widths sizes (v .flash .words) (v .state) e in (
+      let e = accepts T widths sizes (v .flash) (fits .bounds) (fits .allowed) (fits .flash-sized) (l .apart) (l .core) (v .state) (fits .state-sized) in
+      let o = recover-done T widths sizes v e in (
         subst (λ (o : Outcome (List ℕ)). Known T widths sizes (record { flash = v .flash; state = o .left }) (closeAll m)) (sym o)
             (record {
-              fits = found-fits T widths sizes (v .flash) (fits .bounds) (fits .allowed) (fits .flash-sized) (l .no-twins) (l .core) (v .state) (fits .state-sized);
-              live = found-again T widths sizes (v .flash) (fits .bounds) (fits .allowed) (fits .flash-sized) (l .no-twins) (l .core) (v .state) (fits .state-sized) m refl;
+              fits = found-fits T widths sizes (v .flash) (fits .bounds) (fits .allowed) (fits .flash-sized) (l .apart) (l .core) (v .state) (fits .state-sized);
+              live = found-again T widths sizes (v .flash) (fits .bounds) (fits .allowed) (fits .flash-sized) (l .apart) (l .core) (v .state) (fits .state-sized) m refl;
             }),
         ap (λ (o : Outcome (List ℕ)). o .answer) o,
       )
@@ -82,6 +82,7 @@ module _ {F : Family} (T : Theory F) (widths : Widths) (sizes : Sizes) where
   lost-returns v m (Call.Write page slot bytes) fits l e = absurd (never refl (sym e))
   lost-returns v m (Call.Withdraw page) fits l e = absurd (never refl (sym e))
   lost-returns v m (Call.Erase slots) fits l e = absurd (never refl (sym e))
+  lost-returns v m (Call.Clean block) fits l e = absurd (never refl (sym e))
   lost-returns v m Call.Recover fits l e =
       let k = recover-finds v m fits l in
       subst (λ (x : Model). Holding T widths sizes (record { volume = perform F widths sizes v Call.Recover .left; lost = stillLost true Call.Recover (perform F widths sizes v Call.Recover .answer) }) x)
@@ -99,6 +100,7 @@ module _ {F : Family} (T : Theory F) (widths : Widths) (sizes : Sizes) where
   lost-crashes v m (Call.Write page slot bytes) stage done size l e = absurd (never refl (sym e))
   lost-crashes v m (Call.Withdraw page) stage done size l e = absurd (never refl (sym e))
   lost-crashes v m (Call.Erase slots) stage done size l e = absurd (never refl (sym e))
+  lost-crashes v m (Call.Clean block) stage done size l e = absurd (never refl (sym e))
   lost-crashes v m Call.Recover stage done size l e =
       subst (λ (x : Flash). Crashed T sizes x (closeAll m)) (sym (no-stages T widths sizes v Call.Recover stage done refl)) (crash-lost T sizes (v .flash) m (record { sized = size; lost = l }))
 

@@ -151,7 +151,7 @@ module _ {F : Family} (T : Theory F) (sizes : Sizes) (bounds : SizesFacts (sizes
   start =
       record {
         sound = fresh-facts;
-        no-twins = start-apart;
+        apart = T .apart-at-first (sizes .slots) (slotIn (F .layout) words) start-apart;
         core = start-core;
         live = start-live;
         rings = no-rings-match (sizes .pages) freshState (λ p h. fresh-rests p);

@@ -6,30 +6,31 @@ use mathlib.Core.Bool.{true, false}
 use Rattle.bounded.specs.Limits.{Widths}
 use Rattle.sizes.specs.declared.Sizes.{Sizes}
 use Rattle.record.specs.declared.Record.{Record}
-use Rattle.record.specs.Slot.{slotIn, bytesAt}
+use Rattle.record.specs.Slot.{slotIn}
 use Rattle.record.specs.Flash.{Flash}
 use Rattle.state.specs.declared.PageState.{PageState}
 use Rattle.state.specs.State.{stateAt}
 use Rattle.state.specs.StateLaws.{StateFacts}
 use Rattle.rules.specs.Volume.{Volume}
 use Rattle.rules.specs.laws.Volume.{FitsIn}
-use Rattle.protocol.specs.View.{InSlots, NoTwins, pointingView}
+use Rattle.protocol.specs.View.{pointingView}
 use Rattle.protocol.specs.Shared.{SharedLive, commOf}
 use Rattle.atomicity.specs.Family.{Family}
 use Rattle.atomicity.specs.Run.{World}
 use Rattle.atomicity.specs.Model.{Model}
+use Rattle.atomicity.specs.steps.Sparing.{HeldIn}
 use Rattle.atomicity.specs.steps.Theory.{Theory}
 use Rattle.atomicity.specs.rings.Match.{IsEntered, RingsMatch}
 
 -- the (record, contents) pairs that the slots of a flash hold
 abbrev pub Held : Family → (w S : ℕ) → Flash → Record → List ℕ → Type 0
-Held F w S f = InSlots S (slotIn (F .layout) (f .words)) (bytesAt w (f .contents))
+Held F w S f = HeldIn (F .layout) w S f
 
 module _ {F : Family} (T : Theory F) (sizes : Sizes) where
   -- The state st is known: it is sound, its committed versions are those of the records, and its flights are the model's open rings.
   pub record Live (f : Flash) (st : ℕ → PageState) (m : Model) : Type 0 where
     pub sound : StateFacts (sizes .pages) st
-    pub no-twins : NoTwins (sizes .slots) (slotIn (F .layout) (f .words))
+    pub apart : T .Apart (sizes .slots) (slotIn (F .layout) (f .words))
     pub core : T .Core (Held F (sizes .width) (sizes .slots) f) (commOf st) (sizes .pages) (m .kept)
     pub live : SharedLive (pointingView (T .back)) (sizes .pages) (Held F (sizes .width) (sizes .slots) f) st (IsEntered (m .rings))
     pub rings : RingsMatch (sizes .pages) st (m .rings)
@@ -37,7 +38,7 @@ module _ {F : Family} (T : Theory F) (sizes : Sizes) where
   -- The state is lost: some committed versions are those of the records, and the model has no open ring.
   pub record Lost (f : Flash) (m : Model) : Type 0 where
     pub comm : ℕ → ℕ
-    pub no-twins : NoTwins (sizes .slots) (slotIn (F .layout) (f .words))
+    pub apart : T .Apart (sizes .slots) (slotIn (F .layout) (f .words))
     pub core : T .Core (Held F (sizes .width) (sizes .slots) f) comm (sizes .pages) (m .kept)
     pub closed : m .rings ≡ []
 

@@ -111,7 +111,7 @@ module _ {F : Family} (T : Theory F) (sizes : Sizes) (fits : (sizes .pages) ≤ 
   launched-live =
       record {
         sound = launched-sound (sizes .pages) fits st (l .sound) pages ok;
-        no-twins = l .no-twins;
+        apart = l .apart;
         core = T .same _ _ _ _ _ _ _ (record { forth = λ r b h. h; back = λ r b h. h; same-comm = same-comm; same-kept = λ p h. refl }) (l .core);
         live = live-changes (pointingView (T .back)) changes (T .shared _ _ _ _ (l .core) .all-sound) (l .live);
         rings = launch-match (sizes .pages) st pages ok some fits (m .rings) (l .rings);

@@ -1,7 +1,7 @@
 -- Recovery, under the invariant: recover answers 0 and read gives the kept contents; and the state that it fills is known again.
 use Prim.Native.Nat.{ℕ, _*_, _<_}
 use native.Mathlib.Omega.{arith}
-use mathlib.Core.Path.{_≡_, refl, sym, ap, subst}
+use mathlib.Core.Path.{_≡_, refl, sym, ap, _∙_, subst}
 use mathlib.Core.List.{List, []}
 use mathlib.Core.Bool.{true, false}
 use lib.ListN.{length}
@@ -9,19 +9,19 @@ use Rattle.bounded.specs.Limits.{Widths}
 use Rattle.bounded.specs.Choice.{never}
 use Rattle.outcome.specs.Outcome.{Outcome}
 use Rattle.sizes.specs.declared.Sizes.{Sizes}
-use Rattle.sizes.specs.SizesLaws.{SizesFacts, sizes-test, words-fit-in, state-fits-exactly}
+use Rattle.sizes.specs.SizesLaws.{SizesFacts}
 use Rattle.record.specs.Slot.{slotIn, bytesAt}
 use Rattle.record.specs.Flash.{Flash}
 use Rattle.record.specs.FlashLaws.{SizedIn}
 use Rattle.state.specs.declared.PageState.{PageState}
-use Rattle.state.specs.State.{stateAt, stateWords, inFlight}
+use Rattle.state.specs.State.{stateAt, inFlight}
 use Rattle.state.specs.StateLaws.{length-stateWords, state-sound-facts}
 use Rattle.state.specs.Change.{atRest}
 use Rattle.table.specs.Table.{usedOf}
 use Rattle.rules.specs.Volume.{Volume}
 use Rattle.rules.specs.laws.Volume.{FitsIn, fits-in-test}
 use Rattle.rules.specs.Read.{readOutcomeIn}
-use Rattle.protocol.specs.View.{NoTwins, pointingView}
+use Rattle.protocol.specs.View.{pointingView}
 use Rattle.protocol.specs.Shared.{SharedCore, SharedLive, commOf}
 use Rattle.protocol.specs.RecoverAnswers.{found-within-used}
 use Rattle.protocol.specs.ReadsKept.{filled-page, filled-sound, read-outcome-kept}
@@ -33,21 +33,20 @@ use Rattle.atomicity.specs.rings.Close.{no-rings-match}
 use Rattle.atomicity.specs.steps.Theory.{Theory, found, recover-done}
 use Rattle.atomicity.specs.steps.Invariant.{Held, Live}
 
-module _ {F : Family} (T : Theory F) (widths : Widths) (sizes : Sizes) (f : Flash) (bounds : SizesFacts (sizes .pages) (sizes .slots)) (allowed : widths (sizes .width) ≡ true) (size : SizedIn (F .layout) (sizes .width) (sizes .slots) f) (apart : NoTwins (sizes .slots) (slotIn (F .layout) (f .words)))
+module _ {F : Family} (T : Theory F) (widths : Widths) (sizes : Sizes) (f : Flash) (bounds : SizesFacts (sizes .pages) (sizes .slots)) (allowed : widths (sizes .width) ≡ true) (size : SizedIn (F .layout) (sizes .width) (sizes .slots) f) (apart : T .Apart (sizes .slots) (slotIn (F .layout) (f .words)))
     {comm : ℕ → ℕ} {kept : ℕ → List ℕ} (core : T .Core (Held F (sizes .width) (sizes .slots) f) comm (sizes .pages) kept) (state : List ℕ) (long : length state ≡ 4 * (sizes .pages)) where
   -- recover answers 0
-  pub accepts : T .recoverAnswer widths sizes (f .words) state ≡ 0
-  accepts =
-      T .recover-accepts widths sizes (f .words) state _ _ _ (sizes-test widths sizes bounds allowed) (words-fit-in (F .layout) (sizes .slots) (f .words) .1 (size .words-sized)) (state-fits-exactly (sizes .pages) state .1 long) apart core
+  pub accepts : T .recoverAnswer widths sizes (record { flash = f; state = state }) ≡ 0
+  accepts = T .recover-accepts widths sizes (record { flash = f; state = state }) comm kept (record { bounds = bounds; allowed = allowed; flash-sized = size; state-sized = long }) apart core
 
   abbrev committed : ℕ → ℕ
   committed p = F .committed (sizes .pages) (sizes .slots) (slotIn (F .layout) (f .words)) p
 
   abbrev filled : List ℕ
-  filled = found T widths sizes (f .words) state
+  filled = found T widths sizes (record { flash = f; state = state })
 
-  fills : F .recover widths sizes (f .words) state ≡ record { answer = 0; second = T .links (sizes .pages) (sizes .slots) (slotIn (F .layout) (f .words)); left = filled }
-  fills = recover-done T widths sizes (f .words) state accepts
+  fills : F .recover widths sizes (record { flash = f; state = state }) ≡ record { answer = 0; second = T .links (sizes .pages) (sizes .slots) (slotIn (F .layout) (f .words)); left = filled }
+  fills = recover-done T widths sizes (record { flash = f; state = state }) accepts
 
   shared : SharedCore (pointingView (T .back)) (Held F (sizes .width) (sizes .slots) f) comm (sizes .pages) kept
   shared = T .shared _ _ _ _ core
@@ -76,6 +75,9 @@ module _ {F : Family} (T : Theory F) (widths : Widths) (sizes : Sizes) (f : Flas
   found-comm : (p : ℕ) → p < (sizes .pages) → comm p ≡ stateAt filled p .committed
   unfolding atRest
   found-comm p h = sym (ap (λ (s : PageState). s .committed) (filled-page (F .layout) (T .back) sizes volume committed shared right refl p h))
+
+  pub found-versions : (p : ℕ) → p < sizes .pages → stateAt (F .recover widths sizes (record { flash = f; state = state }) .left) p .committed ≡ comm p
+  found-versions p h = ap (λ (o : Outcome (List ℕ)). stateAt (o .left) p .committed) fills ∙ sym (found-comm p h)
 
   found-used : (p : ℕ) → p < (sizes .pages) → stateAt filled p .used ≡ usedOf (sizes .slots) (slotIn (F .layout) (f .words)) p
   unfolding atRest
@@ -110,7 +112,7 @@ module _ {F : Family} (T : Theory F) (widths : Widths) (sizes : Sizes) (f : Flas
   found-again m e =
       record {
         sound = state-sound-facts (sizes .pages) (stateAt filled) (filled-sound (F .layout) (T .back) sizes volume committed shared right refl);
-        no-twins = apart;
+        apart = apart;
         core = subst (λ (k : ℕ → List ℕ). T .Core (Held F (sizes .width) (sizes .slots) f) (commOf (stateAt filled)) (sizes .pages) k) (sym e) found-core;
         live = found-live (IsEntered []);
         rings = no-rings-match (sizes .pages) (stateAt filled) at-rest;

@@ -1,10 +1,11 @@
 -- A call in a run, its own answer and its stages; and stages cut short: which steps a crash leaves done.
-use Prim.Native.Nat.{ℕ, zero, suc, _+_, _<_}
+use Prim.Native.Nat.{ℕ, zero, suc, _+_, _≤_, _<_}
 use native.Mathlib.Omega.{arith}
 use mathlib.Core.Path.{_≡_, refl, sym, ap, ap₂, _∙_, fun-ext}
-use mathlib.Core.List.{List, [], _∷_, _++_, append-nil}
+use mathlib.Core.List.{List, [], _∷_, _++_, append-nil, flatten}
 use mathlib.Core.Bool.{Bool, true, false, _&&_}
 use lib.Dec.{eqb}
+use lib.ListN.{length}
 use borrow.Author.Tests.{eq-eqb, ne-eqb, lt-ltb, le-ltb}
 use Rattle.bounded.specs.Limits.{Widths}
 use Rattle.bounded.specs.Choice.{either-left}
@@ -19,7 +20,7 @@ use Rattle.rules.specs.laws.Outcomes.{launch-refused, withdraw-refused}
 use Rattle.atomicity.specs.Family.{Family}
 use Rattle.atomicity.specs.Call.{Call, withState, withFlash, perform, plannedStages, flashStages}
 use Rattle.atomicity.specs.Run.{doneOf, cutShort, wasDone}
-use Rattle.atomicity.specs.steps.Theory.{Theory, write-refused, erase-refused, recover-refused}
+use Rattle.atomicity.specs.steps.Theory.{Theory, write-refused, erase-refused, recover-refused, clean-refused}
 use Rattle.atomicity.specs.Companions.{doneIn}
 
 -- ---- a call in a run
@@ -31,7 +32,8 @@ module _ {F : Family} (T : Theory F) (widths : Widths) (sizes : Sizes) (v : Volu
   answer-is (Call.Write page slot bytes) = T .writeAnswer widths sizes v page slot bytes
   answer-is (Call.Withdraw page) = withdrawAnswer widths sizes (v .state) page
   answer-is (Call.Erase slots) = T .eraseAnswer widths sizes v slots
-  answer-is Call.Recover = T .recoverAnswer widths sizes (v .flash .words) (v .state)
+  answer-is Call.Recover = T .recoverAnswer widths sizes v
+  answer-is (Call.Clean block) = T .cleanAnswer widths sizes v block
 
   pub performs : (call : Call) → perform F widths sizes v call .answer ≡ answer-is call
   unfolding perform withState withFlash answer-is launchOutcome withdrawOutcome
@@ -39,7 +41,8 @@ module _ {F : Family} (T : Theory F) (widths : Widths) (sizes : Sizes) (v : Volu
   performs (Call.Write page slot bytes) = ap (λ (o : Outcome Volume). o .answer) (T .write-is widths sizes v page slot bytes) ∙ settled-answer (T .writeAnswer widths sizes v page slot bytes) _ _ _ _
   performs (Call.Withdraw page) = settled-answer (withdrawAnswer widths sizes (v .state) page) _ _ _ _
   performs (Call.Erase slots) = ap (λ (o : Outcome Flash). o .answer) (T .erase-is widths sizes v slots) ∙ settled-answer (T .eraseAnswer widths sizes v slots) _ _ _ _
-  performs Call.Recover = ap (λ (o : Outcome (List ℕ)). o .answer) (T .recover-is widths sizes (v .flash .words) (v .state)) ∙ settled-answer (T .recoverAnswer widths sizes (v .flash .words) (v .state)) _ _ _ _
+  performs Call.Recover = ap (λ (o : Outcome (List ℕ)). o .answer) (T .recover-is widths sizes v) ∙ settled-answer (T .recoverAnswer widths sizes v) _ _ _ _
+  performs (Call.Clean block) = ap (λ (o : Outcome Flash). o .answer) (T .clean-is widths sizes v block) ∙ settled-answer (T .cleanAnswer widths sizes v block) _ _ _ _
 
   -- a refused call leaves the volume as it was
   pub refused-leaves : (call : Call) → ¬ (answer-is call ≡ 0) → perform F widths sizes v call .left ≡ v
@@ -48,20 +51,21 @@ module _ {F : Family} (T : Theory F) (widths : Widths) (sizes : Sizes) (v : Volu
   refused-leaves (Call.Write page slot bytes) n = ap (λ (o : Outcome Volume). o .left) (write-refused T widths sizes v page slot bytes n)
   refused-leaves (Call.Withdraw page) n = ap (λ (o : Outcome (List ℕ)). record { flash = v .flash; state = o .left }) (withdraw-refused widths sizes (v .state) page n)
   refused-leaves (Call.Erase slots) n = ap (λ (o : Outcome Flash). record { flash = o .left; state = v .state }) (erase-refused T widths sizes v slots n)
-  refused-leaves Call.Recover n = ap (λ (o : Outcome (List ℕ)). record { flash = v .flash; state = o .left }) (recover-refused T widths sizes (v .flash .words) (v .state) n)
+  refused-leaves Call.Recover n = ap (λ (o : Outcome (List ℕ)). record { flash = v .flash; state = o .left }) (recover-refused T widths sizes v n)
+  refused-leaves (Call.Clean block) n = ap (λ (o : Outcome Flash). record { flash = o .left; state = v .state }) (clean-refused T widths sizes v block n)
 
   -- it has no stages, and an accepted one those planned
   pub refused-stages : (call : Call) → ¬ (answer-is call ≡ 0) → flashStages F widths sizes v call ≡ []
   unfolding flashStages
   refused-stages call n = rw (ne-eqb (perform F widths sizes v call .answer) 0 (λ e. n (sym (performs call) ∙ e)))
 
-  pub accepted-stages : (call : Call) → answer-is call ≡ 0 → flashStages F widths sizes v call ≡ plannedStages F v call
+  pub accepted-stages : (call : Call) → answer-is call ≡ 0 → flashStages F widths sizes v call ≡ plannedStages F sizes v call
   unfolding flashStages
   accepted-stages call e = rw (eq-eqb (perform F widths sizes v call .answer) 0 (performs call ∙ e))
 
 -- ---- steps done
 
-done-all : (i : ℕ) (steps : List Step) → doneOf (λ i. true) i steps ≡ steps
+pub done-all : (i : ℕ) (steps : List Step) → doneOf (λ i. true) i steps ≡ steps
 unfolding doneOf
 done-all i [] = refl
 done-all i (s ∷ steps) = ap (λ (l : List Step). s ∷ l) (done-all (suc i) steps)
@@ -72,6 +76,13 @@ done-none i [] = refl
 done-none i (s ∷ steps) = done-none (suc i) steps
 
 -- ---- stages cut short
+
+-- past the last stage all are done
+pub cut-past-last : (stage : ℕ) (done : ℕ → Bool) (stages : List (List Step)) → length stages ≤ stage → cutShort stage done stages ≡ flatten stages
+unfolding cutShort flatten
+cut-past-last stage done [] h = refl
+cut-past-last zero done (first ∷ rest) h = absurd (omega arith)
+cut-past-last (suc stage) done (first ∷ rest) h = ap (λ (l : List Step). first ++ l) (cut-past-last stage done rest (omega arith))
 
 module _ (stage : ℕ) (done : ℕ → Bool) where
   -- of a stage before the crash's, of the crash's, and of one behind it

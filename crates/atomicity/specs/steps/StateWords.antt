@@ -37,7 +37,7 @@ module _ {F : Family} (T : Theory F) (sizes : Sizes) (st st′ : ℕ → PageSta
   live-below f m l =
       record {
         sound = facts-cong (sizes .pages) st st′ (λ p h. sym (same p h)) (l .sound);
-        no-twins = l .no-twins;
+        apart = l .apart;
         core = T .same _ _ _ _ _ _ _ (record { forth = λ r b h. h; back = λ r b h. h; same-comm = λ p h. sym (ap (λ (x : PageState). x .committed) (same p h)); same-kept = λ p h. refl }) (l .core);
         live = live-changes (pointingView (T .back)) (goes-on (l .sound) (IsEntered (m .rings))) (T .shared _ _ _ _ (l .core) .all-sound) (l .live);
         rings = rings-match-cong (sizes .pages) st (m .rings) (l .rings) st′ same;

@@ -1,16 +1,15 @@
 -- What a run needs of a family of records: its invariant, that its steps keep it and recovery finds it, and what its calls test.
 use Prim.Native.Nat.{ℕ, _<_}
 use mathlib.Core.Path.{_≡_, _∙_}
-use mathlib.Core.Logic.{_⊎_}
-use mathlib.Core.List.{List}
+use mathlib.Core.List.{List, [], _∷_, flatten}
 use mathlib.Core.Bool.{Bool, true, false}
-use lib.ListN.{length, getD}
+use lib.ListN.{length}
 use Rattle.bounded.specs.Limits.{Widths}
+use Rattle.bounded.specs.Parts.{update}
 use Rattle.outcome.specs.Outcome.{settled}
 use Rattle.outcome.specs.OutcomeLaws.{settled-refused, settled-done}
 use Rattle.sizes.specs.declared.Layout.{Layout}
 use Rattle.sizes.specs.declared.Sizes.{Sizes}
-use Rattle.sizes.specs.Sizes.{sizesOk, wordsFitIn, stateFits, listOk}
 use Rattle.record.specs.declared.Record.{Record}
 use Rattle.record.specs.declared.Slot.{Slot}
 use Rattle.record.specs.declared.Slot.the-variants.{Holds}
@@ -28,24 +27,14 @@ use Rattle.rules.specs.Volume.{Volume}
 use Rattle.rules.specs.laws.Volume.{FitsIn}
 use Rattle.rules.specs.Write.{writeDone}
 use Rattle.rules.specs.Erase.{eraseSteps}
-use Rattle.protocol.specs.View.{View, pointingView, InSlots, NoTwins, Finds}
+use Rattle.protocol.specs.View.{pointingView, InSlots, NoTwins}
 use Rattle.protocol.specs.Shared.{SharedCore, SharedLive, commOf, plan}
 use Rattle.protocol.specs.SameSet.{SameRecords}
 use Rattle.protocol.specs.Stored.{Writes}
 use Rattle.protocol.specs.OneMore.{Missing}
 use Rattle.protocol.specs.Completed.{Completes}
 use Rattle.atomicity.specs.Family.{Family}
-
--- a set of (record, contents) pairs
-abbrev pub Pairs : Type 1
-Pairs = Record → List ℕ → Type 0
-
--- every record stays or may be erased
-pub record ErasedBy (Permitted : Pairs → (ℕ → PageState) → Record → Type 0) (R R′ : Pairs) (st : ℕ → PageState) : Type 1 where
-  pub fewer : (r : Record) (b : List ℕ) → R′ r b → R r b
-  pub finds-before : Finds R
-  pub finds : Finds R′
-  pub stays-or-permitted : (r : Record) (b : List ℕ) → R r b → R′ r b ⊎ Permitted R st r
+use Rattle.atomicity.specs.steps.Sparing.{Pairs, ErasedBy, HeldIn, Keeping, Spares}
 
 -- what an accepted write has tested
 pub record WriteTested (layout : Layout) (widths : Widths) (sizes : Sizes) (v : Volume) (page slot : ℕ) (bytes : List ℕ) : Type 0 where
@@ -107,11 +96,14 @@ pub record Theory (F : Family) : Type 1 where
       → writeAnswer widths sizes v page slot bytes ≡ 0
       → (contents : ℕ → List ℕ)
       → Fresh (InSlots (sizes .slots) (slotIn (F .layout) (v .flash .words)) contents) (stateAt (v .state)) page
-  -- ---- an erasure
+  -- ---- losing records
 
-  pub mayErase : ℕ → (ℕ → Slot) → (ℕ → PageState) → ℕ → Bool
+  -- what the slots keep to, besides what the records do: it holds of records that differ in page or version, also with one more, and with fewer
+  pub Apart : (S : ℕ) → (ℕ → Slot) → Type 0
+  pub apart-at-first : (S : ℕ) (t : ℕ → Slot) → NoTwins S t → Apart S t
+  pub apart-stored :
+      (S : ℕ) (t : ℕ → Slot) (k : ℕ) (r : Record) → ((j : ℕ) (x : Record) → j < S → t j ≡ Holds x → x .p ≡ r .p → x .v ≡ r .v → ⊥) → Apart S t → Apart S (update t k (Holds r))
   pub Permitted : Pairs → (ℕ → PageState) → Record → Type 0
-  pub permits : (S : ℕ) (t : ℕ → Slot) (bytes : ℕ → List ℕ) (st : ℕ → PageState) (k : ℕ) (r : Record) → mayErase S t st k ≡ true → t k ≡ Holds r → Permitted (InSlots S t bytes) st r
   pub fewer : (P : ℕ) (R R′ : Pairs) (st : ℕ → PageState) (kept : ℕ → List ℕ) → ErasedBy Permitted R R′ st → Core R (commOf st) P kept → Core R′ (commOf st) P kept
   pub live-fewer :
       (P : ℕ) (R R′ : Pairs) (st : ℕ → PageState) (kept : ℕ → List ℕ) (Entered : ℕ → List ℕ → Type 0)
@@ -124,32 +116,41 @@ pub record Theory (F : Family) : Type 1 where
   pub erase-is :
       (widths : Widths) (sizes : Sizes) (v : Volume) (slots : List ℕ)
       → F .erase widths sizes v slots ≡ settled (eraseAnswer widths sizes v slots) 0 0 (v .flash) (applyAllIn (F .layout) (sizes .width) (v .flash) (eraseSteps slots))
-  pub erase-listed : (widths : Widths) (sizes : Sizes) (v : Volume) (slots : List ℕ) → eraseAnswer widths sizes v slots ≡ 0 → listOk (sizes .slots) slots ≡ true
-  pub erase-permitted :
+  pub erase-spares :
       (widths : Widths) (sizes : Sizes) (v : Volume) (slots : List ℕ)
+      → FitsIn (F .layout) widths sizes v
       → eraseAnswer widths sizes v slots ≡ 0
-      → (i : ℕ)
-      → i < length slots
-      → mayErase (sizes .slots) (slotIn (F .layout) (v .flash .words)) (stateAt (v .state)) (getD slots i 0) ≡ true
+      → Spares (record { layout = F .layout; Permitted = Permitted; Apart = Apart }) (sizes .width) (sizes .slots) (stateAt (v .state)) (v .flash) (eraseSteps slots ∷ [])
+  pub cleanAnswer : Widths → Sizes → Volume → (block : ℕ) → ℕ
+  pub clean-is :
+      (widths : Widths) (sizes : Sizes) (v : Volume) (block : ℕ)
+      → F .clean widths sizes v block ≡ settled (cleanAnswer widths sizes v block) 0 0 (v .flash) (applyAllIn (F .layout) (sizes .width) (v .flash) (flatten (F .cleanStages sizes v block)))
+  pub clean-spares :
+      (widths : Widths) (sizes : Sizes) (v : Volume) (block : ℕ)
+      → FitsIn (F .layout) widths sizes v
+      → cleanAnswer widths sizes v block ≡ 0
+      → Spares (record { layout = F .layout; Permitted = Permitted; Apart = Apart }) (sizes .width) (sizes .slots) (stateAt (v .state)) (v .flash) (F .cleanStages sizes v block)
   -- ---- recovery
 
-  pub recoverAnswer : Widths → Sizes → (words state : List ℕ) → ℕ
+  pub recoverAnswer : Widths → Sizes → Volume → ℕ
   pub links : (P S : ℕ) → (ℕ → Slot) → ℕ
   pub recover-is :
-      (widths : Widths) (sizes : Sizes) (words state : List ℕ)
-      → F .recover widths sizes words state
-      ≡ settled (recoverAnswer widths sizes words state) 0 (links (sizes .pages) (sizes .slots) (slotIn (F .layout) words)) state
-      (stateWords (sizes .pages) (λ p. atRest (F .committed (sizes .pages) (sizes .slots) (slotIn (F .layout) words) p) (usedOf (sizes .slots) (slotIn (F .layout) words) p)))
+      (widths : Widths) (sizes : Sizes) (v : Volume)
+      → F .recover widths sizes v
+      ≡ settled (recoverAnswer widths sizes v) 0 (links (sizes .pages) (sizes .slots) (slotIn (F .layout) (v .flash .words))) (v .state)
+      (stateWords (sizes .pages) (λ p. atRest (F .committed (sizes .pages) (sizes .slots) (slotIn (F .layout) (v .flash .words)) p) (usedOf (sizes .slots) (slotIn (F .layout) (v .flash .words)) p)))
   pub recover-accepts :
-      (widths : Widths) (sizes : Sizes) (words state : List ℕ) (bytes : ℕ → List ℕ) (comm : ℕ → ℕ) (kept : ℕ → List ℕ)
-      → sizesOk widths sizes ≡ true
-      → wordsFitIn (F .layout) (sizes .slots) words ≡ true
-      → stateFits (sizes .pages) state ≡ true
-      → NoTwins (sizes .slots) (slotIn (F .layout) words)
-      → Core (InSlots (sizes .slots) (slotIn (F .layout) words) bytes) comm (sizes .pages) kept
-      → recoverAnswer widths sizes words state ≡ 0
+      (widths : Widths) (sizes : Sizes) (v : Volume) (comm : ℕ → ℕ) (kept : ℕ → List ℕ)
+      → FitsIn (F .layout) widths sizes v
+      → Apart (sizes .slots) (slotIn (F .layout) (v .flash .words))
+      → Core (HeldIn (F .layout) (sizes .width) (sizes .slots) (v .flash)) comm (sizes .pages) kept
+      → recoverAnswer widths sizes v ≡ 0
   pub committed-found :
       (P S : ℕ) (t : ℕ → Slot) (bytes : ℕ → List ℕ) (comm : ℕ → ℕ) (kept : ℕ → List ℕ) → Core (InSlots S t bytes) comm P kept → (p : ℕ) → p < P → F .committed P S t p ≡ comm p
+
+-- how the family loses records
+abbrev pub keeping : {F : Family} → Theory F → Keeping
+keeping {F} T = record { layout = F .layout; Permitted = T .Permitted; Apart = T .Apart }
 
 -- ---- a call that is done, and one that is refused
 
@@ -166,13 +167,18 @@ module _ {F : Family} (T : Theory F) (widths : Widths) (sizes : Sizes) (v : Volu
   pub erase-refused : (slots : List ℕ) → ¬ (T .eraseAnswer widths sizes v slots ≡ 0) → F .erase widths sizes v slots ≡ record { answer = T .eraseAnswer widths sizes v slots; second = 0; left = v .flash }
   erase-refused slots n = T .erase-is widths sizes v slots ∙ settled-refused (T .eraseAnswer widths sizes v slots) _ _ _ _ n
 
-module _ {F : Family} (T : Theory F) (widths : Widths) (sizes : Sizes) (words state : List ℕ) where
+  pub clean-done : (block : ℕ) → T .cleanAnswer widths sizes v block ≡ 0 → F .clean widths sizes v block ≡ record { answer = 0; second = 0; left = applyAllIn (F .layout) (sizes .width) (v .flash) (flatten (F .cleanStages sizes v block)) }
+  clean-done block e = T .clean-is widths sizes v block ∙ settled-done (T .cleanAnswer widths sizes v block) _ _ _ _ e
+
+  pub clean-refused : (block : ℕ) → ¬ (T .cleanAnswer widths sizes v block ≡ 0) → F .clean widths sizes v block ≡ record { answer = T .cleanAnswer widths sizes v block; second = 0; left = v .flash }
+  clean-refused block n = T .clean-is widths sizes v block ∙ settled-refused (T .cleanAnswer widths sizes v block) _ _ _ _ n
+
   -- what an accepted recover fills in
   abbrev pub found : List ℕ
-  found = stateWords (sizes .pages) (λ p. atRest (F .committed (sizes .pages) (sizes .slots) (slotIn (F .layout) words) p) (usedOf (sizes .slots) (slotIn (F .layout) words) p))
+  found = stateWords (sizes .pages) (λ p. atRest (F .committed (sizes .pages) (sizes .slots) (slotIn (F .layout) (v .flash .words)) p) (usedOf (sizes .slots) (slotIn (F .layout) (v .flash .words)) p))
 
-  pub recover-done : T .recoverAnswer widths sizes words state ≡ 0 → F .recover widths sizes words state ≡ record { answer = 0; second = T .links (sizes .pages) (sizes .slots) (slotIn (F .layout) words); left = found }
-  recover-done e = T .recover-is widths sizes words state ∙ settled-done (T .recoverAnswer widths sizes words state) _ _ _ _ e
+  pub recover-done : T .recoverAnswer widths sizes v ≡ 0 → F .recover widths sizes v ≡ record { answer = 0; second = T .links (sizes .pages) (sizes .slots) (slotIn (F .layout) (v .flash .words)); left = found }
+  recover-done e = T .recover-is widths sizes v ∙ settled-done (T .recoverAnswer widths sizes v) _ _ _ _ e
 
-  pub recover-refused : ¬ (T .recoverAnswer widths sizes words state ≡ 0) → F .recover widths sizes words state ≡ record { answer = T .recoverAnswer widths sizes words state; second = 0; left = state }
-  recover-refused n = T .recover-is widths sizes words state ∙ settled-refused (T .recoverAnswer widths sizes words state) _ _ _ _ n
+  pub recover-refused : ¬ (T .recoverAnswer widths sizes v ≡ 0) → F .recover widths sizes v ≡ record { answer = T .recoverAnswer widths sizes v; second = 0; left = v .state }
+  recover-refused n = T .recover-is widths sizes v ∙ settled-refused (T .recoverAnswer widths sizes v) _ _ _ _ n

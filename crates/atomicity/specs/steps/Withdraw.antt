@@ -66,7 +66,7 @@ module _ {F : Family} (T : Theory F) (sizes : Sizes) (f : Flash) (st : ℕ → P
   withdrawn-live =
       record {
         sound = withdrawn-sound (sizes .pages) st (l .sound) page y;
-        no-twins = l .no-twins;
+        apart = l .apart;
         core = T .same _ _ _ _ _ _ _ (record { forth = λ r b h. h; back = λ r b h. h; same-comm = λ p h. sym (same-versions p .0); same-kept = λ p h. refl }) (l .core);
         live = live-changes (pointingView (T .back)) changes (T .shared _ _ _ _ (l .core) .all-sound) (l .live);
         rings = withdraw-match (sizes .pages) st (m .rings) (l .sound) (l .rings) page y;

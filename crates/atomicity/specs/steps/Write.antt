@@ -1,6 +1,6 @@
 -- Writing keeps the invariant: one planned record more, and its ring stays open or is completed.
 use Prim.Native.Nat.{ℕ, _<_}
-use mathlib.Core.Path.{_≡_, sym, ap, _∙_, subst}
+use mathlib.Core.Path.{_≡_, refl, sym, ap, _∙_, subst}
 use mathlib.Core.List.{List}
 use mathlib.Core.Bool.{true, false}
 use lib.ListN.{length}
@@ -8,7 +8,7 @@ use Rattle.bounded.specs.Choice.{on-test}
 use Rattle.sizes.specs.declared.Sizes.{Sizes}
 use Rattle.record.specs.declared.Record.{Record}
 use Rattle.record.specs.declared.Slot.the-variants.{Blank}
-use Rattle.record.specs.Slot.{slotIn}
+use Rattle.record.specs.Slot.{slotIn, bytesAt}
 use Rattle.record.specs.SlotLaws.{Storable}
 use Rattle.record.specs.Flash.{Flash, Step, applyIn}
 use Rattle.record.specs.FlashLaws.{SizedIn}
@@ -18,7 +18,7 @@ use Rattle.state.specs.Change.{marked, completes, completed, afterWrite}
 use Rattle.state.specs.CycleLaws.{Flies}
 use Rattle.state.specs.ChangeLaws.{after-write-sound}
 use Rattle.state.specs.CompletionLaws.{after-write-done, after-write-not}
-use Rattle.protocol.specs.View.{View, pointingView, NoTwins}
+use Rattle.protocol.specs.View.{View, pointingView}
 use Rattle.protocol.specs.Shared.{plan}
 use Rattle.protocol.specs.Stored.{Writes, plan-page, plan-version, not-there}
 use Rattle.protocol.specs.OneMore.{live-more}
@@ -29,7 +29,7 @@ use Rattle.atomicity.specs.Model.{Model, enter}
 use Rattle.atomicity.specs.rings.Write.{write-open-kept, write-open-match, write-open-entered, write-done-own, write-done-cycle, write-done-other, write-done-match, write-done-entered}
 use Rattle.atomicity.specs.steps.Theory.{Theory}
 use Rattle.atomicity.specs.steps.Invariant.{Held, Live}
-use Rattle.atomicity.specs.steps.Storing.{store-adds, store-apart}
+use Rattle.atomicity.specs.steps.Storing.{store-adds, store-table}
 
 module _ {F : Family} (T : Theory F) (sizes : Sizes) (f : Flash) (size : SizedIn (F .layout) (sizes .width) (sizes .slots) f) (st : ℕ → PageState) (m : Model) (l : Live T sizes f st m)
     (page slot : ℕ) (bytes : List ℕ) (y : Flies (sizes .pages) st page) (unwritten : isWritten (st page) ≡ false)
@@ -54,10 +54,12 @@ module _ {F : Family} (T : Theory F) (sizes : Sizes) (f : Flash) (size : SizedIn
         adds = store-adds F (sizes .width) (sizes .slots) f size slot inside (plan view st page) bytes whole storable free;
       }
 
-  after-apart : NoTwins (sizes .slots) (slotIn (F .layout) (after .words))
+  after-apart : T .Apart (sizes .slots) (slotIn (F .layout) (after .words))
   after-apart =
-      store-apart F (sizes .width) (sizes .slots) f size slot inside (plan view st page) bytes whole storable free (l .no-twins)
-      (λ x b h p v. not-there view writes (T .shared _ _ _ _ (l .core)) (l .live) x b h (p ∙ plan-page view st page) (v ∙ plan-version view st page))
+      subst (T .Apart (sizes .slots)) (sym (store-table F (sizes .width) (sizes .slots) f size slot inside (plan view st page) bytes whole storable free))
+      (T .apart-stored (sizes .slots) (slotIn (F .layout) (f .words)) slot (plan view st page)
+      (λ j x h e p v. not-there view writes (T .shared _ _ _ _ (l .core)) (l .live) x (bytesAt (sizes .width) (f .contents) j) (j, h, e, refl) (p ∙ plan-page view st page) (v ∙ plan-version view st page))
+      (l .apart))
 
   abbrev model : Model
   model = enter page bytes (m .kept) (m .rings)
@@ -68,7 +70,7 @@ module _ {F : Family} (T : Theory F) (sizes : Sizes) (f : Flash) (size : SizedIn
       let marks = marks-of (sizes .pages) st (l .sound) page y same (write-open-entered (sizes .pages) st (m .rings) (l .sound) (l .rings) page y bytes (m .kept) e) in
       record {
         sound = after-write-sound (sizes .pages) st (l .sound) page y;
-        no-twins = after-apart;
+        apart = after-apart;
         core = T .same _ _ _ _ _ _ _ (record {
           forth = λ r b h. h;
           back = λ r b h. h;
@@ -90,7 +92,7 @@ module _ {F : Family} (T : Theory F) (sizes : Sizes) (f : Flash) (size : SizedIn
       (write-done-entered (sizes .pages) st (m .rings) (l .sound) r page y bytes (m .kept) e) in
       record {
         sound = after-write-sound (sizes .pages) st (l .sound) page y;
-        no-twins = after-apart;
+        apart = after-apart;
         core = T .completed _ _ _ _ _ _ _ _ _ _ _ _ writes c (l .core) (l .live) fresh;
         live = live-completed view writes c (T .shared _ _ _ _ (l .core)) (l .live);
         rings = write-done-match (sizes .pages) st (m .rings) (l .sound) r page y bytes (m .kept) e;

@@ -36,8 +36,8 @@ module _ {F : Family} (T : Theory F) (widths : Widths) (sizes : Sizes) where
 
   -- under the invariant promise 3's conclusion holds
   holding-recovers : (x : World) (m : Model) → Holding T widths sizes x m → (state : List ℕ) → length state ≡ 4 * (sizes .pages) → Recovers F widths sizes (x .volume .flash) (m .kept) state
-  holding-recovers x m (known found fits live) state long = recovers T widths sizes (x .volume .flash) (fits .bounds) (fits .allowed) (fits .flash-sized) (live .no-twins) (live .core) state long
-  holding-recovers x m (unknown lost fits l) state long = recovers T widths sizes (x .volume .flash) (fits .bounds) (fits .allowed) (fits .flash-sized) (l .no-twins) (l .core) state long
+  holding-recovers x m (known found fits live) state long = recovers T widths sizes (x .volume .flash) (fits .bounds) (fits .allowed) (fits .flash-sized) (live .apart) (live .core) state long
+  holding-recovers x m (unknown lost fits l) state long = recovers T widths sizes (x .volume .flash) (fits .bounds) (fits .allowed) (fits .flash-sized) (l .apart) (l .core) state long
 
   -- the start
   starts : (v : Volume) → formatOutcomeIn (F .layout) widths sizes v .answer ≡ 0 → Holding T widths sizes (started F widths sizes v) (freshModel (sizes .width))

@@ -1,10 +1,9 @@
 -- A call that returns has done all its stages, and a crash does none of a later stage unless every step of the earlier ones.
-use Prim.Native.Nat.{ℕ, zero, suc, _≤_, _<_}
+use Prim.Native.Nat.{ℕ, _<_}
 use native.Mathlib.Omega.{arith}
 use mathlib.Core.Path.{_≡_, refl, sym, ap, _∙_}
-use mathlib.Core.List.{List, [], _∷_, _++_, append-nil, flatten}
+use mathlib.Core.List.{List, append-nil, flatten}
 use mathlib.Core.Bool.{Bool, true}
-use lib.ListN.{length}
 use Rattle.bounded.specs.Limits.{Widths}
 use Rattle.bounded.specs.Choice.{on-eq, on-lt, never}
 use Rattle.outcome.specs.Outcome.{Outcome}
@@ -14,20 +13,21 @@ use Rattle.rules.specs.Volume.{Volume}
 use Rattle.rules.specs.Erase.{eraseSteps}
 use Rattle.atomicity.specs.Family.{Family}
 use Rattle.atomicity.specs.Call.{Call, withState, withFlash, perform, plannedStages, flashStages}
-use Rattle.atomicity.specs.Run.{cutShort, wasDone}
+use Rattle.atomicity.specs.Run.{wasDone}
 use Rattle.atomicity.specs.Companions.{StagesInOrder}
-use Rattle.atomicity.specs.steps.Theory.{Theory, write-done, erase-done}
-use Rattle.atomicity.specs.steps.Stages.{answer-is, refused-leaves, refused-stages, accepted-stages, done-before, done-behind, cut-exactly}
+use Rattle.atomicity.specs.steps.Theory.{Theory, write-done, erase-done, clean-done}
+use Rattle.atomicity.specs.steps.Stages.{answer-is, refused-leaves, refused-stages, accepted-stages, done-before, done-behind, cut-exactly, cut-past-last}
 
 module _ {F : Family} (T : Theory F) (widths : Widths) (sizes : Sizes) (v : Volume) where
   -- the flash that an accepted call leaves
-  planned-left : (call : Call) → answer-is T widths sizes v call ≡ 0 → perform F widths sizes v call .left .flash ≡ applyAllIn (F .layout) (sizes .width) (v .flash) (flatten (plannedStages F v call))
+  planned-left : (call : Call) → answer-is T widths sizes v call ≡ 0 → perform F widths sizes v call .left .flash ≡ applyAllIn (F .layout) (sizes .width) (v .flash) (flatten (plannedStages F sizes v call))
   unfolding perform withState withFlash answer-is plannedStages flatten applyAllIn
   planned-left (Call.Launch pages) e = refl
   planned-left (Call.Write page slot bytes) e = ap (λ (o : Outcome Volume). o .left .flash) (write-done T widths sizes v page slot bytes e)
   planned-left (Call.Withdraw page) e = refl
   planned-left (Call.Erase slots) e = ap (λ (o : Outcome Flash). o .left) (erase-done T widths sizes v slots e) ∙ ap (applyAllIn (F .layout) (sizes .width) (v .flash)) (sym (append-nil (eraseSteps slots)))
   planned-left Call.Recover e = refl
+  planned-left (Call.Clean block) e = ap (λ (o : Outcome Flash). o .left) (clean-done T widths sizes v block e)
 
   -- what any call leaves
   pub performs-stages : (call : Call) → perform F widths sizes v call .left .flash ≡ applyAllIn (F .layout) (sizes .width) (v .flash) (flatten (flashStages F widths sizes v call))
@@ -42,12 +42,6 @@ cut-in-order stage done k i j n e h =
     on-lt stage k
     (λ l. absurd (never e (ap (λ (f : ℕ → Bool). f i) (done-behind stage done k l))))
     (λ l. ap (λ (f : ℕ → Bool). f n) (done-before stage done j (omega arith)))
-
-cut-past-last : (stage : ℕ) (done : ℕ → Bool) (stages : List (List Step)) → length stages ≤ stage → cutShort stage done stages ≡ flatten stages
-unfolding cutShort flatten
-cut-past-last stage done [] h = refl
-cut-past-last zero done (first ∷ rest) h = absurd (omega arith)
-cut-past-last (suc stage) done (first ∷ rest) h = ap (λ (l : List Step). first ++ l) (cut-past-last stage done rest (omega arith))
 
 pub stages-in-order : {F : Family} (T : Theory F) → StagesInOrder F
 stages-in-order T =

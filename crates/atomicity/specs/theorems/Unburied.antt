@@ -9,29 +9,32 @@ use lib.Dec.{ltb, eqb}
 use lib.ListN.{length, getD}
 use borrow.Author.Tests.{not-false}
 use Rattle.bounded.specs.Limits.{Widths}
-use Rattle.bounded.specs.Choice.{on-test, never, both, both-left, both-right, conjoined, equal-test}
+use Rattle.bounded.specs.Members.{listed?}
+use Rattle.bounded.specs.Choice.{on-test, never, both-left, both-right, conjoined, equal-test}
 use Rattle.outcome.specs.Outcome.{_⇒_otherwise_, settled}
 use Rattle.sizes.specs.declared.Layout.the-variants.{FourWords}
 use Rattle.sizes.specs.declared.Sizes.{Sizes}
 use Rattle.sizes.specs.Sizes.{listOk}
+use Rattle.sizes.specs.Lists.{list-facts}
 use Rattle.record.specs.declared.Record.{Record}
 use Rattle.record.specs.declared.Slot.{Slot}
 use Rattle.record.specs.declared.Slot.the-variants.{Blank, Holds}
 use Rattle.record.specs.Slot.{slotIn, bytesAt, isBlank, holds}
 use Rattle.record.specs.SlotLaws.{holds-exactly}
 use Rattle.record.specs.Flash.{Flash, Step, applyAllIn}
-use Rattle.record.specs.FlashLaws.{SizedIn, blanks-listed, blanks-unlisted}
+use Rattle.record.specs.FlashLaws.{SizedIn, members-below, blanks-listed, blanks-unlisted}
 use Rattle.state.specs.declared.PageState.{PageState}
 use Rattle.state.specs.State.{stateAt, stateSound, inFlight, isWritten}
 use Rattle.table.specs.Table.{tableSound}
 use Rattle.table.specs.HighestSlot.{page-below}
 use Rattle.rules.specs.Volume.{Volume, volumeFitsIn}
-use Rattle.rules.specs.laws.Volume.{FitsIn, fits-in-test}
+use Rattle.rules.specs.laws.Volume.{fits-in-test}
+use Rattle.rules.specs.laws.SimpleAccepted.{simple-erase-tests}
 use Rattle.rules.specs.Permission.{isExposed, isCurrent}
 use Rattle.rules.specs.Simple.{simpleMayErase, wouldBury}
 use Rattle.rules.specs.Erase.{eraseSteps}
 use Rattle.rules.specs.SimpleCalls.{simpleWriteAnswer, simpleEraseAnswer, simpleEraseOutcome}
-use Rattle.rules.specs.laws.Permission.{exposed-exactly, exposed-spare-exactly}
+use Rattle.rules.specs.laws.Permission.{exposed-spare-exactly}
 use Rattle.rules.specs.laws.Simple.{simple-may-erase-exactly, simple-may-erase-all, buried-exactly}
 use Rattle.protocol.specs.View.{pointingView}
 use Rattle.protocol.specs.Stored.{plan-page, plan-version, plan-next, plan-next-version}
@@ -40,14 +43,14 @@ use Rattle.protocol.specs.RecoverAnswers.{table-sound}
 use Rattle.atomicity.specs.Family.{simple}
 use Rattle.atomicity.specs.Call.{Call, withFlash, perform}
 use Rattle.atomicity.specs.Run.{Event, started, after}
-use Rattle.atomicity.specs.Model.{Model, freshModel}
+use Rattle.atomicity.specs.Model.{Model, freshModel, accept}
 use Rattle.atomicity.specs.Promise.{Premises, modelAfter}
 use Rattle.atomicity.specs.Companions.{StateKnown}
 use Rattle.atomicity.specs.Burial.{SpareAt, Unburied}
 use Rattle.atomicity.specs.Simple.{simple-theory}
 use Rattle.atomicity.specs.steps.Invariant.{Live, Known, Holding, known, unknown}
-use Rattle.atomicity.specs.steps.Blanking.{listed?}
-use Rattle.atomicity.specs.steps.Erase.{erasable-free, erased-sized, erased-live}
+use Rattle.atomicity.specs.steps.Stages.{answer-is}
+use Rattle.atomicity.specs.steps.Calls.{accepted}
 use Rattle.atomicity.specs.theorems.Promise.{reached}
 
 -- ---- what 16 says
@@ -112,7 +115,7 @@ module _ (sizes : Sizes) (f : Flash) (st : ℕ → PageState) (m : Model) (l : L
       (λ w. let x = l .live .written-stored (J .p) below flies w in
       let here = x .1 in
       let same : k ≡ here .0 =
-      l .no-twins k (here .0) J (planned (J .p)) h (here .1) e (here .2) (sym (plan-page (pointingView (λ u c. 0)) st (J .p))) (u ∙ sym (plan-version (pointingView (λ u c. 0)) st (J .p))) in
+      l .apart k (here .0) J (planned (J .p)) h (here .1) e (here .2) (sym (plan-page (pointingView (λ u c. 0)) st (J .p))) (u ∙ sym (plan-version (pointingView (λ u c. 0)) st (J .p))) in
       let is : Holds J ≡ Holds (planned (J .p)) = sym e ∙ ap slots same ∙ here .2 in
       let is-plan : J ≡ planned (J .p) = cc in
       let a = ap (λ (r : Record). r .nv) is-plan ∙ plan-next-version (pointingView (λ u c. 0)) st (J .p) in
@@ -178,6 +181,14 @@ module _ (widths : Widths) (sizes : Sizes) (v : Volume) where
   unfolding perform withFlash simpleEraseOutcome settled eraseSteps
   erased-is slots e = rw e
 
+  -- the invariant holds then
+  erased-known : (m : Model) → Known simple-theory widths sizes v m → (slots : List ℕ) → simpleEraseAnswer widths sizes v slots ≡ 0 → Known simple-theory widths sizes (record { flash = applyAllIn FourWords (sizes .width) (v .flash) (map Step.Blank slots); state = v .state }) m
+  unfolding simple-theory answer-is accept
+  erased-known m k slots e = subst (λ (x : Volume). Known simple-theory widths sizes x m) (erased-is slots e) (accepted simple-theory widths sizes v m k (Call.Erase slots) e)
+
+  in-range : (slots : List ℕ) → simpleEraseAnswer widths sizes v slots ≡ 0 → (k : ℕ) → List·Memᴰ k slots → k < sizes .slots
+  in-range slots e = members-below (sizes .slots) slots (list-facts (sizes .slots) slots (simple-erase-tests widths sizes v slots e .listed) .in-range)
+
   erased-unburied :
       (m : Model) → Known simple-theory widths sizes v m → (slots : List ℕ)
       → ((k : ℕ) → k < sizes .slots → SpareAt v k → (i : ℕ) × (i < length slots) × (getD slots i 0 ≡ k))
@@ -186,23 +197,21 @@ module _ (widths : Widths) (sizes : Sizes) (v : Volume) where
       → ¬ (simpleWriteAnswer widths sizes (perform simple widths sizes v (Call.Erase slots) .left) page slot bytes ≡ 16)
   unfolding simple-theory
   erased-unburied m k slots lists e page slot bytes s =
-      let free = erasable-free simple-theory widths sizes v slots e in
       let size = k .fits .flash-sized in
       let f = applyAllIn FourWords (sizes .width) (v .flash) (map Step.Blank slots) in
       let s2 = subst (λ (x : Volume). simpleWriteAnswer widths sizes x page slot bytes ≡ 16) (erased-is slots e) s in
-      unburied sizes f (stateAt (v .state)) m (erased-live simple-theory sizes v m size slots free (k .live))
-      (spared sizes v slots size (free .inside) lists) page
+      unburied sizes f (stateAt (v .state)) m (erased-known m k slots e .live)
+      (spared sizes v slots size (in-range slots e) lists) page
       (told widths sizes (record { flash = f; state = v .state }) page slot bytes s2 .4)
 
   -- a blank slot stays blank
   still-blank : (m : Model) → Known simple-theory widths sizes v m → (slots : List ℕ) → simpleEraseAnswer widths sizes v slots ≡ 0 → (slot : ℕ) → isBlank (slotIn FourWords (v .flash .words) slot) ≡ true → isBlank (slotIn FourWords (applyAllIn FourWords (sizes .width) (v .flash) (map Step.Blank slots) .words) slot) ≡ true
   unfolding simple-theory isBlank
   still-blank m k slots e slot b =
-      let free = erasable-free simple-theory widths sizes v slots e in
       let size = k .fits .flash-sized in
       ⊎-elim
-      (λ n. ap isBlank (blanks-listed FourWords (sizes .width) (sizes .slots) slots (v .flash) slot size (free .inside) n .slot-blank))
-      (λ n. ap isBlank (blanks-unlisted FourWords (sizes .width) (sizes .slots) slots (v .flash) slot size (free .inside) n .same-slot) ∙ b)
+      (λ n. ap isBlank (blanks-listed FourWords (sizes .width) (sizes .slots) slots (v .flash) slot size (in-range slots e) n .slot-blank))
+      (λ n. ap isBlank (blanks-unlisted FourWords (sizes .width) (sizes .slots) slots (v .flash) slot size (in-range slots e) n .same-slot) ∙ b)
       (listed? slot slots)
 
   -- the write that was refused by 16 is then accepted
@@ -217,19 +226,17 @@ module _ (widths : Widths) (sizes : Sizes) (v : Volume) where
   done-after m k slots lists e page slot bytes s =
       let w = told widths sizes v page slot bytes s in
       let f = applyAllIn FourWords (sizes .width) (v .flash) (map Step.Blank slots) in
-      let free = erasable-free simple-theory widths sizes v slots e in
       let size = k .fits .flash-sized in
-      let live = erased-live simple-theory sizes v m size slots free (k .live) in
-      let fitted : FitsIn FourWords widths sizes (record { flash = f; state = v .state }) =
-      record { bounds = k .fits .bounds; allowed = k .fits .allowed; flash-sized = erased-sized simple-theory sizes v m size slots free; state-sized = k .fits .state-sized } in
-      let fits = fits-in-test FourWords widths sizes (record { flash = f; state = v .state }) fitted in
+      let then = erased-known m k slots e in
+      let live = then .live in
+      let fits = fits-in-test FourWords widths sizes (record { flash = f; state = v .state }) (then .fits) in
       let long = both-right (volumeFitsIn FourWords widths sizes v) (eqb (length bytes) (sizes .width)) (not-false (volumeFitsIn FourWords widths sizes v && eqb (length bytes) (sizes .width)) (w .0)) in
       let sound = table-sound (λ u c. 0) (live .core .shared) in
       let state = not-false (stateSound (sizes .pages) (stateAt (v .state))) (w .2) in
       let range = not-false (ltb page (sizes .pages) && ltb slot (sizes .slots)) (w .3) in
       let flies = not-false (inFlight (stateAt (v .state) page)) (w .5) in
       let blank = still-blank m k slots e slot (not-false (isBlank (slotIn FourWords (v .flash .words) slot)) (w .7)) in
-      let none = off (wouldBury (sizes .slots) (slotIn FourWords (f .words)) (stateAt (v .state)) page) (unburied sizes f (stateAt (v .state)) m live (spared sizes v slots size (free .inside) lists) page) in
+      let none = off (wouldBury (sizes .slots) (slotIn FourWords (f .words)) (stateAt (v .state)) page) (unburied sizes f (stateAt (v .state)) m live (spared sizes v slots size (in-range slots e) lists) page) in
       ap (λ (x : Volume). simpleWriteAnswer widths sizes x page slot bytes) (erased-is slots e)
       ∙ rw (fits, long, sound, state, range, flies, w .6, blank, none)
 

@@ -3,6 +3,7 @@ use borrow.Author.Needs.{needs}
 use Rattle.bounded.specs.Choice.{said-no, said-yes}
 use Rattle.sizes.specs.Lists.{list-facts}
 use Rattle.rules.specs.laws.Chains.{eraseOwn, erase-chain, judged-passed, judged-refuses, judged-passes, volume-spans}
+use Rattle.collect.specs.EraseLaws.{contents-span}
 use Rattle.collect.proofs.erase_answer.Statement.{statement}
 use Rattle.collect.proofs.erase_answer.Tie as tie
 
@@ -29,8 +30,8 @@ returns-2 c =
 may-erase-all-requires : tie.Need-may-erase-all-requires
 may-erase-all-requires c κs =
     let j = judged-passed _ _ _ _ _ _ (sym (c .before .before .before .judged .ensures) ∙ c .before .before .if1 .left) in
-    let s = volume-spans _ _ _ _ (sym (c .before .before .before .before .volume-fits .ensures) ∙ j .fitting) in
-    (s, (j .table, list-facts _ _ (said-yes (c .before .list-ok .ensures) (c .if2 .left))))
+    let fits = sym (c .before .before .before .before .volume-fits .ensures) ∙ j .fitting in
+    (volume-spans _ _ _ _ fits, (contents-span _ _ _ _ fits, (j .table, list-facts _ _ (said-yes (c .before .list-ok .ensures) (c .if2 .left)))))
 
 returns-3 : tie.Need-returns-3
 unfolding eraseOwn

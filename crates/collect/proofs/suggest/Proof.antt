@@ -6,17 +6,18 @@ use borrow.Author.Needs.{needs}
 use Rattle.bounded.specs.Limits.{noNumber}
 use Rattle.outcome.specs.Reply.{outcomeOf, reply-refused, reply-done}
 use Rattle.rules.specs.Suggest.{suggestedSlot, suggestOutcome}
-use Rattle.rules.specs.laws.Chains.{suggestOwn, suggest-chain, judged-passed, judged-refuses, judged-passes, table-spans}
+use Rattle.rules.specs.laws.Chains.{suggestOwn, suggest-chain, judged-passed, judged-refuses, judged-passes, volume-spans}
 use Rattle.permit.specs.Prepared.{judged-linkable}
-use Rattle.permit.specs.SearchLaws.{found-some, found-none}
+use Rattle.judge.specs.JudgeLaws.{found-some, found-none}
+use Rattle.collect.specs.EraseLaws.{contents-span}
 use Rattle.collect.proofs.suggest.Statement.{statement}
 use Rattle.collect.proofs.suggest.Tie as tie
 
-table-ok-requires : tie.Need-table-ok-requires
-table-ok-requires c κs = search needs
+volume-fits-requires : tie.Need-volume-fits-requires
+volume-fits-requires c κs = search needs
 
 judged-requires : tie.Need-judged-requires
-judged-requires c κs = λ e. table-spans _ _ _ _ (sym (c .table-ok .ensures) ∙ e)
+judged-requires c κs = λ e. volume-spans _ _ _ _ (sym (c .volume-fits .ensures) ∙ e)
 
 reply-requires : tie.Need-reply-requires
 reply-requires c κs = search needs
@@ -25,14 +26,15 @@ returns : tie.Need-returns
 unfolding suggestOutcome
 returns c =
     reply-refused (c .reply .result) (c .before .before .judged .result) noNumber _ tt tt (c .reply .ensures)
-    (judged-refuses _ _ _ _ _ _ _ _ _ (suggest-chain _ _ _ _) (c .before .before .before .table-ok .ensures) _ (c .before .before .judged .ensures) (c .before .if1 .taken))
+    (judged-refuses _ _ _ _ _ _ _ _ _ (suggest-chain _ _ _) (c .before .before .before .volume-fits .ensures) _ (c .before .before .judged .ensures) (c .before .if1 .taken))
     (c .before .if1 .taken)
 
 first-erasable-requires : tie.Need-first-erasable-requires
 first-erasable-requires c κs =
     let j = judged-passed _ _ _ _ _ _ (sym (c .before .judged .ensures) ∙ c .if1 .left) in
-    let s = table-spans _ _ _ _ (sym (c .before .before .table-ok .ensures) ∙ j .fitting) in
-    (judged-linkable _ _ _ _ s (j .table), s .pages-in)
+    let fits = sym (c .before .before .volume-fits .ensures) ∙ j .fitting in
+    let s = volume-spans _ _ _ _ fits in
+    (judged-linkable _ _ _ _ s (j .table), (s .pages-in, contents-span _ _ _ _ fits))
 
 reply-requires-2 : tie.Need-reply-requires-2
 reply-requires-2 c κs = search needs
@@ -41,7 +43,7 @@ returns-2 : tie.Need-returns-2
 unfolding suggestOwn suggestedSlot suggestOutcome
 returns-2 c =
     reply-refused (c .reply2 .result) 13 noNumber _ tt tt (c .reply2 .ensures)
-    (judged-passes _ _ _ _ _ _ _ _ _ (suggest-chain _ _ _ _) (c .before .before .before .before .before .before .table-ok .ensures) _ (c .before .before .before .before .before .judged .ensures) (c .before .before .before .before .if1 .left)
+    (judged-passes _ _ _ _ _ _ _ _ _ (suggest-chain _ _ _) (c .before .before .before .before .before .before .volume-fits .ensures) _ (c .before .before .before .before .before .judged .ensures) (c .before .before .before .before .if1 .left)
     (rw (found-none _ _ (c .before .before .before .first-erasable .result) (c .before .before .before .first-erasable .ensures) (c .before .if2 .taken))))
     (λ z. omega arith)
 
@@ -52,7 +54,7 @@ returns-3 : tie.Need-returns-3
 unfolding suggestOwn suggestedSlot suggestOutcome
 returns-3 c =
     reply-done (c .reply3 .result) 0 noNumber _ tt tt (c .reply3 .ensures ∙ ap (λ (slot : ℕ). outcomeOf 0 slot tt) (c .before .before .before .first-erasable .ensures))
-    (judged-passes _ _ _ _ _ _ _ _ _ (suggest-chain _ _ _ _) (c .before .before .before .before .before .before .table-ok .ensures) _ (c .before .before .before .before .before .judged .ensures) (c .before .before .before .before .if1 .left)
+    (judged-passes _ _ _ _ _ _ _ _ _ (suggest-chain _ _ _) (c .before .before .before .before .before .before .volume-fits .ensures) _ (c .before .before .before .before .before .judged .ensures) (c .before .before .before .before .if1 .left)
     (rw (found-some _ _ (c .before .before .before .first-erasable .result) (c .before .before .before .first-erasable .ensures) (c .before .if2 .left))))
     refl
 
@@ -60,7 +62,7 @@ pub suggest-spec : {M : Type 1} → statement M
 suggest-spec =
     tie.close
     (tie.spec
-    table-ok-requires
+    volume-fits-requires
     judged-requires
     reply-requires
     returns

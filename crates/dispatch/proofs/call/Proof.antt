@@ -151,14 +151,17 @@ same-length-12 c = search needs
 same-length-13 : tie.Need-same-length-13
 same-length-13 c = search needs
 
+same-length-14 : tie.Need-same-length-14
+same-length-14 c = search needs
+
 returns-6 : tie.Need-returns-6
 unfolding said lineOutcome perform withState
 returns-6 c =
-    let a = c .before .before .before .before .before .before .before .before .before .before .before .args in
-    rw (c .before .before .before .before .before .enum-told2 .given .1) (ap (withState (volume (a .words .now) (a .contents .now) (a .state .now))) (c .before .before .recover .ensures))
+    let a = c .before .before .before .before .before .before .before .before .before .before .before .before .args in
+    rw (c .before .before .before .before .before .before .enum-told2 .given .1) (ap (withState (volume (a .words .now) (a .contents .now) (a .state .now))) (c .before .before .recover .ensures))
 
-same-length-14 : tie.Need-same-length-14
-same-length-14 c = search needs
+same-length-15 : tie.Need-same-length-15
+same-length-15 c = search needs
 
 returns-7 : tie.Need-returns-7
 unfolding said lineOutcome accepted
@@ -220,8 +223,9 @@ call-spec =
     returns-5
     same-length-12
     same-length-13
-    returns-6
     same-length-14
+    returns-6
+    same-length-15
     returns-7
     returns-8
     returns-9)

@@ -3,7 +3,7 @@ use borrow.Author.Needs.{needs}
 use native.Mathlib.Omega.{arith}
 use mathlib.Core.Path.{sym, _∙_}
 use Rattle.bounded.specs.Choice.{said-yes, said-no}
-use Rattle.permit.specs.Prepared.{noted-stays, noted-more}
+use Rattle.bounded.specs.Noted.{noted-stays, noted-more}
 use Rattle.permit.specs.SearchLaws.{holds-none, holds-record}
 use Rattle.permit.proofs.note_exposed.Statement.{statement}
 use Rattle.permit.proofs.note_exposed.Tie as tie
@@ -19,7 +19,7 @@ enum-told c = search needs
 
 returns : tie.Need-returns
 returns c =
-    noted-stays _ _ _ _ _ (c .before .before .before .before .before .pre .1 .1) (holds-none _ (sym (c .before .before .slot-at .ensures) ∙ c .enum-told .given .1))
+    noted-stays _ _ _ _ (c .before .before .before .before .before .pre .1 .1) (holds-none _ (sym (c .before .before .slot-at .ensures) ∙ c .enum-told .given .1))
 
 is-exposed-requires : tie.Need-is-exposed-requires
 is-exposed-requires c κs =
@@ -29,7 +29,7 @@ is-exposed-requires c κs =
 returns-2 : tie.Need-returns-2
 returns-2 c =
     let b = c .before .before .before in
-    noted-stays _ _ _ _ _ (b .before .before .before .before .before .pre .1 .1)
+    noted-stays _ _ _ _ (b .before .before .before .before .before .pre .1 .1)
     (holds-record _ (sym (b .before .before .slot-at .ensures) ∙ b .«record» .given .1) ∙ said-no (c .before .is-exposed .ensures) (c .if1 .taken))
 
 cast-found : tie.Need-cast-found
@@ -48,7 +48,7 @@ returns-3 : tie.Need-returns-3
 returns-3 c =
     let b = c .before .before .before in
     let p = b .before .before .before .before .before .pre in
-    noted-more _ _ _ _ _ (p .1 .1) (let m = p .0 .slots-few in omega arith)
+    noted-more _ _ _ _ (p .1 .1) (let m = p .0 .slots-few in omega arith)
     (holds-record _ (sym (b .before .before .slot-at .ensures) ∙ b .«record» .given .1) ∙ said-yes (c .before .is-exposed .ensures) (c .if1 .left))
 
 pub note-exposed-spec : {M : Type 1} → statement M

@@ -1,80 +1,104 @@
 use borrow.Author.Needs.{needs}
 use native.Mathlib.Omega.{arith}
-use mathlib.Core.Path.{sym, ap, _∙_}
+use mathlib.Core.Path.{sym, _∙_}
 use Rattle.bounded.specs.Choice.{said-no, said-yes}
 use Rattle.bounded.specs.Limits.{twoWidths}
-use Rattle.outcome.specs.Outcome.{returned}
-use Rattle.outcome.specs.Reply.{reply-refused, settles-answer, settles-same, settles-refused, settles-done}
-use Rattle.recovery.specs.Tables.{answer-by-sizes, answer-by-table, accepted-sound, recover-fits, outcome-by-layout}
+use Rattle.rules.specs.Volume.{volume}
+use Rattle.rules.specs.laws.Volume.{fits-facts}
+use Rattle.recovery.specs.Answers.{recover-fits, sizes-wrong, slot-unsound, records-conflict, outcome-by-records, recover-outcome}
 use Rattle.recovery.proofs.recover.Statement.{statement}
 use Rattle.recovery.proofs.recover.Tie as tie
 
-table-ok-requires : tie.Need-table-ok-requires
-table-ok-requires c κs = search needs
+volume-fits-requires : tie.Need-volume-fits-requires
+volume-fits-requires c κs = tt
 
 reply-requires : tie.Need-reply-requires
-reply-requires c κs = search needs
+reply-requires c κs = tt
 
 same-length : tie.Need-same-length
 same-length c = search needs
 
 returns : tie.Need-returns
 returns c =
-    let a = c .before .before .before .before .before .before .args in
-    reply-refused _ 1 0 _ _ _ (c .reply .ensures) (answer-by-sizes _ _ _ _ _ (said-no (c .before .before .table-ok .ensures) (c .before .if1 .taken))) (λ e. omega arith) ∙ sym (outcome-by-layout (a .layout) twoWidths (a .sizes) (a .words .now) (a .state .now))
+    let a = c .before .before .before .before .before .before .before .args in
+    sizes-wrong _ _ _ _ _ _ _ _ (c .reply .ensures) (said-no (c .before .before .volume-fits .ensures) (c .before .if1 .taken))
+    ∙ sym (recover-outcome twoWidths (a .sizes) (volume (a .words .now) (a .contents .now) (a .state .now)))
 
-table-answer-requires : tie.Need-table-answer-requires
-table-answer-requires c κs =
-    let f = recover-fits _ _ _ _ _ (said-yes (c .before .before .table-ok .ensures) (c .before .if1 .left)) in
-    (f .slots-in, f .pages-most)
+table-sound-requires : tie.Need-table-sound-requires
+table-sound-requires c κs = recover-fits _ _ _ (said-yes (c .before .volume-fits .ensures) (c .if1 .left)) .slots-in
 
-answer-of-requires : tie.Need-answer-of-requires
-answer-of-requires c κs = search needs
+reply-requires-2 : tie.Need-reply-requires-2
+reply-requires-2 c κs = tt
 
 same-length-2 : tie.Need-same-length-2
 same-length-2 c = search needs
 
 returns-2 : tie.Need-returns-2
 returns-2 c =
-    let a = c .before .before .before .before .before .before .before .before .before .args in
-    let t = c .before .before in
-    let ok = said-yes (t .before .before .before .table-ok .ensures) (t .before .before .if1 .left) in
-    settles-refused _ _ 0 _ (settles-same _ _ _ _ (t .table-answer .ensures .0) (answer-by-table _ _ _ _ _ ok)) _ _ (λ z. c .if2 .taken (c .before .answer-of .ensures ∙ z))
-    ∙ sym (outcome-by-layout (a .layout) twoWidths (a .sizes) (a .words .now) (a .state .now))
+    let v = c .before .before .before in
+    let a = v .before .before .before .before .before .before .args in
+    slot-unsound _ _ _ _ _ _ _ _ (c .reply2 .ensures) (said-yes (v .before .volume-fits .ensures) (v .if1 .left)) (said-no (c .before .before .table-sound .ensures) (c .before .if2 .taken))
+    ∙ sym (recover-outcome twoWidths (a .sizes) (volume (a .words .now) (a .contents .now) (a .state .now)))
 
-fill-state-requires : tie.Need-fill-state-requires
-fill-state-requires c κs =
-    let t = c .before .before .before .before in
-    let f = recover-fits _ _ _ _ _ (said-yes (t .before .before .before .table-ok .ensures) (t .before .before .if1 .left)) in
-    let done = sym (c .before .before .before .answer-of .ensures) ∙ c .before .before .if2 .left in
-    let zero = sym (settles-answer _ _ _ _ (t .table-answer .ensures .0)) ∙ done in
-    (f .slots-in, (f .pages-most, (accepted-sound _ _ _ _ zero, (zero, (t .table-answer .ensures .1 done, f .state-sized)))))
+some-conflict-requires : tie.Need-some-conflict-requires
+some-conflict-requires c κs =
+    let f = fits-facts _ _ _ (said-yes (c .before .before .before .volume-fits .ensures) (c .before .before .if1 .left)) .flash-sized in
+    let w = f .words-sized in
+    let b = f .contents-sized in
+    (omega arith, omega arith)
+
+reply-requires-3 : tie.Need-reply-requires-3
+reply-requires-3 c κs = tt
 
 same-length-3 : tie.Need-same-length-3
 same-length-3 c = search needs
 
 returns-3 : tie.Need-returns-3
 returns-3 c =
-    let a = c .before .before .before .before .before .before .before .before .before .before .before .before .before .before .args in
-    let t = c .before .before .before .before .before .before .before in
-    let ok = said-yes (t .before .before .before .table-ok .ensures) (t .before .before .if1 .left) in
-    let done = sym (c .before .before .before .before .before .before .answer-of .ensures) ∙ c .before .before .before .before .before .if2 .left in
-    ap (returned (t .table-answer .result)) (c .before .before .fill-state .ensures)
-    ∙ settles-done _ _ 0 _ (settles-same _ _ _ _ (t .table-answer .ensures .0) (answer-by-table _ _ _ _ _ ok)) _ _ done
-    ∙ sym (outcome-by-layout (a .layout) twoWidths (a .sizes) (a .words .now) (a .state .now))
+    let t = c .before .before .before in
+    let v = t .before .before in
+    let a = v .before .before .before .before .before .before .args in
+    records-conflict _ _ _ _ _ _ _ _ (c .reply3 .ensures) (said-yes (v .before .volume-fits .ensures) (v .if1 .left)) (said-yes (t .before .table-sound .ensures) (t .if2 .left))
+    (sym (c .before .before .some-conflict .ensures) ∙ c .before .if3 .taken)
+    ∙ sym (recover-outcome twoWidths (a .sizes) (volume (a .words .now) (a .contents .now) (a .state .now)))
+
+recover-sound-requires : tie.Need-recover-sound-requires
+recover-sound-requires c κs =
+    let t = c .before .before .before in
+    let v = t .before .before in
+    let f = recover-fits _ _ _ (said-yes (v .before .volume-fits .ensures) (v .if1 .left)) in
+    (f .slots-in, (f .pages-most, (said-yes (t .before .table-sound .ensures) (t .if2 .left), f .state-sized)))
+
+same-length-4 : tie.Need-same-length-4
+same-length-4 c = search needs
+
+returns-4 : tie.Need-returns-4
+returns-4 c =
+    let d = c .before .before .before .before in
+    let t = d .before .before in
+    let v = t .before .before in
+    let a = v .before .before .before .before .before .before .args in
+    c .before .before .recover-sound .ensures
+    ∙ outcome-by-records _ _ _ _ _ _ _ (said-yes (v .before .volume-fits .ensures) (v .if1 .left)) (said-yes (t .before .table-sound .ensures) (t .if2 .left))
+    (sym (d .before .some-conflict .ensures) ∙ d .if3 .left)
+    ∙ sym (recover-outcome twoWidths (a .sizes) (volume (a .words .now) (a .contents .now) (a .state .now)))
 
 pub recover-spec : {M : Type 1} → statement M
 recover-spec =
     tie.close
     (tie.spec
-    table-ok-requires
+    volume-fits-requires
     reply-requires
     same-length
     returns
-    table-answer-requires
-    answer-of-requires
+    table-sound-requires
+    reply-requires-2
     same-length-2
     returns-2
-    fill-state-requires
+    some-conflict-requires
+    reply-requires-3
     same-length-3
-    returns-3)
+    returns-3
+    recover-sound-requires
+    same-length-4
+    returns-4)

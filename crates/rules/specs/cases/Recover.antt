@@ -11,12 +11,13 @@ use Rattle.sizes.specs.Sizes.{sizesOf}
 use Rattle.record.specs.declared.Record.{Record}
 use Rattle.state.specs.State.{stateAt}
 use Rattle.table.specs.Given.{given, formattedRecords, tableOf}
+use Rattle.rules.specs.Volume.{volume}
 use Rattle.rules.specs.Recover.{recoverOutcome}
 use Rattle.rules.specs.cases.Computing.{computing}
 
--- Recover on 8 slots that hold these records; the old state holds anything, here 7 in every word.
+-- Recover on 8 slots that hold these records, with zero bytes; the old state holds anything, here 7 in every word.
 unfoldable pub recoverOn : ℕ → List Record → Outcome (List ℕ)
-recoverOn P records = recoverOutcome twoWidths (sizesOf P 8 32) (tableOf 8 records) (replicate (4 * P) 7)
+recoverOn P records = recoverOutcome twoWidths (sizesOf P 8 32) (volume (tableOf 8 records) (replicate (32 * 8) 0) (replicate (4 * P) 7))
 
 -- the committed versions that an outcome's state says, page by page; and the used ones
 unfoldable pub committedIn : ℕ → Outcome (List ℕ) → List ℕ

@@ -14,7 +14,7 @@ use Rattle.rules.specs.cases.Write.{launched2, first2, second2}
 
 -- suggest's answer and slot
 unfoldable pub suggestOn : Sizes → Volume → List ℕ
-suggestOn sizes v = let o = suggestOutcome twoWidths sizes (v .flash .words) (v .state) in o .answer ∷ o .second ∷ []
+suggestOn sizes v = let o = suggestOutcome twoWidths sizes v in o .answer ∷ o .second ∷ []
 
 -- Case 2 in flight: nothing may be erased. Case 3: slots 0 and 1 may. Case 6's volume: slots 1, 2 and 3 may.
 unfoldable pub suggestRows : List Row

@@ -15,6 +15,7 @@ use Rattle.rules.specs.Launch.{launchOutcome}
 use Rattle.rules.specs.Write.{writeOutcome}
 use Rattle.rules.specs.Withdraw.{withdrawOutcome}
 use Rattle.rules.specs.Erase.{eraseOutcome}
+use Rattle.rules.specs.Clean.{cleanOutcome}
 use Rattle.rules.specs.Suggest.{suggestOutcome}
 use Rattle.rules.specs.Recover.{recoverOutcome}
 use Rattle.rules.specs.Read.{readOutcome}
@@ -38,7 +39,7 @@ written1 w =
     writeOutcome twoWidths z (record { flash = fresh1 w .flash; state = launchOutcome twoWidths z (fresh1 w .state) (0 ∷ []) .left }) 0 1 (bytesOf w)
 
 -- The answers of every other call at width `called`, on that volume with w bytes a slot and slices of as many: launch, write, withdraw, erase of slot 0,
--- suggest, recover and read.
+-- suggest, recover, read and clean of block 0, whose one record that must stay has no blank slot outside.
 unfoldable pub answersAt : (called w : ℕ) → List ℕ
 answersAt called w =
     let z = sizesOf 1 2 called in
@@ -47,9 +48,10 @@ answersAt called w =
     ∷ writeOutcome twoWidths z v 0 1 (bytesOf w) .answer
     ∷ withdrawOutcome twoWidths z (v .state) 0 .answer
     ∷ eraseOutcome twoWidths z v (0 ∷ []) .answer
-    ∷ suggestOutcome twoWidths z (v .flash .words) (v .state) .answer
-    ∷ recoverOutcome twoWidths z (v .flash .words) (v .state) .answer
+    ∷ suggestOutcome twoWidths z v .answer
+    ∷ recoverOutcome twoWidths z v .answer
     ∷ readOutcome twoWidths z v 0 (replicate w 7) .answer
+    ∷ cleanOutcome twoWidths z v 0 .answer
     ∷ []
 
 -- The answers of write and read on that volume, at its own width w, with slices of so many bytes: write of page 0 behind another launch.
@@ -82,7 +84,7 @@ contentsStated w =
     ∷ []
 
 -- Format takes 32 and 64 alone, and contents of that many bytes a slot; of either width it takes 1,024 slots. On a volume of either width every call is
--- accepted, or refused for another reason than 1 (9: nothing is in flight); at another width than 32 or 64 every call answers 1, and at the other of the
+-- accepted, or refused for another reason than 1 (9: nothing is in flight; 15: no blank slot outside); at another width than 32 or 64 every call answers 1, and at the other of the
 -- two those that take contents. Slices of another length than the width are 1.
 unfoldable pub widthRows : List Row
 widthRows =
@@ -92,13 +94,13 @@ widthRows =
     ∷ row 10 (map (formatAt 32) (63 ∷ 64 ∷ 65 ∷ 128 ∷ [])) (1 ∷ 0 ∷ 1 ∷ 1 ∷ [])
     ∷ row 10 (map (formatAt 64) (64 ∷ 127 ∷ 128 ∷ 129 ∷ [])) (1 ∷ 1 ∷ 0 ∷ 1 ∷ [])
     ∷ row 10 (formatAt noNumber 64 ∷ formatAt noNumber 128 ∷ []) (1 ∷ 1 ∷ [])
-    ∷ row 10 (answersAt 32 32) (0 ∷ 9 ∷ 9 ∷ 0 ∷ 0 ∷ 0 ∷ 0 ∷ [])
-    ∷ row 10 (answersAt 64 64) (0 ∷ 9 ∷ 9 ∷ 0 ∷ 0 ∷ 0 ∷ 0 ∷ [])
-    ∷ row 10 (answersAt 32 64) (0 ∷ 1 ∷ 9 ∷ 1 ∷ 0 ∷ 0 ∷ 1 ∷ [])
-    ∷ row 10 (answersAt 64 32) (0 ∷ 1 ∷ 9 ∷ 1 ∷ 0 ∷ 0 ∷ 1 ∷ [])
-    ∷ row 10 (answersAt 33 32) (replicate 7 1)
-    ∷ row 10 (answersAt 0 64) (replicate 7 1)
-    ∷ row 10 (answersAt noNumber 64) (replicate 7 1)
+    ∷ row 10 (answersAt 32 32) (0 ∷ 9 ∷ 9 ∷ 0 ∷ 0 ∷ 0 ∷ 0 ∷ 15 ∷ [])
+    ∷ row 10 (answersAt 64 64) (0 ∷ 9 ∷ 9 ∷ 0 ∷ 0 ∷ 0 ∷ 0 ∷ 15 ∷ [])
+    ∷ row 10 (answersAt 32 64) (0 ∷ 1 ∷ 9 ∷ 1 ∷ 1 ∷ 1 ∷ 1 ∷ 1 ∷ [])
+    ∷ row 10 (answersAt 64 32) (0 ∷ 1 ∷ 9 ∷ 1 ∷ 1 ∷ 1 ∷ 1 ∷ 1 ∷ [])
+    ∷ row 10 (answersAt 33 32) (replicate 8 1)
+    ∷ row 10 (answersAt 0 64) (replicate 8 1)
+    ∷ row 10 (answersAt noNumber 64) (replicate 8 1)
     ∷ row 10 (sliceAnswers 32 32 ++ (sliceAnswers 32 31 ++ (sliceAnswers 32 33 ++ sliceAnswers 32 64))) (0 ∷ 0 ∷ replicate 6 1)
     ∷ row 10 (sliceAnswers 64 64 ++ (sliceAnswers 64 63 ++ (sliceAnswers 64 65 ++ sliceAnswers 64 32))) (0 ∷ 0 ∷ replicate 6 1)
     ∷ row 10 (flatten (contentsAt 32)) (flatten (contentsStated 32))

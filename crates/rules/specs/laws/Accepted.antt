@@ -1,32 +1,35 @@
 -- What a call that answers 0 has tested, as facts.
-use Prim.Native.Nat.{ℕ, _*_, _<_}
+use Prim.Native.Nat.{ℕ, _*_, _<_, _≤_}
 use mathlib.Core.Path.{_≡_}
 use mathlib.Core.List.{List}
 use mathlib.Core.Bool.{true, false, not, _&&_, _||_}
 use lib.Dec.{ltb, eqb}
 use lib.ListN.{length}
-use borrow.Author.Tests.{ltb-true, eqb-true}
+use borrow.Author.Tests.{ltb-true, ltb-false, eqb-true}
 use Rattle.bounded.specs.Limits.{Widths}
-use Rattle.bounded.specs.Choice.{both-left, both-right, neither-left}
+use Rattle.bounded.specs.Choice.{both-left, both-right}
 use Rattle.bounded.specs.Below.{allBelow, someBelow}
 use Rattle.bounded.specs.BelowLaws.{first-found, first-passes, first-none-before}
 use Rattle.outcome.specs.OutcomeLaws.{passed, held}
 use Rattle.sizes.specs.declared.Sizes.{Sizes}
-use Rattle.sizes.specs.Sizes.{sizesOk, wordsFit, stateFits, listOk}
+use Rattle.sizes.specs.Sizes.{sizesOk, stateFits, listOk}
+use Rattle.sizes.specs.Blocks.{blockOk, blockAt}
 use Rattle.sizes.specs.SizesLaws.{state-fits-exactly}
 use Rattle.record.specs.declared.Slot.{Slot}
 use Rattle.record.specs.Slot.{slotAt, isBlank}
 use Rattle.state.specs.State.{stateAt, stateSound, inFlight, isWritten}
-use Rattle.table.specs.Table.{tableSound, someClash, hasRecord}
+use Rattle.table.specs.Table.{tableSound, hasRecord}
+use Rattle.twins.specs.Twins.{twins, someConflict}
 use Rattle.follow.specs.Follow.{isAstray}
 use Rattle.rules.specs.Volume.{Volume, volumeFits}
 use Rattle.rules.specs.laws.Volume.{Fits, fits-facts}
 use Rattle.rules.specs.Launch.{somePage, usedUp, launchAnswer}
 use Rattle.rules.specs.Write.{writeAnswer}
 use Rattle.rules.specs.Withdraw.{withdrawAnswer}
-use Rattle.rules.specs.Permission.{mayErase, mayEraseAll}
+use Rattle.rules.specs.Permission.{mayEraseAll}
 use Rattle.rules.specs.Erase.{eraseAnswer}
-use Rattle.rules.specs.Suggest.{suggestAnswer, suggestedSlot, suggestOutcome}
+use Rattle.rules.specs.Suggest.{suggestible, suggestAnswer, suggestedSlot, suggestOutcome}
+use Rattle.rules.specs.Clean.{cleanFrom, cleanTo, tooFewBlank, cleanAnswer}
 use Rattle.rules.specs.Recover.{walkOf, recoverAnswer}
 use Rattle.rules.specs.laws.Outcomes.{suggest-done}
 
@@ -55,7 +58,6 @@ pub record WriteTests (widths : Widths) (sizes : Sizes) (v : Volume) (page slot 
 
 pub record RecoverTests (P S : ℕ) (t : ℕ → Slot) : Type 0 where
   pub sound : tableSound P S t ≡ true
-  pub none-clash : someClash S t ≡ false
   pub none-astray : someBelow P (λ p. isAstray (walkOf P S t p .end)) ≡ false
 
 module _ (widths : Widths) (sizes : Sizes) (state : List ℕ) where
@@ -73,18 +75,6 @@ module _ (widths : Widths) (sizes : Sizes) (state : List ℕ) where
       let f = passed (somePage pages (stateAt state) usedUp) _ _ (d .1) in
       record { state-sized = sized (a .0); sound = b .0; listed = c .0; none-flying = d .0; none-used-up = f .0 }
 
-  pub recover-tests : (words : List ℕ) → recoverAnswer widths sizes words state ≡ 0 → RecoverTests (sizes .pages) (sizes .slots) (slotAt words)
-  unfolding recoverAnswer
-  recover-tests words z =
-      let P = sizes .pages in
-      let S = sizes .slots in
-      let t = slotAt words in
-      let a = held (sizesOk widths sizes && (wordsFit S words && stateFits P state)) _ _ z in
-      let b = held (tableSound P S t) _ _ (a .1) in
-      let c = passed (someClash S t || not (allBelow P (hasRecord S t))) _ _ (b .1) in
-      let d = passed (someBelow P (λ p. isAstray (walkOf P S t p .end))) _ _ (c .1) in
-      record { sound = b .0; none-clash = neither-left (someClash S t) (not (allBelow P (hasRecord S t))) (c .0); none-astray = d .0 }
-
   pub withdraw-tests : (page : ℕ) → withdrawAnswer widths sizes state page ≡ 0 → WithdrawTests (sizes .pages) state page
   unfolding withdrawAnswer
   withdraw-tests page z =
@@ -93,6 +83,18 @@ module _ (widths : Widths) (sizes : Sizes) (state : List ℕ) where
       let c = held (ltb page (sizes .pages)) _ _ (b .1) in
       let d = held (inFlight (stateAt state page)) _ _ (c .1) in
       record { state-sized = sized (a .0); sound = b .0; page-below = ltb-true page (sizes .pages) (c .0); flying = d .0 }
+
+pub recover-tests : (widths : Widths) (sizes : Sizes) (v : Volume) → recoverAnswer widths sizes v ≡ 0 → RecoverTests (sizes .pages) (sizes .slots) (slotAt (v .flash .words))
+unfolding recoverAnswer
+recover-tests widths sizes v z =
+    let P = sizes .pages in
+    let S = sizes .slots in
+    let t = slotAt (v .flash .words) in
+    let a = held (volumeFits widths sizes v) _ _ z in
+    let b = held (tableSound P S t) _ _ (a .1) in
+    let c = passed (someConflict S t (twins (sizes .width) (v .flash)) || not (allBelow P (hasRecord S t))) _ _ (b .1) in
+    let d = passed (someBelow P (λ p. isAstray (walkOf P S t p .end))) _ _ (c .1) in
+    record { sound = b .0; none-astray = d .0 }
 
 pub write-tests : (widths : Widths) (sizes : Sizes) (v : Volume) (page slot : ℕ) (bytes : List ℕ) → writeAnswer widths sizes v page slot bytes ≡ 0 → WriteTests widths sizes v page slot bytes
 unfolding writeAnswer
@@ -118,7 +120,7 @@ write-tests widths sizes v page slot bytes z =
 pub record EraseTests (widths : Widths) (sizes : Sizes) (v : Volume) (list : List ℕ) : Type 0 where
   pub fits : Fits widths sizes v
   pub listed : listOk (sizes .slots) list ≡ true
-  pub permitted : mayEraseAll (sizes .slots) (slotAt (v .flash .words)) (stateAt (v .state)) list ≡ true
+  pub permitted : mayEraseAll (sizes .slots) (slotAt (v .flash .words)) (stateAt (v .state)) (twins (sizes .width) (v .flash)) list ≡ true
 
 pub erase-tests : (widths : Widths) (sizes : Sizes) (v : Volume) (list : List ℕ) → eraseAnswer widths sizes v list ≡ 0 → EraseTests widths sizes v list
 unfolding eraseAnswer
@@ -127,24 +129,41 @@ erase-tests widths sizes v list e =
     let b = held (tableSound (sizes .pages) (sizes .slots) (slotAt (v .flash .words))) _ _ (a .1) in
     let c = held (stateSound (sizes .pages) (stateAt (v .state))) _ _ (b .1) in
     let d = held (listOk (sizes .slots) list) _ _ (c .1) in
-    let f = held (mayEraseAll (sizes .slots) (slotAt (v .flash .words)) (stateAt (v .state)) list) _ _ (d .1) in
+    let f = held (mayEraseAll (sizes .slots) (slotAt (v .flash .words)) (stateAt (v .state)) (twins (sizes .width) (v .flash)) list) _ _ (d .1) in
     record { fits = fits-facts widths sizes v (a .0); listed = d .0; permitted = f .0 }
 
+pub record CleanTests (widths : Widths) (sizes : Sizes) (v : Volume) (block : ℕ) : Type 0 where
+  pub fits : Fits widths sizes v
+  pub table : tableSound (sizes .pages) (sizes .slots) (slotAt (v .flash .words)) ≡ true
+  pub sound : stateSound (sizes .pages) (stateAt (v .state)) ≡ true
+  pub named : blockOk (sizes .slots) block ≡ true
+  pub room : length (cleanFrom sizes v (blockAt (sizes .slots) block)) ≤ length (cleanTo sizes v (blockAt (sizes .slots) block))
+
+pub clean-tests : (widths : Widths) (sizes : Sizes) (v : Volume) (block : ℕ) → cleanAnswer widths sizes v block ≡ 0 → CleanTests widths sizes v block
+unfolding cleanAnswer tooFewBlank
+clean-tests widths sizes v block e =
+    let a = held (volumeFits widths sizes v) _ _ e in
+    let b = held (tableSound (sizes .pages) (sizes .slots) (slotAt (v .flash .words))) _ _ (a .1) in
+    let c = held (stateSound (sizes .pages) (stateAt (v .state))) _ _ (b .1) in
+    let d = held (blockOk (sizes .slots) block) _ _ (c .1) in
+    let f = passed (tooFewBlank sizes v (blockAt (sizes .slots) block)) _ _ (d .1) in
+    record { fits = fits-facts widths sizes v (a .0); table = b .0; sound = c .0; named = d .0; room = ltb-false _ _ (f .0) }
+
 -- "the lowest": a slot that may be erased, and none below it may
-pub record Lowest (S : ℕ) (words state : List ℕ) (slot : ℕ) : Type 0 where
-  pub slot-below : slot < S
-  pub permitted : mayErase S (slotAt words) (stateAt state) slot ≡ true
-  pub none-lower : (k : ℕ) → k < slot → mayErase S (slotAt words) (stateAt state) k ≡ false
+pub record Lowest (sizes : Sizes) (v : Volume) (slot : ℕ) : Type 0 where
+  pub slot-below : slot < sizes .slots
+  pub permitted : suggestible sizes v slot ≡ true
+  pub none-lower : (k : ℕ) → k < slot → suggestible sizes v k ≡ false
 
 -- Where suggest answers 0 the slot that it names is the lowest that may be erased.
-pub suggested-lowest : (widths : Widths) (sizes : Sizes) (words state : List ℕ) → suggestAnswer widths sizes words state ≡ 0 → Lowest (sizes .slots) words state (suggestOutcome widths sizes words state .second)
+pub suggested-lowest : (widths : Widths) (sizes : Sizes) (v : Volume) → suggestAnswer widths sizes v ≡ 0 → Lowest sizes v (suggestOutcome widths sizes v .second)
 unfolding suggestAnswer suggestedSlot
-suggested-lowest widths sizes words state z =
+suggested-lowest widths sizes v z =
     let S = sizes .slots in
-    let may = mayErase S (slotAt words) (stateAt state) in
-    let a = held (sizesOk widths sizes && (wordsFit S words && stateFits (sizes .pages) state)) _ _ z in
-    let b = held (tableSound (sizes .pages) S (slotAt words)) _ _ (a .1) in
-    let c = held (stateSound (sizes .pages) (stateAt state)) _ _ (b .1) in
+    let may = suggestible sizes v in
+    let a = held (volumeFits widths sizes v) _ _ z in
+    let b = held (tableSound (sizes .pages) S (slotAt (v .flash .words))) _ _ (a .1) in
+    let c = held (stateSound (sizes .pages) (stateAt (v .state))) _ _ (b .1) in
     let d = held (someBelow S may) _ _ (c .1) in
     let l = first-found may S (d .0) in
-    rw (suggest-done widths sizes words state z) (record { slot-below = l; permitted = first-passes may S l; none-lower = first-none-before may S })
+    rw (suggest-done widths sizes v z) (record { slot-below = l; permitted = first-passes may S l; none-lower = first-none-before may S })

@@ -16,20 +16,22 @@ use Rattle.outcome.specs.Chain.{firstOf, first-refuses, first-passes, split-two
 use Rattle.sizes.specs.declared.Layout.{Layout}
 use Rattle.sizes.specs.declared.Layout.the-variants.{FiveWords, FourWords}
 use Rattle.sizes.specs.declared.Sizes.{Sizes}
-use Rattle.sizes.specs.Sizes.{sizesOk, strideOf, wordsFit, stateFits, listOk}
-use Rattle.sizes.specs.SizesLaws.{SizesFacts, sizes-facts, words-fit-exactly, state-fits-exactly}
+use Rattle.sizes.specs.Sizes.{sizesOk, strideOf, stateFits, listOk}
+use Rattle.sizes.specs.Blocks.{blockOk, blockAt}
+use Rattle.sizes.specs.SizesLaws.{SizesFacts, sizes-facts}
 use Rattle.record.specs.Slot.{slotIn, slotAt, isBlank}
 use Rattle.state.specs.declared.PageState.{PageState}
 use Rattle.state.specs.State.{stateAt, inFlight, isWritten, stateSound}
 use Rattle.table.specs.Table.{tableSound, hasVersion}
-use Rattle.rules.specs.Volume.{Volume, volumeFitsIn}
+use Rattle.twins.specs.Twins.{twins}
+use Rattle.rules.specs.Volume.{Volume, volumeFitsIn, volumeFits}
 use Rattle.rules.specs.laws.Volume.{FitsIn, fits-in-facts}
 use Rattle.rules.specs.Launch.{somePage, usedUp, launchAnswer}
 use Rattle.rules.specs.Write.{writeAnswer}
 use Rattle.rules.specs.Withdraw.{withdrawAnswer}
-use Rattle.rules.specs.Permission.{mayErase}
 use Rattle.rules.specs.Erase.{eraseAnswer}
-use Rattle.rules.specs.Suggest.{suggestAnswer}
+use Rattle.rules.specs.Suggest.{suggestible, suggestAnswer}
+use Rattle.rules.specs.Clean.{tooFewBlank, cleanAnswer}
 use Rattle.rules.specs.Read.{readAnswerIn}
 use Rattle.rules.specs.SimpleCalls.{simpleWriteAnswer, simpleEraseAnswer}
 use Rattle.rules.specs.laws.Families.{wouldBuryIn, writeAnswerIn, mayEraseAllIn, eraseAnswerIn}
@@ -118,17 +120,6 @@ pub slice-whole : (layout : Layout) (widths : Widths) (sizes : Sizes) (v : Volum
 slice-whole layout widths sizes v n e =
     (fits-in-facts layout widths sizes v (both-left (volumeFitsIn layout widths sizes v) (eqb n (sizes .width)) e), eqb-true n (sizes .width) (both-right (volumeFitsIn layout widths sizes v) (eqb n (sizes .width)) e))
 
-pub table-spans : (widths : Widths) (sizes : Sizes) (words state : List ℕ) → (sizesOk widths sizes && (wordsFit (sizes .slots) words && stateFits (sizes .pages) state)) ≡ true → SpansIn FiveWords (sizes .pages) (sizes .slots) words state
-table-spans widths sizes words state e =
-    let f = both-right (sizesOk widths sizes) (wordsFit (sizes .slots) words && stateFits (sizes .pages) state) e in
-    let x = words-fit-exactly (sizes .slots) words .0 (both-left (wordsFit (sizes .slots) words) (stateFits (sizes .pages) state) f) in
-    let y = state-fits-exactly (sizes .pages) state .0 (both-right (wordsFit (sizes .slots) words) (stateFits (sizes .pages) state) f) in
-    record {
-      bounds = sizes-facts widths sizes (both-left (sizesOk widths sizes) (wordsFit (sizes .slots) words && stateFits (sizes .pages) state) e) .0;
-      slots-in = omega arith;
-      pages-in = omega arith;
-    }
-
 -- ---- each call's own conditions, and its whole chain
 
 -- launch: 6, then 7 and 8
@@ -199,28 +190,40 @@ write-chain layout widths sizes v page slot bytes = by layout ∙ ap (firstOf (j
         split-three (not (volumeFitsIn FourWords widths sizes v && eqb (length bytes) (sizes .width))) (not (tableSound (sizes .pages) (sizes .slots) (slotIn FourWords (v .flash .words)))) (not (stateSound (sizes .pages) (stateAt (v .state)))) 0 1 4 _
 
 -- erase: 6 and 12
-unfoldable pub eraseOwn : Layout → ℕ → (words state slots : List ℕ) → ℕ
-eraseOwn layout S words state slots =
-    not (listOk S slots) ⇒ 6 otherwise
-    not (mayEraseAllIn layout S (slotIn layout words) (stateAt state) slots) ⇒ 12 otherwise
+unfoldable pub eraseOwn : Layout → Sizes → Volume → (slots : List ℕ) → ℕ
+eraseOwn layout sizes v slots =
+    not (listOk (sizes .slots) slots) ⇒ 6 otherwise
+    not (mayEraseAllIn layout (sizes .slots) (slotIn layout (v .flash .words)) (stateAt (v .state)) (twins (sizes .width) (v .flash)) slots) ⇒ 12 otherwise
     0
 
-pub erase-chain : (layout : Layout) (widths : Widths) (sizes : Sizes) (v : Volume) (slots : List ℕ) → eraseAnswerIn layout widths sizes v slots ≡ firstOf (judgedIn layout (volumeFitsIn layout widths sizes v) (sizes .pages) (sizes .slots) (v .flash .words) (v .state)) (eraseOwn layout (sizes .slots) (v .flash .words) (v .state) slots)
+pub erase-chain : (layout : Layout) (widths : Widths) (sizes : Sizes) (v : Volume) (slots : List ℕ) → eraseAnswerIn layout widths sizes v slots ≡ firstOf (judgedIn layout (volumeFitsIn layout widths sizes v) (sizes .pages) (sizes .slots) (v .flash .words) (v .state)) (eraseOwn layout sizes v slots)
 unfolding eraseAnswer simpleEraseAnswer judgedIn eraseOwn
 erase-chain layout widths sizes v slots = by layout
   where
-    by : (l : Layout) → eraseAnswerIn l widths sizes v slots ≡ firstOf (judgedIn l (volumeFitsIn l widths sizes v) (sizes .pages) (sizes .slots) (v .flash .words) (v .state)) (eraseOwn l (sizes .slots) (v .flash .words) (v .state) slots)
+    by : (l : Layout) → eraseAnswerIn l widths sizes v slots ≡ firstOf (judgedIn l (volumeFitsIn l widths sizes v) (sizes .pages) (sizes .slots) (v .flash .words) (v .state)) (eraseOwn l sizes v slots)
     by FiveWords = split-three (not (volumeFitsIn FiveWords widths sizes v)) (not (tableSound (sizes .pages) (sizes .slots) (slotIn FiveWords (v .flash .words)))) (not (stateSound (sizes .pages) (stateAt (v .state)))) 0 1 4 _
     by FourWords = split-three (not (volumeFitsIn FourWords widths sizes v)) (not (tableSound (sizes .pages) (sizes .slots) (slotIn FourWords (v .flash .words)))) (not (stateSound (sizes .pages) (stateAt (v .state)))) 0 1 4 _
 
 -- suggest: 13
-unfoldable pub suggestOwn : ℕ → (words state : List ℕ) → ℕ
-suggestOwn S words state = not (someBelow S (mayErase S (slotAt words) (stateAt state))) ⇒ 13 otherwise 0
+unfoldable pub suggestOwn : Sizes → Volume → ℕ
+suggestOwn sizes v = not (someBelow (sizes .slots) (suggestible sizes v)) ⇒ 13 otherwise 0
 
-pub suggest-chain : (widths : Widths) (sizes : Sizes) (words state : List ℕ) → suggestAnswer widths sizes words state ≡ firstOf (judged (sizesOk widths sizes && (wordsFit (sizes .slots) words && stateFits (sizes .pages) state)) (sizes .pages) (sizes .slots) words state) (suggestOwn (sizes .slots) words state)
+pub suggest-chain : (widths : Widths) (sizes : Sizes) (v : Volume) → suggestAnswer widths sizes v ≡ firstOf (judged (volumeFits widths sizes v) (sizes .pages) (sizes .slots) (v .flash .words) (v .state)) (suggestOwn sizes v)
 unfolding suggestAnswer judgedIn suggestOwn
-suggest-chain widths sizes words state =
-    split-three (not (sizesOk widths sizes && (wordsFit (sizes .slots) words && stateFits (sizes .pages) state))) (not (tableSound (sizes .pages) (sizes .slots) (slotAt words))) (not (stateSound (sizes .pages) (stateAt state))) 0 1 4 _
+suggest-chain widths sizes v =
+    split-three (not (volumeFits widths sizes v)) (not (tableSound (sizes .pages) (sizes .slots) (slotAt (v .flash .words)))) (not (stateSound (sizes .pages) (stateAt (v .state)))) 0 1 4 _
+
+-- clean: 6 and 15
+unfoldable pub cleanOwn : Sizes → Volume → (block : ℕ) → ℕ
+cleanOwn sizes v block =
+    not (blockOk (sizes .slots) block) ⇒ 6 otherwise
+    tooFewBlank sizes v (blockAt (sizes .slots) block) ⇒ 15 otherwise
+    0
+
+pub clean-chain : (widths : Widths) (sizes : Sizes) (v : Volume) (block : ℕ) → cleanAnswer widths sizes v block ≡ firstOf (judged (volumeFits widths sizes v) (sizes .pages) (sizes .slots) (v .flash .words) (v .state)) (cleanOwn sizes v block)
+unfolding cleanAnswer judgedIn cleanOwn
+clean-chain widths sizes v block =
+    split-three (not (volumeFits widths sizes v)) (not (tableSound (sizes .pages) (sizes .slots) (slotAt (v .flash .words)))) (not (stateSound (sizes .pages) (stateAt (v .state)))) 0 1 4 _
 
 -- read: 6 and 14
 unfoldable pub readOwn : Layout → (P S : ℕ) (words state : List ℕ) (page : ℕ) → ℕ

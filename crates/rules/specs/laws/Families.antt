@@ -17,9 +17,9 @@ use Rattle.rules.specs.Verdict.{linkVerdict, verdict}
 use Rattle.rules.specs.Write.{planOf, writeAnswer, writeChange, writeOutcome}
 use Rattle.rules.specs.Permission.{mayEraseAll}
 use Rattle.rules.specs.Erase.{eraseAnswer, eraseOutcome}
-use Rattle.rules.specs.Recover.{recovered, recoverAnswer, recoverOutcome}
+use Rattle.rules.specs.Recover.{recovered}
 use Rattle.rules.specs.Simple.{simpleLinkVerdict, simpleVerdict, simpleRecovered, simpleMayEraseAll, wouldBury}
-use Rattle.rules.specs.SimpleCalls.{simplePlanOf, simpleWriteAnswer, simpleWriteChange, simpleWriteOutcome, simpleEraseAnswer, simpleEraseOutcome, simpleRecoverAnswer, simpleRecoverOutcome}
+use Rattle.rules.specs.SimpleCalls.{simplePlanOf, simpleWriteAnswer, simpleWriteChange, simpleWriteOutcome, simpleEraseAnswer, simpleEraseOutcome}
 
 -- ---- write
 
@@ -46,9 +46,10 @@ writeOutcomeIn FourWords widths sizes v page slot bytes = simpleWriteOutcome wid
 
 -- ---- erase
 
-abbrev pub mayEraseAllIn : Layout → ℕ → (ℕ → Slot) → (ℕ → PageState) → List ℕ → Bool
-mayEraseAllIn FiveWords S t st slots = mayEraseAll S t st slots
-mayEraseAllIn FourWords S t st slots = simpleMayEraseAll t st slots
+-- a record without a back pointer has no twin
+abbrev pub mayEraseAllIn : Layout → ℕ → (ℕ → Slot) → (ℕ → PageState) → (twin : ℕ → ℕ → Bool) → List ℕ → Bool
+mayEraseAllIn FiveWords S t st twin slots = mayEraseAll S t st twin slots
+mayEraseAllIn FourWords S t st twin slots = simpleMayEraseAll t st slots
 
 abbrev pub eraseAnswerIn : Layout → Widths → Sizes → Volume → (slots : List ℕ) → ℕ
 eraseAnswerIn FiveWords widths sizes v slots = eraseAnswer widths sizes v slots
@@ -71,11 +72,3 @@ verdictIn FourWords S t p = simpleVerdict S t p
 abbrev pub recoveredIn : Layout → (P S : ℕ) → (ℕ → Slot) → ℕ → PageState
 recoveredIn FiveWords P S t p = recovered P S t p
 recoveredIn FourWords P S t p = simpleRecovered P S t p
-
-abbrev pub recoverAnswerIn : Layout → Widths → Sizes → (words state : List ℕ) → ℕ
-recoverAnswerIn FiveWords widths sizes words state = recoverAnswer widths sizes words state
-recoverAnswerIn FourWords widths sizes words state = simpleRecoverAnswer widths sizes words state
-
-abbrev pub recoverOutcomeIn : Layout → Widths → Sizes → (words state : List ℕ) → Outcome (List ℕ)
-recoverOutcomeIn FiveWords widths sizes words state = recoverOutcome widths sizes words state
-recoverOutcomeIn FourWords widths sizes words state = simpleRecoverOutcome widths sizes words state

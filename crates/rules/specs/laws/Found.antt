@@ -4,20 +4,21 @@ use native.Mathlib.Omega.{arith}
 use mathlib.Core.Path.{_≡_, refl, sym, ap, _∙_, fun-ext}
 use mathlib.Core.Logic.{_↔_}
 use mathlib.Core.List.{List}
-use mathlib.Core.Bool.{Bool, true, false, not, _&&_}
+use mathlib.Core.Bool.{Bool, true, false, not, _&&_, _||_}
 use lib.ListN.{length, getD}
 use borrow.Author.Tests.{ltb-true, le-ltb, lt-ltb}
 use Rattle.bounded.specs.Choice.{on-test, or-false}
 use Rattle.bounded.specs.BelowLaws.{all-cong, some-cong}
 use Rattle.bounded.specs.Passing.{list-exactly, list-entry, some-listed}
+use Rattle.sizes.specs.Sizes.{listed}
 use Rattle.record.specs.declared.Record.{Record}
 use Rattle.record.specs.declared.Slot.{Slot}
 use Rattle.record.specs.declared.Slot.the-variants.{Blank, Holds}
 use Rattle.record.specs.Slot.{holds, someRecord, straddles}
 use Rattle.record.specs.SlotLaws.{holds-exactly}
 use Rattle.state.specs.declared.PageState.{PageState}
-use Rattle.rules.specs.Permission.{isObsolete, isExposed, outdoneBy, supports, isNeeded, mayEraseRecord, mayErase, mayEraseAll}
-use Rattle.rules.specs.Found.{exposedSlots, neededBy, mayEraseRecordBy, mayEraseBy, mayEraseAllBy}
+use Rattle.rules.specs.Permission.{isObsolete, isExposed, outdoneBy, supports, isNeeded, mayEraseRecord, mayErase, twinOutside, mayEraseFrom, mayEraseAll}
+use Rattle.rules.specs.Found.{exposedSlots, neededBy, mayEraseRecordBy, mayEraseBy, mayEraseFromBy, mayEraseAllBy}
 use Rattle.rules.specs.laws.Permission.{Exposed}
 
 -- a number is found exactly where it is a slot of the table that holds an exposed record
@@ -28,7 +29,7 @@ FoundExactly =
 
 -- judged by what is found, a list may be erased exactly where the rule permits it
 abbrev pub JudgedByFound : Type 0
-JudgedByFound = (S : ℕ) (t : ℕ → Slot) (st : ℕ → PageState) (slots : List ℕ) → mayEraseAllBy S t st (exposedSlots S t st) slots ≡ mayEraseAll S t st slots
+JudgedByFound = (S : ℕ) (t : ℕ → Slot) (st : ℕ → PageState) (twin : ℕ → ℕ → Bool) (slots : List ℕ) → mayEraseAllBy S t st (exposedSlots S t st) twin slots ≡ mayEraseAll S t st twin slots
 
 module _ (S : ℕ) (t : ℕ → Slot) (st : ℕ → PageState) where
   -- ---- what is found
@@ -66,6 +67,11 @@ module _ (S : ℕ) (t : ℕ → Slot) (st : ℕ → PageState) where
   unfolding mayEraseBy mayErase
   judged-by-found k = ap (λ (f : Record → Bool). holds f (t k)) (fun-ext record-by-found)
 
+  -- … with twins, whatever the list
+  pub judged-from-found : (twin : ℕ → ℕ → Bool) (inList : ℕ → Bool) (k : ℕ) → mayEraseFromBy S t st (exposedSlots S t st) twin inList k ≡ mayEraseFrom S t st twin inList k
+  unfolding mayEraseFromBy mayEraseFrom
+  judged-from-found twin inList k = ap (λ (b : Bool). twinOutside S twin inList k || b) (judged-by-found k)
+
 pub found-exactly : FoundExactly
 unfolding exposedSlots isExposed
 found-exactly S t st k = (
@@ -78,4 +84,4 @@ found-exactly S t st k = (
 
 pub list-judged-by-found : JudgedByFound
 unfolding mayEraseAllBy mayEraseAll
-list-judged-by-found S t st slots = all-cong (length slots) (λ i h. judged-by-found S t st (getD slots i 0))
+list-judged-by-found S t st twin slots = all-cong (length slots) (λ i h. judged-from-found S t st twin (listed slots) (getD slots i 0))

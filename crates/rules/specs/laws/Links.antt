@@ -19,12 +19,13 @@ use Rattle.outcome.specs.OutcomeLaws.{settled-answer, settled-refused, settled-
 use Rattle.sizes.specs.declared.Layout.{Layout}
 use Rattle.sizes.specs.declared.Layout.the-variants.{FiveWords, FourWords}
 use Rattle.sizes.specs.declared.Sizes.{Sizes}
-use Rattle.sizes.specs.Sizes.{sizesOk, wordsFitIn}
+use Rattle.sizes.specs.Sizes.{sizesOk, wordsFitIn, contentsFit}
 use Rattle.sizes.specs.SizesLaws.{sizes-facts, words-fit-in, state-fits-exactly}
 use Rattle.record.specs.declared.Record.{Record}
 use Rattle.record.specs.declared.Slot.{Slot}
 use Rattle.record.specs.declared.Slot.the-variants.{Blank, Holds}
 use Rattle.record.specs.Slot.{slotIn, isBlank}
+use Rattle.record.specs.Flash.{flash}
 use Rattle.record.specs.SlotLaws.{Storable, sound-facts, sound-test}
 use Rattle.state.specs.State.{stateWords}
 use Rattle.state.specs.StateLaws.{stateWords-cong}
@@ -39,6 +40,8 @@ use Rattle.follow.specs.declared.Walk.{Walk}
 use Rattle.follow.specs.Follow.{follow, linksFollowed, isAstray, StaysInside}
 use Rattle.follow.specs.Steps.{nextInRing}
 use Rattle.follow.specs.Links.{followed-most, links-walked, walked-exactly, walked-most, followed-least, followed-sum, end-alone, ring-most, ring-walk, one-ring-walk, one-ring-followed}
+use Rattle.twins.specs.Twins.{twins}
+use Rattle.rules.specs.Volume.{Volume, volume, volumeFitsIn}
 use Rattle.rules.specs.Verdict.{linkVerdict, slotVerdict, verdict}
 use Rattle.rules.specs.Recover.{walkOf, linksOf, committedBy, committedOf, recovered, recoverAnswer, recoverOutcome}
 use Rattle.rules.specs.Simple.{simpleLinkVerdict, simpleSlotVerdict, simpleVerdict, simpleWalkOf, simpleCommittedSlot, committedSlotOf, hasCommitted, simpleRecovered}
@@ -46,44 +49,44 @@ use Rattle.rules.specs.SimpleCalls.{simpleRecoverAnswer, simpleLinksOf, 
 use Rattle.rules.specs.Links.{Following, backPointing, simply, ringRecord, oneRing, LinksAtMost, OneRingReaches, LinksAreSteps, LinksApart}
 use Rattle.rules.specs.laws.Accepted.{recover-tests}
 use Rattle.rules.specs.laws.SimpleAccepted.{simple-recover-tests}
-use Rattle.rules.specs.laws.Recover.{verdict-inside, isAstray-exactly, recover-fills, recover-refused}
+use Rattle.rules.specs.laws.Recover.{verdict-inside, isAstray-exactly, unclashed, recover-fills, recover-refused}
 
 -- what the proofs need of a family
 record Follows (F : Following) : Type 0 where
   -- in a sound table every verdict that goes on goes on at a page below P
   inside : (S : ℕ) (t : ℕ → Slot) (P : ℕ) → tableSound P S t ≡ true → StaysInside P (F .verdict S t)
   -- what a recover that answers 0 has tested, and what it gives
-  sound : (widths : Widths) (sizes : Sizes) (words state : List ℕ) → F .answer widths sizes words state ≡ 0 → tableSound (sizes .pages) (sizes .slots) (slotIn (F .layout) words) ≡ true
+  sound : (widths : Widths) (sizes : Sizes) (v : Volume) → F .answer widths sizes v ≡ 0 → tableSound (sizes .pages) (sizes .slots) (slotIn (F .layout) (v .flash .words)) ≡ true
   none-astray :
-      (widths : Widths) (sizes : Sizes) (words state : List ℕ)
-      → F .answer widths sizes words state ≡ 0
-      → someBelow (sizes .pages) (λ p. isAstray (follow (sizes .pages) (F .verdict (sizes .slots) (slotIn (F .layout) words)) p .end)) ≡ false
+      (widths : Widths) (sizes : Sizes) (v : Volume)
+      → F .answer widths sizes v ≡ 0
+      → someBelow (sizes .pages) (λ p. isAstray (follow (sizes .pages) (F .verdict (sizes .slots) (slotIn (F .layout) (v .flash .words))) p .end)) ≡ false
   fills :
-      (widths : Widths) (sizes : Sizes) (words state : List ℕ)
-      → F .answer widths sizes words state ≡ 0
-      → F .outcome widths sizes words state
+      (widths : Widths) (sizes : Sizes) (v : Volume)
+      → F .answer widths sizes v ≡ 0
+      → F .outcome widths sizes v
       ≡ record {
         answer = 0;
-        second = linksFollowed (sizes .pages) (F .verdict (sizes .slots) (slotIn (F .layout) words));
-        left = stateWords (sizes .pages) (F .recovered (sizes .pages) (sizes .slots) (slotIn (F .layout) words));
+        second = linksFollowed (sizes .pages) (F .verdict (sizes .slots) (slotIn (F .layout) (v .flash .words)));
+        left = stateWords (sizes .pages) (F .recovered (sizes .pages) (sizes .slots) (slotIn (F .layout) (v .flash .words)));
       }
   -- and what any other gives
-  refuses : (widths : Widths) (sizes : Sizes) (words state : List ℕ) → ¬ (F .answer widths sizes words state ≡ 0) → F .outcome widths sizes words state ≡ record { answer = F .answer widths sizes words state; second = 0; left = state }
-  answers : (widths : Widths) (sizes : Sizes) (words state : List ℕ) → F .outcome widths sizes words state .answer ≡ F .answer widths sizes words state
+  refuses : (widths : Widths) (sizes : Sizes) (v : Volume) → ¬ (F .answer widths sizes v ≡ 0) → F .outcome widths sizes v ≡ record { answer = F .answer widths sizes v; second = 0; left = v .state }
+  answers : (widths : Widths) (sizes : Sizes) (v : Volume) → F .outcome widths sizes v .answer ≡ F .answer widths sizes v
 
 module _ {F : Following} (law : Follows F) where
   open Follows law using (inside, sound, none-astray, fills, refuses, answers)
 
   -- an accepted table's walks are not astray
   not-astray :
-      (widths : Widths) (sizes : Sizes) (words state : List ℕ)
-      → F .answer widths sizes words state ≡ 0
+      (widths : Widths) (sizes : Sizes) (v : Volume)
+      → F .answer widths sizes v ≡ 0
       → (p : ℕ)
       → p < sizes .pages
-      → ¬ (follow (sizes .pages) (F .verdict (sizes .slots) (slotIn (F .layout) words)) p .end ≡ ends.Astray)
-  not-astray widths sizes words state z p h e =
-      let walk = follow (sizes .pages) (F .verdict (sizes .slots) (slotIn (F .layout) words)) in
-      never (isAstray-exactly (walk p .end) .1 e) (some-not-at (λ p. isAstray (walk p .end)) (sizes .pages) p (none-astray widths sizes words state z) h)
+      → ¬ (follow (sizes .pages) (F .verdict (sizes .slots) (slotIn (F .layout) (v .flash .words))) p .end ≡ ends.Astray)
+  not-astray widths sizes v z p h e =
+      let walk = follow (sizes .pages) (F .verdict (sizes .slots) (slotIn (F .layout) (v .flash .words))) in
+      never (isAstray-exactly (walk p .end) .1 e) (some-not-at (λ p. isAstray (walk p .end)) (sizes .pages) p (none-astray widths sizes v z) h)
 
   -- ---- the steps
 
@@ -94,12 +97,12 @@ module _ {F : Following} (law : Follows F) where
         walked = λ P S t p sure. links-walked P (F .verdict S t) p sure;
         exactly = λ P S t sound p n e h w. walked-exactly P (F .verdict S t) p h (inside S t P sound) e n w;
         all-end = not-astray;
-        summed = λ widths sizes words state e end links walks.
-            ap (λ (o : Outcome (List ℕ)). o .second) (fills widths sizes words state e)
-            ∙ followed-sum (sizes .pages) (F .verdict (sizes .slots) (slotIn (F .layout) words)) (inside (sizes .slots) (slotIn (F .layout) words) (sizes .pages) (sound widths sizes words state e)) end links walks;
-        least = λ widths sizes words state e.
-            rw (fills widths sizes words state e) (followed-least (sizes .pages) (F .verdict (sizes .slots) (slotIn (F .layout) words)) (not-astray widths sizes words state e));
-        refused = λ widths sizes words state n. ap (λ (o : Outcome (List ℕ)). o .second) (refuses widths sizes words state n);
+        summed = λ widths sizes v e end links walks.
+            ap (λ (o : Outcome (List ℕ)). o .second) (fills widths sizes v e)
+            ∙ followed-sum (sizes .pages) (F .verdict (sizes .slots) (slotIn (F .layout) (v .flash .words))) (inside (sizes .slots) (slotIn (F .layout) (v .flash .words)) (sizes .pages) (sound widths sizes v e)) end links walks;
+        least = λ widths sizes v e.
+            rw (fills widths sizes v e) (followed-least (sizes .pages) (F .verdict (sizes .slots) (slotIn (F .layout) (v .flash .words))) (not-astray widths sizes v e));
+        refused = λ widths sizes v n. ap (λ (o : Outcome (List ℕ)). o .second) (refuses widths sizes v n);
         ring = λ P S t k page r inside i h. ring-walk r P i (ring-most r P inside) h;
       }
 
@@ -110,10 +113,10 @@ module _ {F : Following} (law : Follows F) where
       record {
         walks = λ P S t sound p n e h w. walked-most P (F .verdict S t) p h (inside S t P sound) e n w;
         sums = λ P S t sound end links walks. sum-most P P (λ p h. walked-most P (F .verdict S t) p h (inside S t P sound) (end p) (links p) (walks p h));
-        returned = λ widths sizes words state.
-            elim (ℕ-discrete (F .answer widths sizes words state) 0) [
-              | yes e ↦ rw (fills widths sizes words state e) (followed-most (sizes .pages) (F .verdict (sizes .slots) (slotIn (F .layout) words)))
-              | no n ↦ rw (refuses widths sizes words state n) (omega arith)
+        returned = λ widths sizes v.
+            elim (ℕ-discrete (F .answer widths sizes v) 0) [
+              | yes e ↦ rw (fills widths sizes v e) (followed-most (sizes .pages) (F .verdict (sizes .slots) (slotIn (F .layout) (v .flash .words))))
+              | no n ↦ rw (refuses widths sizes v n) (omega arith)
             ];
       }
 
@@ -125,8 +128,8 @@ module _ {F : Following} (law : Follows F) where
       record {
         ends-alone = λ P S t p. end-alone (F .verdict S t) p P p;
         answer = answers;
-        filled = λ widths sizes words state e. ap (λ (o : Outcome (List ℕ)). o .left) (fills widths sizes words state e);
-        unaltered = λ widths sizes words state n. ap (λ (o : Outcome (List ℕ)). o .left) (refuses widths sizes words state n);
+        filled = λ widths sizes v e. ap (λ (o : Outcome (List ℕ)). o .left) (fills widths sizes v e);
+        unaltered = λ widths sizes v n. ap (λ (o : Outcome (List ℕ)). o .left) (refuses widths sizes v n);
       }
 
 -- ---- the one-ring table
@@ -195,18 +198,19 @@ record Rings (F : Following) : Type 0 where
   leads : (P S : ℕ) → P ≤ S → (p : ℕ) → p < P → F .verdict S (slotIn (F .layout) (oneRing (F .layout) P S)) p ≡ says.On (nextInRing P p)
   finds : (P S : ℕ) → P ≤ S → (p : ℕ) → p < P → F .recovered P S (slotIn (F .layout) (oneRing (F .layout) P S)) p ≡ atRest 1 1
   accepts :
-      (widths : Widths) (sizes : Sizes) (state : List ℕ)
+      (widths : Widths) (sizes : Sizes) (contents state : List ℕ)
       → sizesOk widths sizes ≡ true
+      → length contents ≡ sizes .width * sizes .slots
       → length state ≡ 4 * sizes .pages
-      → F .answer widths sizes (oneRing (F .layout) (sizes .pages) (sizes .slots)) state ≡ 0
+      → F .answer widths sizes (volume (oneRing (F .layout) (sizes .pages) (sizes .slots)) contents state) ≡ 0
 
 reaches : {F : Following} → Follows F → Rings F → OneRingReaches F
-reaches {F} law rings widths sizes state ok long =
+reaches {F} law rings widths sizes contents state ok full long =
     let P = sizes .pages in
     let S = sizes .slots in
     let t = slotIn (F .layout) (oneRing (F .layout) P S) in
     let room = sizes-facts widths sizes ok .0 .slots-least in
-    law .fills widths sizes (oneRing (F .layout) P S) state (rings .accepts widths sizes state ok long)
+    law .fills widths sizes (volume (oneRing (F .layout) P S) contents state) (rings .accepts widths sizes contents state ok full long)
     ∙ ap₂ {C = Outcome (List ℕ)} (λ (n : ℕ) (l : List ℕ). record { answer = 0; second = n; left = l })
     (one-ring-followed P (F .verdict S t) (rings .leads P S room))
     (stateWords-cong P (F .recovered P S t) (λ p. atRest 1 1) (rings .finds P S room))
@@ -218,11 +222,11 @@ unfolding walkOf linksOf recoverOutcome
 back-pointing-follows =
     record {
       inside = verdict-inside;
-      sound = λ widths sizes words state e. recover-tests widths sizes state words e .sound;
-      none-astray = λ widths sizes words state e. recover-tests widths sizes state words e .none-astray;
+      sound = λ widths sizes v e. recover-tests widths sizes v e .sound;
+      none-astray = λ widths sizes v e. recover-tests widths sizes v e .none-astray;
       fills = recover-fills;
       refuses = recover-refused;
-      answers = λ widths sizes words state. settled-answer (recoverAnswer widths sizes words state) _ _ _ _;
+      answers = λ widths sizes v. settled-answer (recoverAnswer widths sizes v) _ _ _ _;
     }
 
 module _ (P S : ℕ) (room : P ≤ S) where
@@ -244,17 +248,17 @@ module _ (P S : ℕ) (room : P ≤ S) where
       (λ p h. rw (ring-committed p h) (has-version t S p 1 .1 (p, ringRecord P p, omega arith, ring-each FiveWords P S room .each p h, refl, refl)))
 
 back-pointing-rings : Rings backPointing
-unfolding recovered recoverAnswer walkOf
+unfolding recovered recoverAnswer volumeFitsIn contentsFit walkOf
 back-pointing-rings =
     record {
       leads = ring-verdict;
       finds = λ P S room p h. ap₂ atRest (ring-committed P S room p h) (ring-used FiveWords P S room p h);
-      accepts = λ widths sizes state ok long.
+      accepts = λ widths sizes contents state ok full long.
           let P = sizes .pages in
           let S = sizes .slots in
           let room = sizes-facts widths sizes ok .0 .slots-least in
           let one = ring-each FiveWords P S room in
-          rw (recoverAnswer, ok, ring-fits FiveWords P S, state-fits-exactly P state .1 long, ring-sound FiveWords P S room, none-clash one, all-have one, ring-sure backPointing P S (t P S room) (ring-verdict P S room), ring-there P S room);
+          rw (recoverAnswer, volumeFitsIn, ok, ring-fits FiveWords P S, eq-eqb (length contents) (sizes .width * S) full, state-fits-exactly P state .1 long, ring-sound FiveWords P S room, unclashed S (t P S room) (twins (sizes .width) (flash (oneRing FiveWords P S) contents)) (none-clash one), all-have one, ring-sure backPointing P S (t P S room) (ring-verdict P S room), ring-there P S room);
     }
 
 pub links-are-steps : LinksAreSteps backPointing
@@ -300,11 +304,11 @@ unfolding simpleWalkOf simpleLinksOf simpleRecoverOutcome
 simple-follows =
     record {
       inside = simple-verdict-inside;
-      sound = λ widths sizes words state e. simple-recover-tests widths sizes words state e .sound;
-      none-astray = λ widths sizes words state e. simple-recover-tests widths sizes words state e .none-astray;
-      fills = λ widths sizes words state e. settled-done (simpleRecoverAnswer widths sizes words state) _ _ _ _ e;
-      refuses = λ widths sizes words state n. settled-refused (simpleRecoverAnswer widths sizes words state) _ _ _ _ n;
-      answers = λ widths sizes words state. settled-answer (simpleRecoverAnswer widths sizes words state) _ _ _ _;
+      sound = λ widths sizes v e. simple-recover-tests widths sizes (v .flash .words) (v .state) e .sound;
+      none-astray = λ widths sizes v e. simple-recover-tests widths sizes (v .flash .words) (v .state) e .none-astray;
+      fills = λ widths sizes v e. settled-done (simpleRecoverAnswer widths sizes (v .flash .words) (v .state)) _ _ _ _ e;
+      refuses = λ widths sizes v n. settled-refused (simpleRecoverAnswer widths sizes (v .flash .words) (v .state)) _ _ _ _ n;
+      answers = λ widths sizes v. settled-answer (simpleRecoverAnswer widths sizes (v .flash .words) (v .state)) _ _ _ _;
     }
 
 module _ (P S : ℕ) (room : P ≤ S) where
@@ -331,7 +335,7 @@ simple-rings =
     record {
       leads = simple-ring-verdict;
       finds = λ P S room p h. ap₂ atRest (ap versionIn (simple-ring-committed P S room p h)) (ring-used FourWords P S room p h);
-      accepts = λ widths sizes state ok long.
+      accepts = λ widths sizes contents state ok full long.
           let P = sizes .pages in
           let S = sizes .slots in
           let room = sizes-facts widths sizes ok .0 .slots-least in

@@ -6,6 +6,7 @@ use Rattle.bounded.specs.Limits.{noNumber, Widths}
 use Rattle.outcome.specs.OutcomeLaws.{settled-refused, settled-done}
 use Rattle.sizes.specs.declared.Layout.{Layout}
 use Rattle.sizes.specs.declared.Sizes.{Sizes}
+use Rattle.sizes.specs.Blocks.{blockAt}
 use Rattle.record.specs.Slot.{bytesAt}
 use Rattle.record.specs.Flash.{applyAll}
 use Rattle.state.specs.State.{stateAt, stateWords}
@@ -17,6 +18,7 @@ use Rattle.rules.specs.Launch.{launchAnswer, launchOutcome}
 use Rattle.rules.specs.Write.{writeAnswer, writeDone, writeChange, writeOutcome}
 use Rattle.rules.specs.Withdraw.{withdrawAnswer, withdrawOutcome}
 use Rattle.rules.specs.Erase.{eraseAnswer, eraseSteps, eraseOutcome}
+use Rattle.rules.specs.Clean.{cleanSteps, cleanAnswer, cleanOutcome}
 use Rattle.rules.specs.Suggest.{suggestAnswer, suggestedSlot, suggestOutcome}
 
 module _ (layout : Layout) (widths : Widths) (sizes : Sizes) (v : Volume) where
@@ -73,11 +75,20 @@ module _ (widths : Widths) (sizes : Sizes) (v : Volume) (slots : List ℕ) where
   unfolding eraseOutcome
   erase-done e = settled-done (eraseAnswer widths sizes v slots) 0 0 (v .flash) (applyAll (sizes .width) (v .flash) (eraseSteps slots)) e
 
-module _ (widths : Widths) (sizes : Sizes) (words state : List ℕ) where
-  pub suggest-refused : ¬ (suggestAnswer widths sizes words state ≡ 0) → suggestOutcome widths sizes words state ≡ record { answer = suggestAnswer widths sizes words state; second = noNumber; left = tt }
+module _ (widths : Widths) (sizes : Sizes) (v : Volume) where
+  pub suggest-refused : ¬ (suggestAnswer widths sizes v ≡ 0) → suggestOutcome widths sizes v ≡ record { answer = suggestAnswer widths sizes v; second = noNumber; left = tt }
   unfolding suggestOutcome
-  suggest-refused h = settled-refused (suggestAnswer widths sizes words state) noNumber (suggestedSlot (sizes .slots) words state) tt tt h
+  suggest-refused h = settled-refused (suggestAnswer widths sizes v) noNumber (suggestedSlot sizes v) tt tt h
 
-  pub suggest-done : suggestAnswer widths sizes words state ≡ 0 → suggestOutcome widths sizes words state ≡ record { answer = 0; second = suggestedSlot (sizes .slots) words state; left = tt }
+  pub suggest-done : suggestAnswer widths sizes v ≡ 0 → suggestOutcome widths sizes v ≡ record { answer = 0; second = suggestedSlot sizes v; left = tt }
   unfolding suggestOutcome
-  suggest-done e = settled-done (suggestAnswer widths sizes words state) noNumber (suggestedSlot (sizes .slots) words state) tt tt e
+  suggest-done e = settled-done (suggestAnswer widths sizes v) noNumber (suggestedSlot sizes v) tt tt e
+
+module _ (widths : Widths) (sizes : Sizes) (v : Volume) (block : ℕ) where
+  pub clean-refused : ¬ (cleanAnswer widths sizes v block ≡ 0) → cleanOutcome widths sizes v block ≡ record { answer = cleanAnswer widths sizes v block; second = 0; left = v .flash }
+  unfolding cleanOutcome
+  clean-refused h = settled-refused (cleanAnswer widths sizes v block) 0 0 (v .flash) (applyAll (sizes .width) (v .flash) (cleanSteps sizes v (blockAt (sizes .slots) block))) h
+
+  pub clean-done : cleanAnswer widths sizes v block ≡ 0 → cleanOutcome widths sizes v block ≡ record { answer = 0; second = 0; left = applyAll (sizes .width) (v .flash) (cleanSteps sizes v (blockAt (sizes .slots) block)) }
+  unfolding cleanOutcome
+  clean-done e = settled-done (cleanAnswer widths sizes v block) 0 0 (v .flash) (applyAll (sizes .width) (v .flash) (cleanSteps sizes v (blockAt (sizes .slots) block))) e

@@ -1,13 +1,15 @@
--- "May be erased" is exactly document 01's sentence, as a proposition.
+-- "May be erased" is exactly document 01's sentence, as a proposition; and so is what document 02 says of a slot with twins.
 use Prim.Native.Nat.{ℕ, _<_}
-use mathlib.Core.Path.{_≡_}
+use mathlib.Core.Path.{_≡_, ap}
 use mathlib.Core.List.{List}
 use mathlib.Core.Logic.{_⊎_, _↔_}
-use mathlib.Core.Bool.{true, not, _&&_}
+use mathlib.Core.Bool.{Bool, true, false, not, _&&_}
 use lib.Dec.{ltb, eqb}
 use lib.ListN.{length, getD}
-use Rattle.bounded.specs.Choice.{negated, conjoined, disjoined, below-test, equal-test}
-use Rattle.bounded.specs.BelowLaws.{all-each}
+use borrow.Author.Tests.{not-true}
+use Rattle.bounded.specs.Choice.{both, both-left, both-right, negated, conjoined, disjoined, below-test, equal-test}
+use Rattle.bounded.specs.BelowLaws.{all-each, some-at, some-of}
+use Rattle.sizes.specs.Sizes.{listed}
 use Rattle.record.specs.declared.Record.{Record}
 use Rattle.record.specs.declared.Slot.{Slot}
 use Rattle.record.specs.declared.Slot.the-variants.{Holds}
@@ -15,7 +17,7 @@ use Rattle.record.specs.Slot.{someRecord, straddles}
 use Rattle.record.specs.SlotLaws.{Straddles, straddles-exactly, holds-exactly, some-record}
 use Rattle.state.specs.declared.PageState.{PageState}
 use Rattle.state.specs.State.{inFlight}
-use Rattle.rules.specs.Permission.{isObsolete, isExposed, outdoneBy, supports, isNeeded, isCurrent, mayEraseRecord, mayErase, mayEraseAll}
+use Rattle.rules.specs.Permission.{isObsolete, isExposed, outdoneBy, supports, isNeeded, isCurrent, mayEraseRecord, mayErase, twinOutside, mayEraseFrom, mayEraseAll}
 
 module _ (st : ℕ → PageState) (r : Record) where
   -- "A record is obsolete if v is below its page's committed version, exposed if above."
@@ -90,7 +92,21 @@ module _ (S : ℕ) (t : ℕ → Slot) (st : ℕ → PageState) where
     λ w. holds-exactly (mayEraseRecord S t st) (t k) .1 (w .0, w .1, erasable-exactly (w .0) .1 (w .2)),
   )
 
-  -- each listed slot may be erased
-  pub may-erase-all : (slots : List ℕ) → (mayEraseAll S t st slots ≡ true) ↔ ((i : ℕ) → i < length slots → mayErase S t st (getD slots i 0) ≡ true)
-  unfolding mayEraseAll
-  may-erase-all slots = all-each (λ i. mayErase S t st (getD slots i 0)) (length slots)
+  module _ (twin : ℕ → ℕ → Bool) where
+    -- a slot "whose twin is outside the erase list"
+    pub twin-outside-exactly : (inList : ℕ → Bool) (k : ℕ) → (twinOutside S twin inList k ≡ true) ↔ ((j : ℕ) × (j < S) × (twin j k ≡ true) × (inList j ≡ false))
+    unfolding twinOutside
+    twin-outside-exactly inList k = (
+      λ e. let w = some-at (λ j. twin j k && not (inList j)) S e in (w .0, w .1, both-left (twin (w .0) k) (not (inList (w .0))) (w .2), not-true (inList (w .0)) (both-right (twin (w .0) k) (not (inList (w .0))) (w .2))),
+      λ w. some-of (λ j. twin j k && not (inList j)) S (w .0) (w .1) (both (w .2) (ap not (w .3))),
+    )
+
+    -- "A slot whose twin is outside the erase list may always be erased, and if all twins are listed the old rule judges them"
+    pub may-erase-from : (inList : ℕ → Bool) (k : ℕ) → (mayEraseFrom S t st twin inList k ≡ true) ↔ (((j : ℕ) × (j < S) × (twin j k ≡ true) × (inList j ≡ false)) ⊎ (mayErase S t st k ≡ true))
+    unfolding mayEraseFrom
+    may-erase-from inList k = disjoined (twinOutside S twin inList k) (mayErase S t st k) (twin-outside-exactly inList k) (λ e. e, λ e. e)
+
+    -- each listed slot may be erased
+    pub may-erase-all : (slots : List ℕ) → (mayEraseAll S t st twin slots ≡ true) ↔ ((i : ℕ) → i < length slots → mayEraseFrom S t st twin (listed slots) (getD slots i 0) ≡ true)
+    unfolding mayEraseAll
+    may-erase-all slots = all-each (λ i. mayEraseFrom S t st twin (listed slots) (getD slots i 0)) (length slots)

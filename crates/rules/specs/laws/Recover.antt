@@ -1,32 +1,36 @@
 -- What recover's definitions say as propositions, and what its outcome depends on.
 use Prim.Native.Nat.{ℕ, _<_}
 use native.Mathlib.Omega.{arith}
-use mathlib.Core.Path.{_≡_, refl, sym}
+use mathlib.Core.Path.{_≡_, refl, sym, ap}
 use mathlib.Core.List.{List}
 use mathlib.Core.Logic.{_↔_}
-use mathlib.Core.Bool.{Bool, true, false, cond}
-use lib.Dec.{ltb}
+use mathlib.Core.Bool.{Bool, true, false, cond, not, _&&_}
+use lib.Dec.{ltb, eqb}
 use lib.ListN.{length}
 use Rattle.bounded.specs.Limits.{Widths}
 use Rattle.bounded.specs.Below.{someBelow}
-use Rattle.bounded.specs.Choice.{never}
-use Rattle.bounded.specs.BelowLaws.{some-at, some-of}
+use borrow.Author.Tests.{eqb-true}
+use Rattle.bounded.specs.Choice.{never, on-test, both-left, both-right}
+use Rattle.bounded.specs.BelowLaws.{some-at, some-of, some-none, some-not-at}
 use Rattle.outcome.specs.OutcomeLaws.{settled-refused, settled-done}
 use Rattle.sizes.specs.declared.Sizes.{Sizes}
-use Rattle.sizes.specs.Sizes.{stateFits}
+use Rattle.sizes.specs.Sizes.{contentsFit, stateFits}
 use Rattle.record.specs.declared.Record.{Record}
 use Rattle.record.specs.declared.Slot.{Slot}
 use Rattle.record.specs.declared.Slot.the-variants.{Blank, Holds}
 use Rattle.record.specs.Slot.{slotAt, straddles}
-use Rattle.record.specs.SlotLaws.{sound-facts, Straddles, straddles-exactly, some-record}
+use Rattle.record.specs.Flash.{Flash, flash}
+use Rattle.record.specs.SlotLaws.{sound-facts, Straddles, straddles-exactly, holds-exactly, some-record}
 use Rattle.state.specs.State.{stateWords}
-use Rattle.table.specs.Table.{tableSound, highest, highestVersionOf}
+use Rattle.table.specs.Table.{tableSound, ofVersion, clash, someClash, highest, highestVersionOf}
 use Rattle.table.specs.TableLaws.{highest-is, highest-held, sound-at}
 use Rattle.follow.specs.declared.Verdict.the-variants as says
 use Rattle.follow.specs.declared.End.{End}
 use Rattle.follow.specs.declared.End.the-variants as ends
 use Rattle.follow.specs.Astray.{RunsIntoRing, astray-exactly}
 use Rattle.follow.specs.Follow.{isAstray}
+use Rattle.twins.specs.Twins.{twins, someConflict}
+use Rattle.rules.specs.Volume.{Volume, volume, volumeFitsIn}
 use Rattle.rules.specs.Verdict.{isStraddled, linkVerdict, slotVerdict, verdict}
 use Rattle.rules.specs.Recover.{walkOf, linksOf, recovered, recoverAnswer, recoverOutcome}
 
@@ -87,25 +91,66 @@ astray-means P S t sound = (
       (isAstray-exactly (walkOf P S t (w .0) .end) .1 (astray-exactly (verdict S t) (w .0) P (w .1) (verdict-inside S t P sound) .1 (w .2))),
 )
 
--- ---- recovery reads only the slot table
+-- ---- twins
 
--- The answer depends on P, S, the slot words and the state's length alone,
-pub recover-answer-reads : (widths : Widths) (sizes : Sizes) (words a b : List ℕ) → length a ≡ length b → recoverAnswer widths sizes words a ≡ recoverAnswer widths sizes words b
-unfolding recoverAnswer stateFits
-recover-answer-reads widths sizes words a b e = rw (recoverAnswer, stateFits, e)
+-- where no two records have equal page and version, no two conflict
+pub unclashed : (S : ℕ) (t : ℕ → Slot) (twin : ℕ → ℕ → Bool) → someClash S t ≡ false → someConflict S t twin ≡ false
+unfolding someClash someConflict
+unclashed S t twin e =
+    some-none (λ k. someBelow k (λ j. clash (t j) (t k) && not (twin j k))) S
+    (λ k h. some-none (λ j. clash (t j) (t k) && not (twin j k)) k
+    (λ j l. ap (λ (b : Bool). b && not (twin j k)) (some-not-at (λ j. clash (t j) (t k)) k j (some-not-at (λ k. someBelow k (λ j. clash (t j) (t k))) S k e h) l)))
 
--- and so do the words that an accepted recover fills, and the number of links that it returns.
+clash-records : (x y : Slot) → clash x y ≡ true → (a : Record) × (b : Record) × (x ≡ Holds a) × (y ≡ Holds b) × (a .p ≡ b .p) × (a .v ≡ b .v)
+unfolding clash ofVersion
+clash-records x Blank e = absurd (never e refl)
+clash-records x (Holds b) e =
+    let h = holds-exactly (ofVersion (b .p) (b .v)) x .0 e in
+    (h .0, b, h .1, refl, eqb-true (h .0 .p) (b .p) (both-left (eqb (h .0 .p) (b .p)) (eqb (h .0 .v) (b .v)) (h .2)), eqb-true (h .0 .v) (b .v) (both-right (eqb (h .0 .p) (b .p)) (eqb (h .0 .v) (b .v)) (h .2)))
+
+-- "for equal page and version recovery gives 3 only if the two are no twins": where all such records are twins, none conflict
+pub twins-agree :
+    (S : ℕ) (t : ℕ → Slot) (twin : ℕ → ℕ → Bool)
+    → ((j k : ℕ) (a b : Record) → j < k → k < S → t j ≡ Holds a → t k ≡ Holds b → a .p ≡ b .p → a .v ≡ b .v → twin j k ≡ true)
+    → someConflict S t twin ≡ false
+unfolding someConflict
+twins-agree S t twin agree =
+    some-none (λ k. someBelow k (λ j. clash (t j) (t k) && not (twin j k))) S
+    (λ k h. some-none (λ j. clash (t j) (t k) && not (twin j k)) k
+    (λ j l. on-test (clash (t j) (t k)) (λ e. let c = clash-records (t j) (t k) e in rw (e, agree j k (c .0) (c .1) l h (c .2) (c .3) (c .4) (c .5))) (λ e. rw e)))
+
+-- ---- what recovery reads
+
+-- The answer depends on P, S, the width, the flash and the state's length alone,
+pub recover-answer-reads : (widths : Widths) (sizes : Sizes) (f : Flash) (a b : List ℕ) → length a ≡ length b → recoverAnswer widths sizes (record { flash = f; state = a }) ≡ recoverAnswer widths sizes (record { flash = f; state = b })
+unfolding recoverAnswer volumeFitsIn stateFits
+recover-answer-reads widths sizes f a b e = rw (recoverAnswer, volumeFitsIn, stateFits, e)
+
+-- the words that an accepted recover fills, and the number of links that it returns, on the slot table alone,
 pub recover-fills :
-    (widths : Widths) (sizes : Sizes) (words a : List ℕ)
-    → recoverAnswer widths sizes words a ≡ 0
-    → recoverOutcome widths sizes words a
-    ≡ record { answer = 0; second = linksOf (sizes .pages) (sizes .slots) (slotAt words); left = stateWords (sizes .pages) (recovered (sizes .pages) (sizes .slots) (slotAt words)) }
+    (widths : Widths) (sizes : Sizes) (v : Volume)
+    → recoverAnswer widths sizes v ≡ 0
+    → recoverOutcome widths sizes v
+    ≡ record {
+      answer = 0;
+      second = linksOf (sizes .pages) (sizes .slots) (slotAt (v .flash .words));
+      left = stateWords (sizes .pages) (recovered (sizes .pages) (sizes .slots) (slotAt (v .flash .words)));
+    }
 unfolding recoverOutcome
-recover-fills widths sizes words a e =
-    settled-done (recoverAnswer widths sizes words a) 0 (linksOf (sizes .pages) (sizes .slots) (slotAt words)) a (stateWords (sizes .pages) (recovered (sizes .pages) (sizes .slots) (slotAt words))) e
+recover-fills widths sizes v e =
+    settled-done (recoverAnswer widths sizes v) 0 (linksOf (sizes .pages) (sizes .slots) (slotAt (v .flash .words))) (v .state) (stateWords (sizes .pages) (recovered (sizes .pages) (sizes .slots) (slotAt (v .flash .words)))) e
+
+-- and of the contents it sees only which records of equal page and version are twins.
+pub recover-reads-twins :
+    (widths : Widths) (sizes : Sizes) (words a b state : List ℕ)
+    → length a ≡ length b
+    → twins (sizes .width) (flash words a) ≡ twins (sizes .width) (flash words b)
+    → recoverOutcome widths sizes (volume words a state) ≡ recoverOutcome widths sizes (volume words b state)
+unfolding recoverOutcome recoverAnswer volumeFitsIn contentsFit
+recover-reads-twins widths sizes words a b state e same = rw (recoverOutcome, recoverAnswer, volumeFitsIn, contentsFit, e, same)
 
 -- A refused recover leaves the state as it was, and its second number is 0.
-pub recover-refused : (widths : Widths) (sizes : Sizes) (words a : List ℕ) → ¬ (recoverAnswer widths sizes words a ≡ 0) → recoverOutcome widths sizes words a ≡ record { answer = recoverAnswer widths sizes words a; second = 0; left = a }
+pub recover-refused : (widths : Widths) (sizes : Sizes) (v : Volume) → ¬ (recoverAnswer widths sizes v ≡ 0) → recoverOutcome widths sizes v ≡ record { answer = recoverAnswer widths sizes v; second = 0; left = v .state }
 unfolding recoverOutcome
-recover-refused widths sizes words a h =
-    settled-refused (recoverAnswer widths sizes words a) 0 (linksOf (sizes .pages) (sizes .slots) (slotAt words)) a (stateWords (sizes .pages) (recovered (sizes .pages) (sizes .slots) (slotAt words))) h
+recover-refused widths sizes v h =
+    settled-refused (recoverAnswer widths sizes v) 0 (linksOf (sizes .pages) (sizes .slots) (slotAt (v .flash .words))) (v .state) (stateWords (sizes .pages) (recovered (sizes .pages) (sizes .slots) (slotAt (v .flash .words)))) h

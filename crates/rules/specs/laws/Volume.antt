@@ -1,5 +1,5 @@
 -- What the test of a volume's sizes and lengths says, as facts.
-use Prim.Native.Nat.{ℕ, _*_}
+use Prim.Native.Nat.{ℕ, _*_, _<_}
 use mathlib.Core.Path.{_≡_}
 use mathlib.Core.Logic.{_↔_}
 use mathlib.Core.Bool.{Bool, true, _&&_}
@@ -11,8 +11,16 @@ use Rattle.sizes.specs.declared.Layout.the-variants.{FiveWords}
 use Rattle.sizes.specs.declared.Sizes.{Sizes}
 use Rattle.sizes.specs.Sizes.{sizesOk, wordsFitIn, contentsFit, stateFits}
 use Rattle.sizes.specs.SizesLaws.{SizesFacts, sizes-facts, sizes-test, words-fit-in, contents-fit-exactly, state-fits-exactly}
+use Rattle.bounded.specs.PartsLaws.{part-length}
+use Rattle.record.specs.Slot.{bytesAt}
+use Rattle.record.specs.Flash.{Flash}
 use Rattle.record.specs.FlashLaws.{SizedIn}
 use Rattle.rules.specs.Volume.{Volume, volumeFitsIn, volumeFits}
+
+-- each slot of a flash has its w bytes
+pub bytes-whole : {layout : Layout} (w S : ℕ) (f : Flash) → SizedIn layout w S f → (k : ℕ) → k < S → length (bytesAt w (f .contents) k) ≡ w
+unfolding bytesAt
+bytes-whole w S f size k h = part-length w S k (f .contents) h (size .contents-sized)
 
 -- P, S, the width and the lengths of a volume's buffers are right
 pub record FitsIn (layout : Layout) (widths : Widths) (sizes : Sizes) (v : Volume) : Type 0 where

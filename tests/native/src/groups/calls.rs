@@ -1,5 +1,6 @@
 //! The calls against the second implementation.
 
+pub mod cleanings;
 pub mod exhaustive;
 pub mod lengths;
 pub mod volumes;
@@ -31,6 +32,14 @@ pub fn tests(group: &mut Group, layout: Layout) {
     if layout.family == Family::Bpcc {
         group.plain("count of every bit and every byte", || lengths::compare_counts(&compared, layout));
         group.plain("count of every length", || lengths::compare_counted_lengths(&compared));
+        group.test("each block of 10,000 volumes cleaned, every kind of cleaning met at least 100 times", || {
+            cleanings::compare(&compared, layout, 10_000)
+        });
+        for (pages, highest) in [(1, 2), (2, 1)] {
+            group.test(&format!("every table of four slots at a block's end, P = {pages}, versions up to {highest}, cleaned"), || {
+                format!("{} tables", exhaustive::boundary_tables(&compared, layout, pages, highest))
+            });
+        }
     }
     group.plain("the largest volume, one transaction over all pages", || volumes::compare_largest(&compared, layout));
     group.plain("lists of 100,001 entries", || volumes::compare_long_lists(&compared, layout));

@@ -1,7 +1,10 @@
-//! Document 01's table of cases and those of document 02's four-word records, by the implementation under test and by the second one.
+//! Document 01's table of cases, document 02's sentences on twins and cleaning, and its four-word records, by the implementation under
+//! test and by the second one.
 
+pub mod cleaning;
 pub mod five_words;
 pub mod four_words;
+pub mod twins;
 
 use crate::harness::Group;
 use crate::implementations::reference::Reference;
@@ -16,6 +19,16 @@ const FIVE_WORDS: &[Case] = &[
     ("cases 1 to 5 and 11: what recovery finds", five_words::recoveries),
     ("cases 9 and 10: what recovery refuses", five_words::refused_recoveries),
     ("cases 6 to 8: needed straddlers", five_words::needed_straddlers),
+    ("twins: equal in all words and bytes, or a clash", twins::recoveries),
+    ("twins: one outside the list, or the old rule", twins::erasures),
+    ("twins in flight at used and of needed straddlers", twins::kept_twins),
+    ("twins: suggest judges a list of one", twins::suggestions),
+    ("cleaning: what stays is copied, rising, to the lowest blank slots outside", cleaning::copies),
+    ("cleaning: of twins only the lowest, and none with a twin outside", cleaning::twins),
+    ("cleaning: 15 where fewer slots are blank than are copied", cleaning::limit),
+    ("cleaning: which blocks there are, and what is refused first", cleaning::blocks),
+    ("cleaning: a needed straddler stays with the record that needs it", cleaning::straddlers),
+    ("cleaning: twins after a crash between the copies", cleaning::crashes),
 ];
 
 const FOUR_WORDS: &[Case] = &[
@@ -23,6 +36,7 @@ const FOUR_WORDS: &[Case] = &[
     ("cases 4 and 5 without c: case 1 of recovery means committed", four_words::case_1_is_committed),
     ("an uncommitted highest version gives the second highest", four_words::second_highest),
     ("what recovery refuses: equal records, links astray, no second version", four_words::refused_recoveries),
+    ("equal records are no twins", four_words::no_twins),
     ("writes that would bury a record by its page and by its link", four_words::buried),
     ("a write that would bury to a slot that is not blank", four_words::not_blank_first),
     ("rings of one, two and three pages, written in any order", four_words::rings),
@@ -57,6 +71,11 @@ fn assert_refused(calls: &dyn Calls, layout: Layout, pages: u32, held: &[impl In
     let mut v = before.clone();
     assert_eq!(v.call(calls, &Call::Recover), Reply::refused(answer), "{name}");
     assert!(v == before, "{name} leaves the state");
+}
+
+/// A call's answer.
+fn answer(calls: &dyn Calls, v: &mut Volume, call: Call) -> u32 {
+    v.call(calls, &call).answer
 }
 
 /// The slot of a record.

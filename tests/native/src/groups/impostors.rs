@@ -1,13 +1,12 @@
 //! Implementations that are wrong in one way are told from a right one.
 
 use super::calls::volumes;
-use super::runs::small_runs;
-use crate::harness::{said, Group};
+use super::runs::{block_runs, small_runs};
+use crate::harness::{caught, Group};
 use crate::implementations::compared::Compared;
-use crate::implementations::impostors::faults::{faults, losing};
+use crate::implementations::impostors::faults::{faults, losing, losing_in_blocks};
 use crate::implementations::impostors::Impostor;
 use crate::volume::Layout;
-use std::panic::{catch_unwind, AssertUnwindSafe};
 
 pub fn tests(group: &mut Group, layout: Layout) {
     for fault in faults(layout.family) {
@@ -22,12 +21,13 @@ pub fn tests(group: &mut Group, layout: Layout) {
             })
         });
     }
-}
-
-/// How a test that must fail fails.
-fn caught(test: impl Fn()) -> String {
-    match catch_unwind(AssertUnwindSafe(test)) {
-        Ok(()) => panic!("not found"),
-        Err(panic) => said(&*panic).chars().take(60).collect(),
+    for fault in losing_in_blocks(layout.family, layout.width) {
+        group.test(&format!("{fault:?} loses a page in runs with cleanings and crashes"), || {
+            caught(|| {
+                for pages in [6, 3, 1] {
+                    block_runs(&Impostor(fault), layout, pages, 100, 400);
+                }
+            })
+        });
     }
 }

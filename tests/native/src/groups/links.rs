@@ -42,7 +42,7 @@ fn assert_recovers(calls: &dyn Calls, volume: &Volume, links: u32, versions: &[(
     assert!(got == expected, "{:?} recovers to {:?}", volume.sizes, got.state);
 }
 
-/// The one-ring table reaches P×P, whatever the contents are. Gives the number of tables.
+/// The one-ring table reaches P×P, whatever the contents are, and with a twin of each record, too. Gives the number of tables.
 fn one_rings(calls: &dyn Calls, layout: Layout) -> usize {
     let mut random = Random::new(u64::from(layout.width));
     let mut tables = 0;
@@ -55,6 +55,10 @@ fn one_rings(calls: &dyn Calls, layout: Layout) -> usize {
             assert_recovers(calls, &v, pages * pages, &stored);
             v.contents = random.bytes(layout.width * slots);
             assert_recovers(calls, &v, pages * pages, &stored);
+            if layout.family == Family::Bpcc && slots >= 2 * pages {
+                (0..pages).for_each(|p| v.copy_within(p, pages + p));
+                assert_recovers(calls, &v, pages * pages, &stored);
+            }
         }
     }
     tables

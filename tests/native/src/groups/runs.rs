@@ -6,7 +6,7 @@ pub mod run;
 use crate::harness::Group;
 use crate::implementations::compared::Compared;
 use crate::implementations::TESTED;
-use crate::interface::Calls;
+use crate::interface::{Calls, Family};
 use crate::volume::Layout;
 use run::{run, Tally};
 
@@ -30,6 +30,35 @@ pub fn tests(group: &mut Group, layout: Layout) {
         told(small_runs(&Compared::new(TESTED), layout, 3, 50, 400))
     });
     group.test("a volume with no slot to spare", || told(run(TESTED, layout.sizes(4, 4), 2000, 1, 1)));
+    if layout.family == Family::Bpcc {
+        several_blocks(group, layout);
+    }
+}
+
+/// Volumes of two blocks or more, which are cleaned.
+fn several_blocks(group: &mut Group, layout: Layout) {
+    for pages in [1, 2, 3, 6] {
+        group.test(&format!("60 runs of 400 calls and crashes, P = {pages}, S from 65 to 200, cleaned"), || {
+            told(block_runs(TESTED, layout, pages, 60, 400))
+        });
+    }
+    for slots in [130, 200] {
+        group.test(&format!("2,000 calls and crashes, P = 60, S = {slots}, cleaned"), || {
+            told(run(TESTED, layout.sizes(60, slots), 2000, 10, 1))
+        });
+    }
+    group.test("10 runs of 400 calls and crashes, P = 3, S from 65 to 200, cleaned, every call compared", || {
+        told(block_runs(&Compared::new(TESTED), layout, 3, 10, 400))
+    });
+}
+
+/// Runs with crashes over volumes of two to four blocks, the last of one slot, of some, or whole.
+pub fn block_runs(calls: &dyn Calls, layout: Layout, pages: u32, seeds: u64, events: u32) -> Tally {
+    let mut all = Tally::default();
+    for (seed, slots) in (0..seeds).zip([65, 200, 66, 129, 70, 150, 80, 192, 100, 128].into_iter().cycle()) {
+        all.add(run(calls, layout.sizes(pages, slots), events, 1, seed * 1000 + u64::from(pages)));
+    }
+    all
 }
 
 /// Many runs with crashes over small volumes.
@@ -42,10 +71,12 @@ pub fn small_runs(calls: &dyn Calls, layout: Layout, pages: u32, seeds: u64, eve
     all
 }
 
-fn told(all: Tally) -> String {
+/// What runs met.
+pub fn told(all: Tally) -> String {
     let cured = if all.buried == 0 { String::new() } else { format!(" ({} by 16 and cured)", all.buried) };
+    let cleaned = if all.cleaned == 0 { String::new() } else { format!(" ({} cleanings, {} copies)", all.cleaned, all.copies) };
     format!(
-        "{} accepted, {} refused{cured}, {} crashes, {} completed, {} recoveries compared",
+        "{} accepted{cleaned}, {} refused{cured}, {} crashes, {} completed, {} recoveries compared",
         all.accepted, all.refused, all.crashes, all.completed, all.checks
     )
 }

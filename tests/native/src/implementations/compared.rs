@@ -70,7 +70,7 @@ impl Copies {
 
     /// The arguments with the copies in place of the buffers.
     fn lent(&mut self, a: &Arguments) -> Arguments<'_> {
-        let &Arguments { family, pages, slots, width, page, slot, .. } = a;
+        let &Arguments { family, pages, slots, width, page, slot, block, .. } = a;
         Arguments {
             family,
             pages,
@@ -78,6 +78,7 @@ impl Copies {
             width,
             page,
             slot,
+            block,
             words: self.words.lent(),
             contents: self.contents.lent(),
             state: self.state.lent(),

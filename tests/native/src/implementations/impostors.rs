@@ -1,13 +1,16 @@
 //! Implementations that are wrong in one way each, as documents 01 and 02 name them: the tests must tell every one from a right one.
 
+mod cleaning;
 pub mod faults;
 mod judging;
 mod recovering;
 
-use super::reference::{at_any_width, refusal, store, Reference};
-use crate::interface::{Arguments, Calls, Name, Reply, NONE};
-use crate::rules::{cycle, entry, lowest_slot, may_erase, planned, records, set_entry, set_slot, slot, slot_bytes};
-use crate::volume::Volume;
+use super::reference::{on, refusal, store, Reference, RIGHT};
+use crate::cleaning::{may_erase_alone, twins};
+use crate::crash::{stages, Stage};
+use crate::interface::{Arguments, Calls, Name, Reply, NONE, WIDTHS};
+use crate::rules::{cycle, entry, lowest_slot, planned, records, set_entry, set_slot, slot, slot_bytes};
+use crate::volume::{Call, Volume};
 pub use faults::Fault;
 
 pub struct Impostor(pub Fault);
@@ -17,8 +20,13 @@ impl Calls for Impostor {
     fn call(&self, name: Name, a: &mut Arguments) -> Reply {
         let width = if name == Name::Count { a.bytes.len() as u32 } else { a.width };
         match self.0 {
-            Fault::TakesAnyWidth(of) if of == name => return at_any_width(name, a),
+            Fault::TakesAnyWidth(of) if of == name => return on(RIGHT, name, a),
             Fault::Refuses64(of) if of == name && width == 64 => return refusal(name, 1),
+            _ => {}
+        }
+        match self.terms(name) {
+            Some(terms) if WIDTHS.contains(&width) => return on(terms, name, a),
+            _ if name == Name::Clean => return self.clean(a),
             _ => {}
         }
         let (before, out) = (Volume::copied(a), a.out.to_vec());
@@ -30,6 +38,14 @@ impl Calls for Impostor {
         self.put_back_behind_32(name, &before, &out, a);
         self.alter(name, &before, a);
         self.reply(name, &before, a, right)
+    }
+
+    fn stages(&self, call: &Call, before: &Volume, after: &Volume) -> Vec<Stage> {
+        let mut stages = stages(self.block_slots(), call, before, after);
+        if self.0 == Fault::DriverBlanksBeforeItCopies {
+            stages.reverse();
+        }
+        stages
     }
 }
 
@@ -69,7 +85,8 @@ impl Impostor {
         match (name, self.0) {
             (Name::Format, Fault::FormatFills32Bytes)
             | (Name::Write, Fault::WriteCopies32Bytes)
-            | (Name::Erase, Fault::EraseBlanks32Bytes) => {
+            | (Name::Erase, Fault::EraseBlanks32Bytes)
+            | (Name::Clean, Fault::CleanCopies32Bytes) => {
                 for bytes in (0..a.slots).map(|k| slot_bytes(a.width, k)) {
                     a.contents[bytes.clone()][32..].copy_from_slice(&before.contents[bytes][32..]);
                 }
@@ -126,11 +143,11 @@ impl Impostor {
                 blank.map_or(right, Reply::done)
             }
             (Name::Suggest, Fault::SuggestNamesTheHighestSlot) => {
-                let highest = (0..a.slots).rev().find(|&k| may_erase(a.family, a.words, a.state, k));
+                let highest = (0..a.slots).rev().find(|&k| may_erase_alone(a.view(), twins, k));
                 highest.map_or(right, Reply::done)
             }
             (Name::Suggest, Fault::SuggestSkipsSlotZero) => {
-                let later = (1..a.slots).find(|&k| may_erase(a.family, a.words, a.state, k));
+                let later = (1..a.slots).find(|&k| may_erase_alone(a.view(), twins, k));
                 later.map_or(Reply { answer: 13, second: NONE }, Reply::done)
             }
             (Name::Recover, Fault::RecoverCountsNoReturn | Fault::RecoverCountsNoUncommittedEnd) => Reply::done(self.links(a)),

@@ -1,10 +1,11 @@
 //! The second implementation of the calls, written from documents 01 and 02 for clarity and not for speed.
 
-use crate::interface::{Arguments, Calls, Family, Name, Reply, NONE, WIDTHS};
+use crate::cleaning::{blank_outside, block, clash, copied, may_erase_all, may_erase_alone, steps, twins, Step, Test};
+use crate::interface::{Arguments, Calls, Family, Name, Reply, BLOCK_SLOTS, NONE, WIDTHS};
 use crate::rules::{
-    committed_before, contents_fit, cycle, entry, follow, highest_records, list_wrong, lowest_slot, may_erase, planned, records, set_entry,
-    set_slot, sizes_fit, slot, slot_bytes, state_fits, state_sound, table_sound, used_version, words_fit, would_bury, End, Entry, Record,
-    Walk, LAST_VERSION,
+    committed_before, contents_fit, cycle, entry, follow, highest_records, list_wrong, lowest_slot, planned, records, set_entry, set_slot,
+    sizes_fit, slot, slot_bytes, state_fits, state_sound, table_sound, used_version, words_fit, would_bury, End, Entry, Record, Walk,
+    LAST_VERSION,
 };
 
 /// The second implementation.
@@ -16,25 +17,49 @@ impl Calls for Reference {
         if name != Name::Count && !WIDTHS.contains(&arguments.width) {
             refusal(name, 1)
         } else {
-            at_any_width(name, arguments)
+            on(RIGHT, name, arguments)
         }
     }
 }
 
-/// A call as it is at any width.
-pub fn at_any_width(name: Name, arguments: &mut Arguments) -> Reply {
-    let meaning = match name {
-        Name::Format => format,
-        Name::Launch => launch,
-        Name::Write => write,
-        Name::Withdraw => withdraw,
-        Name::Erase => erase,
-        Name::Suggest => suggest,
-        Name::Recover => recover,
-        Name::Count => count,
-        Name::Read => read,
+/// What the calls rest on: which slots are twins, and how many a block has.
+#[derive(Clone, Copy)]
+pub struct Terms {
+    pub twins: Test,
+    pub block_slots: u32,
+}
+
+/// The terms of the library.
+pub const RIGHT: Terms = Terms { twins, block_slots: BLOCK_SLOTS };
+
+/// The second implementation on other terms; the width is any.
+pub struct OnTerms(pub Terms);
+
+impl Calls for OnTerms {
+    fn call(&self, name: Name, arguments: &mut Arguments) -> Reply {
+        on(self.0, name, arguments)
+    }
+
+    fn block_slots(&self) -> u32 {
+        self.0.block_slots
+    }
+}
+
+/// A call on such terms, at any width.
+pub fn on(terms: Terms, name: Name, a: &mut Arguments) -> Reply {
+    let outcome = match name {
+        Name::Format => format(a),
+        Name::Launch => launch(a),
+        Name::Write => write(a),
+        Name::Withdraw => withdraw(a),
+        Name::Erase => erase(a, terms.twins),
+        Name::Suggest => suggest(a, terms.twins),
+        Name::Clean => clean(a, terms),
+        Name::Recover => recover(a, terms.twins),
+        Name::Count => count(a),
+        Name::Read => read(a),
     };
-    meaning(arguments).map_or_else(|answer| refusal(name, answer), Reply::done)
+    outcome.map_or_else(|answer| refusal(name, answer), Reply::done)
 }
 
 /// What a refused call says.
@@ -62,12 +87,12 @@ fn state_misfits(a: &Arguments) -> bool {
     !sizes_fit(a.pages, a.slots) || !state_fits(a.pages, a.state)
 }
 
-/// The same, of one that takes the slot table too.
+/// The same, of one that takes the slot table too,
 fn table_misfits(a: &Arguments) -> bool {
     state_misfits(a) || !words_fit(a.family, a.slots, a.words)
 }
 
-/// The same, of one that takes the contents too.
+/// … and of one that takes the contents too.
 fn volume_misfits(a: &Arguments) -> bool {
     table_misfits(a) || !contents_fit(a.slots, a.width, a.contents)
 }
@@ -144,12 +169,12 @@ fn withdraw(a: &mut Arguments) -> Outcome {
     Ok(0)
 }
 
-fn erase(a: &mut Arguments) -> Outcome {
+fn erase(a: &mut Arguments, twins: Test) -> Outcome {
     refuse(1, volume_misfits(a))?;
     refuse(2, slot_unsound(a))?;
     refuse(5, !state_sound(a.pages, a.state))?;
     refuse(6, list_wrong(a.list, a.slots))?;
-    refuse(12, a.list.iter().any(|&k| !may_erase(a.family, a.words, a.state, k)))?;
+    refuse(12, !may_erase_all(a.view(), twins, a.list))?;
     for &k in a.list {
         set_slot(a.layout(), a.words, a.contents, k, None);
     }
@@ -157,20 +182,39 @@ fn erase(a: &mut Arguments) -> Outcome {
 }
 
 /// Names the lowest slot that may be erased.
-fn suggest(a: &mut Arguments) -> Outcome {
-    refuse(1, table_misfits(a))?;
+fn suggest(a: &mut Arguments, twins: Test) -> Outcome {
+    refuse(1, volume_misfits(a))?;
     refuse(2, slot_unsound(a))?;
     refuse(5, !state_sound(a.pages, a.state))?;
-    (0..a.slots).find(|&k| may_erase(a.family, a.words, a.state, k)).ok_or(13)
+    (0..a.slots).find(|&k| may_erase_alone(a.view(), twins, k)).ok_or(13)
+}
+
+/// Copies what may not be erased of a block, and blanks it.
+fn clean(a: &mut Arguments, terms: Terms) -> Outcome {
+    refuse(1, volume_misfits(a))?;
+    refuse(2, slot_unsound(a))?;
+    refuse(5, !state_sound(a.pages, a.state))?;
+    let block = block(terms.block_slots, a.slots, a.block).ok_or(6u32)?;
+    let (from, to) = (copied(a.view(), terms.twins, block.clone()), blank_outside(a.view(), block.clone()));
+    refuse(15, from.len() > to.len())?;
+    let steps = steps(a.view(), &from, &to, block);
+    take(a, &steps);
+    Ok(0)
+}
+
+/// "One function that stores or blanks one slot does them all."
+pub fn take(a: &mut Arguments, steps: &[Step]) {
+    for Step { slot, held } in steps {
+        set_slot(a.layout(), a.words, a.contents, *slot, held.as_ref().map(|(record, bytes)| (*record, &bytes[..])));
+    }
 }
 
 /// Gives "the number of links followed, summed over pages, one for each record whose link is compared".
-fn recover(a: &mut Arguments) -> Outcome {
-    refuse(1, table_misfits(a))?;
+fn recover(a: &mut Arguments, twins: Test) -> Outcome {
+    refuse(1, if a.family == Family::Bpcc { volume_misfits(a) } else { table_misfits(a) })?;
     refuse(2, slot_unsound(a))?;
     let table = records(a.family, a.words);
-    let twice = table.iter().any(|&(k, r)| table.iter().any(|&(l, q)| k < l && r.p == q.p && r.v == q.v));
-    refuse(3, twice)?;
+    refuse(3, clash(a.view(), twins))?;
     let highest = highest_records(a.pages, &table).ok_or(3u32)?;
     let walks: Vec<Walk> = (0..a.pages).map(|p| follow(a.family, &table, &highest, p)).collect();
     refuse(4, walks.iter().any(|w| matches!(w.end, End::Astray)))?;

@@ -1,5 +1,5 @@
 -- `bpcc::scc::scc_cases` meets its contract: the computed rows are cited. Assumes nothing.
-use Rattle.rules.specs.cases.Simple.{simple-rows}
+use Rattle.cases.specs.Simple.{simple-rows}
 use Rattle.bpcc.proofs.scc.scc_cases.Statement.{statement}
 use Rattle.bpcc.proofs.scc.scc_cases.Tie as tie
 

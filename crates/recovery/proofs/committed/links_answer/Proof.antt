@@ -3,7 +3,8 @@ use native.Mathlib.Omega.{arith}
 use mathlib.Core.Path.{refl, sym, _∙_}
 use Rattle.bounded.specs.Choice.{said-no, said-yes}
 use Rattle.outcome.specs.Reply.{reply-refused, reply-done, reply-answer, reply-second}
-use Rattle.recovery.specs.Tables.{links-astray, version-missing, versions-there, versions-by-table}
+use Rattle.recovery.specs.Tables.{versions-by-table}
+use Rattle.recovery.specs.Answers.{links-astray, version-missing, versions-there}
 use Rattle.recovery.proofs.committed.links_answer.Statement.{statement}
 use Rattle.recovery.proofs.committed.links_answer.Tie as tie
 

@@ -1,6 +1,6 @@
 use borrow.Author.Needs.{needs}
 use mathlib.Core.Path.{_∙_}
-use Rattle.recovery.specs.Tables.{recovered-by-tables}
+use Rattle.recovery.specs.Answers.{recovered-by-tables}
 use Rattle.recovery.proofs.fill.fill_state.Statement.{statement}
 use Rattle.recovery.proofs.fill.fill_state.Tie as tie
 
@@ -17,7 +17,7 @@ returns : tie.Need-returns
 returns c =
     let pre = c .before .before .before .before .before .before .before .before .before .pre in
     c .before .before .store-pages .ensures
-    ∙ recovered-by-tables _ _ _ _ _ _ (pre .1 .0) (pre .1 .1 .1 .0) (pre .1 .1 .1 .1 .0) (c .before .before .before .before .before .used-versions .ensures)
+    ∙ recovered-by-tables _ _ _ _ _ _ (pre .1 .0) (pre .1 .1 .0) (pre .1 .1 .1 .0) (pre .1 .1 .1 .1 .0) (c .before .before .before .before .before .used-versions .ensures)
 
 pub fill-state-spec : {M : Type 1} → statement M
 fill-state-spec =

@@ -3,7 +3,7 @@ use native.Mathlib.Omega.{arith}
 use mathlib.Core.Path.{_≡_, refl, ap, ap₂, _∙_}
 use Rattle.sizes.specs.declared.Layout.the-variants.{FourWords}
 use Rattle.record.specs.Slot.{slotIn}
-use Rattle.table.specs.Table.{highest}
+use Rattle.table.specs.Table.{raised, highest}
 use Rattle.rules.specs.Simple.{under}
 use Rattle.recovery.specs.Committed.{versionOrNone, risen, rises}
 use Rattle.recovery.proofs.second.version_below.Statement.{statement}
@@ -17,7 +17,7 @@ abbrev μ-loop : tie.MeasureT-loop
 μ-loop slots words page version best₀ k₀ best k = slots - k
 
 loop-holds : tie.Need-loop-holds Inv-loop μ-loop
-unfolding highest
+unfolding highest raised
 loop-holds c = (omega arith, refl)
 
 slot-in-requires : tie.Need-slot-in-requires Inv-loop μ-loop

@@ -2,8 +2,8 @@
 
 use crate::implementations::compared::Compared;
 use crate::implementations::reference::Reference;
-use crate::interface::{Family, NONE, PAGE_WORDS};
-use crate::rules::Record;
+use crate::interface::{Family, BLOCK_SLOTS, NONE, PAGE_WORDS};
+use crate::rules::{slot_words, Record};
 use crate::volume::{Call, Layout, Sizes, Volume};
 
 /// All sound records of P pages with versions up to the highest.
@@ -24,8 +24,9 @@ fn sound_records(family: Family, pages: u32, highest: u32) -> Vec<Record> {
     all
 }
 
-/// Recovery of every table of sound records and blank slots, equal up to the slots' order; where it answers 0, the erasure of each
-/// slot, and suggest or, where a write may be refused by the table, writes. Gives the number of tables.
+/// Recovery of every table of sound records and blank slots, equal up to the slots' order, each slot with bytes of its own and, where
+/// records are equal, with equal bytes too; where it answers 0, the erasure of each slot, and suggest or, where a write may be refused by
+/// the table, writes. Gives the number of tables.
 pub fn tables(compared: &Compared, sizes: Sizes, highest: u32) -> u64 {
     let mut held = sound_records(sizes.family, sizes.pages, highest);
     held.push(Record::BLANK);
@@ -33,13 +34,51 @@ pub fn tables(compared: &Compared, sizes: Sizes, highest: u32) -> u64 {
     let mut count = 0;
     loop {
         let records: Vec<Record> = chosen.iter().map(|&i: &usize| held[i]).collect();
-        one_table(compared, Volume::with_records(sizes, &records));
+        let v = Volume::with_records(sizes, &records);
+        if chosen.windows(2).any(|pair| pair[0] == pair[1] && pair[0] + 1 < held.len()) {
+            one_table(compared, equal_bytes(v.clone()));
+        }
+        one_table(compared, v);
         count += 1;
         // The next choice with rising indices.
         let Some(at) = chosen.iter().rposition(|&i| i + 1 < held.len()) else { return count };
         let next = chosen[at] + 1;
         chosen[at..].fill(next);
     }
+}
+
+/// The volume with the same bytes in all slots.
+fn equal_bytes(mut v: Volume) -> Volume {
+    v.contents.fill(7);
+    v
+}
+
+/// Recovery of every table of sound records and blank slots in four slots, two at either end of block 0 and two behind it, all with
+/// equal bytes; where it answers 0, suggest, the erasure of each and of each two, and the cleaning of both blocks. Gives the number of
+/// tables.
+pub fn boundary_tables(compared: &Compared, layout: Layout, pages: u32, highest: u32) -> u64 {
+    const PLACES: [u32; 4] = [0, BLOCK_SLOTS - 1, BLOCK_SLOTS, BLOCK_SLOTS + 1];
+    let mut held = sound_records(layout.family, pages, highest);
+    held.push(Record::BLANK);
+    let blank = equal_bytes(Volume::with_records(layout.sizes(pages, BLOCK_SLOTS + 2), &[Record::BLANK]));
+    let number = held.len().pow(PLACES.len() as u32);
+    for i in 0..number {
+        let (mut v, mut rest) = (blank.clone(), i);
+        for k in PLACES {
+            v.words[slot_words(layout.family, k)].copy_from_slice(&held[rest % held.len()].words(layout.family));
+            rest /= held.len();
+        }
+        if v.call(compared, &Call::Recover).answer == 0 {
+            v.suggest(compared);
+            for (&k, &l) in PLACES.iter().flat_map(|k| PLACES.iter().map(move |l| (k, l))) {
+                v.clone().call(compared, &Call::Erase(if k == l { vec![k] } else { vec![k, l] }));
+            }
+            for block in [0, 1] {
+                v.clone().call(compared, &Call::Clean(block));
+            }
+        }
+    }
+    number as u64
 }
 
 fn one_table(compared: &Compared, mut v: Volume) {

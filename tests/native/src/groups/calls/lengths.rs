@@ -3,12 +3,13 @@
 use crate::implementations::compared::Compared;
 use crate::implementations::reference::{refusal, Reference};
 use crate::inputs::{is_short, WRONG_WIDTHS};
-use crate::interface::{other_width, Arguments, Calls, Name, Reply, WIDTHS};
+use crate::interface::{other_width, Arguments, Calls, Family, Name, Reply, BLOCK_SLOTS, WIDTHS};
 use crate::volume::{Call, Layout, Volume};
 
-/// A volume on which every call of `reply` is done: page 1 is in flight, page 0 is not, slot 3 is blank, slot 0 may be erased.
+/// A volume on which every call of `reply` is done: page 1 is in flight, page 0 is not, slot 3 is blank, slot 0 may be erased, and the
+/// two slots behind block 0 take what stays of it.
 fn ready(layout: Layout) -> Volume {
-    let mut v = Volume::formatted(&Reference, layout.sizes(2, 4));
+    let mut v = Volume::formatted(&Reference, layout.sizes(2, BLOCK_SLOTS + 2));
     let bytes = vec![3; layout.width as usize];
     for call in [Call::Launch(vec![0]), Call::Write { page: 0, slot: 2, bytes }, Call::Launch(vec![1])] {
         assert_eq!(v.call(&Reference, &call).answer, 0);
@@ -35,7 +36,12 @@ fn assert_refused(compared: &Compared, volume: &Volume, length: usize, refused: 
 }
 
 /// The calls that take the contents.
-const OF_CONTENTS: [Name; 4] = [Name::Format, Name::Write, Name::Erase, Name::Read];
+fn of_contents(family: Family) -> &'static [Name] {
+    match family {
+        Family::Bpcc => &[Name::Format, Name::Write, Name::Erase, Name::Suggest, Name::Clean, Name::Recover, Name::Read],
+        Family::Scc => &[Name::Format, Name::Write, Name::Erase, Name::Read],
+    }
+}
 
 /// A width that no volume has is refused by every call that takes one, with buffers of a right width and with buffers of its own.
 pub fn compare_wrong_widths(compared: &Compared, layout: Layout) {
@@ -58,7 +64,7 @@ pub fn compare_other_width(compared: &Compared, layout: Layout) {
     let mut v = ready(layout);
     v.sizes.width = other_width(layout.width);
     for length in WIDTHS {
-        assert_refused(compared, &v, length as usize, &OF_CONTENTS);
+        assert_refused(compared, &v, length as usize, of_contents(layout.family));
     }
 }
 
@@ -69,7 +75,7 @@ pub fn compare_lengths(compared: &Compared, layout: Layout) {
     for length in [width * slots - 1, width * slots + 1, other * slots] {
         let mut v = v.clone();
         v.contents.resize(length as usize, 255);
-        assert_refused(compared, &v, width as usize, &OF_CONTENTS);
+        assert_refused(compared, &v, width as usize, of_contents(layout.family));
     }
     for length in [width - 1, width + 1] {
         assert_refused(compared, &v, length as usize, &[Name::Write, Name::Count, Name::Read]);

@@ -3,12 +3,12 @@
 use crate::harness::said;
 use crate::implementations::compared::Compared;
 use crate::inputs;
-use crate::interface::{Arguments, Calls, Family, Name, Reply, WIDTHS};
+use crate::interface::{Arguments, Calls, Family, Name, Reply, BLOCKS, WIDTHS};
 use crate::random::Random;
 use crate::volume::{Call, Layout, Volume};
 use std::panic::{catch_unwind, AssertUnwindSafe};
 
-/// Document 01's table of which call gives which number, and document 02's 16.
+/// Document 01's table of which call gives which number, and document 02's 15 and 16.
 pub fn answers(family: Family, call: Name) -> &'static [u32] {
     match call {
         Name::Write if family == Family::Scc => &[0, 1, 2, 5, 6, 9, 10, 11, 16],
@@ -18,6 +18,7 @@ pub fn answers(family: Family, call: Name) -> &'static [u32] {
         Name::Withdraw => &[0, 1, 5, 6, 9],
         Name::Erase => &[0, 1, 2, 5, 6, 12],
         Name::Suggest => &[0, 1, 2, 5, 13],
+        Name::Clean => &[0, 1, 2, 5, 6, 15],
         Name::Recover => &[0, 1, 2, 3, 4, 14],
         Name::Count => &[0, 1],
         Name::Read => &[0, 1, 2, 5, 6, 14],
@@ -66,6 +67,7 @@ struct Choices {
     launch: Vec<u32>,
     erase: Vec<u32>,
     write: (u32, u32),
+    clean: u32,
     withdraw: u32,
     read: u32,
     bytes: Vec<u8>,
@@ -87,6 +89,7 @@ impl Choices {
             launch: inputs::pages_to_launch(random, v),
             erase: inputs::slots_to_erase(random, v),
             write: inputs::page_and_slot_to_write(random, v),
+            clean: inputs::block_to_clean(random, v),
             withdraw: inputs::page_to_take(random, v),
             read: inputs::page_to_take(random, v),
             bytes: random.bytes(bytes),
@@ -101,7 +104,7 @@ impl Choices {
         }
     }
 
-    /// The page, the slot and the list for a call: 0, 0 and none where it takes no such thing.
+    /// The page, the slot and the list for a call: 0, 0 and none where it takes no such thing. Only one takes a block.
     fn of(&self, call: Name) -> (u32, u32, &[u32]) {
         match call {
             Name::Launch => (0, 0, &self.launch),
@@ -109,7 +112,7 @@ impl Choices {
             Name::Withdraw => (self.withdraw, 0, &[]),
             Name::Erase => (0, 0, &self.erase),
             Name::Read => (self.read, 0, &[]),
-            Name::Format | Name::Suggest | Name::Recover | Name::Count => (0, 0, &[]),
+            Name::Format | Name::Suggest | Name::Clean | Name::Recover | Name::Count => (0, 0, &[]),
         }
     }
 }
@@ -119,7 +122,8 @@ fn one_round(compared: &Compared, volume: &Volume, choices: &Choices) {
     for call in volume.sizes.family.calls() {
         let (mut v, mut out) = (volume.clone(), choices.out.clone());
         let (page, slot, list) = choices.of(call);
-        let reply = compared.call(call, &mut Arguments { page, slot, list, bytes: &choices.bytes, out: &mut out, ..v.arguments() });
+        let (block, bytes) = (choices.clean, &choices.bytes);
+        let reply = compared.call(call, &mut Arguments { page, slot, list, block, bytes, out: &mut out, ..v.arguments() });
         let same = v == *volume && out == choices.out;
         assert!(reply.answer == 0 || same, "a refused call altered a buffer");
     }
@@ -134,7 +138,7 @@ pub fn compare_sizes(compared: &Compared, layout: Layout) {
     }
 }
 
-/// Volumes of the largest size, all calls, one transaction over all pages.
+/// Volumes of the largest size, all calls, one transaction over all pages, every block cleaned.
 pub fn compare_largest(compared: &Compared, layout: Layout) {
     let (pages, slots, width) = (256, 1024, layout.width);
     let mut v = Volume::formatted(compared, layout.sizes(pages, slots));
@@ -155,6 +159,9 @@ pub fn compare_largest(compared: &Compared, layout: Layout) {
     assert_eq!(v.call(compared, &Call::Erase(obsolete)).answer, 0);
     let all: Vec<u32> = (0..slots).collect();
     assert_eq!(v.call(compared, &Call::Erase(all)).answer, 12);
+    if layout.family == Family::Bpcc {
+        (0..BLOCKS).for_each(|block| assert_eq!(v.call(compared, &Call::Clean(block)).answer, 0));
+    }
     let mut out = vec![0; width as usize];
     assert_eq!(v.read(compared, 255, &mut out).answer, 0);
     assert_eq!(out, vec![255; width as usize]);

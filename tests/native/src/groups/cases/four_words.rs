@@ -1,6 +1,6 @@
 //! Document 01's cases without c, and document 02's sentences on four-word records.
 
-use super::{assert_refused, recovered, slot_of};
+use super::{answer, assert_refused, recovered, slot_of};
 use crate::interface::{Calls, Reply};
 use crate::rules::{entry, set_entry, Entry};
 use crate::volume::{Call, Layout, Volume};
@@ -62,9 +62,14 @@ pub fn refused_recoveries(calls: &dyn Calls, layout: Layout) {
     refused(2, &[[0, 0, 0, 0], [1, 0, 1, 0], [0, 4_294_967_295, 1, 0]], 2, "a version out of range");
 }
 
-/// A call's answer.
-fn answer(calls: &dyn Calls, v: &mut Volume, call: Call) -> u32 {
-    v.call(calls, &call).answer
+/// "Wish 1's twin rules don't hold there": records equal in all words and bytes give 3, and neither may go because of the other.
+pub fn no_twins(calls: &dyn Calls, layout: Layout) {
+    let mut v = Volume::formatted(calls, layout.sizes(2, 6));
+    v.copy_within(0, 4);
+    for list in [&[0][..], &[4], &[0, 4]] {
+        assert_eq!(answer(calls, &mut v.clone(), Call::Erase(list.to_vec())), 12, "committed, {list:?}");
+    }
+    assert_eq!(v.call(calls, &Call::Recover), Reply::refused(3));
 }
 
 /// A write of a page to a slot.

@@ -6,8 +6,8 @@ use crate::interface::{Family, Reply, NONE};
 use crate::rules::{cycle, entry, set_slot};
 use crate::volume::{Call, Volume};
 
-/// All nonempty subsets of a list.
-fn subsets(list: &[u32]) -> Vec<Vec<u32>> {
+/// All nonempty subsets of a list, each after its own.
+pub fn subsets(list: &[u32]) -> Vec<Vec<u32>> {
     (1u32..1 << list.len()).map(|mask| list.iter().enumerate().filter(|(i, _)| mask >> i & 1 == 1).map(|(_, &x)| x).collect()).collect()
 }
 

@@ -1,6 +1,7 @@
 //! The calls that a run makes.
 
 use super::run::Run;
+use crate::cleaning::twins;
 use crate::interface::{other_width, Family, NONE};
 use crate::random::Random;
 use crate::rules::{entry, would_bury};
@@ -21,7 +22,7 @@ impl Run<'_> {
         self.any(kind)
     }
 
-    /// Launch, write, withdraw, erase or recover, by the run's weights.
+    /// Launch, write, withdraw, erase, clean or recover, by the run's weights.
     fn kind(&mut self) -> usize {
         let mut at = self.random.below(self.weights.iter().sum());
         let mut kind = 0;
@@ -57,11 +58,12 @@ impl Run<'_> {
                 let may = self.old_or_exposed().into_iter().filter(|&k| self.volume.may_erase(k)).collect();
                 some_of(&mut self.random, may, if few { 2 } else { u32::MAX }).map(Call::Erase)
             }
+            4 => Some(Call::Clean(self.random.below(v.sizes.slots.div_ceil(self.calls.block_slots())))),
             _ => Some(Call::Recover),
         }
     }
 
-    /// A call with any arguments; an erase that lists a needed straddler, if there is one, after exposed records.
+    /// A call with any arguments; an erase that lists all twins of a record, or a needed straddler, if there is one, after exposed records.
     fn any(&mut self, kind: usize) -> Call {
         let length = self.random.below(4);
         match kind {
@@ -74,6 +76,9 @@ impl Run<'_> {
             }
             2 => Call::Withdraw(self.any_page()),
             3 => {
+                if let (true, Some(list)) = (self.random.one_in(2), self.twinned()) {
+                    return Call::Erase(list);
+                }
                 let (may, kept): (Vec<u32>, Vec<u32>) = self.old_or_exposed().into_iter().partition(|&k| self.volume.may_erase(k));
                 let mut list = if self.random.one_in(2) { some_of(&mut self.random, may, 3).unwrap_or_default() } else { Vec::new() };
                 match some_of(&mut self.random, kept, 1) {
@@ -82,6 +87,7 @@ impl Run<'_> {
                 }
                 Call::Erase(list)
             }
+            4 => Call::Clean(self.any_below(self.volume.sizes.slots.div_ceil(self.calls.block_slots()))),
             _ => Call::Recover,
         }
     }
@@ -91,6 +97,14 @@ impl Run<'_> {
         let v = &self.volume;
         let goes = |k: u32| v.slot(k).is_some_and(|r| r.v < entry(&v.state, r.p).committed || v.may_erase(k));
         (0..v.sizes.slots).filter(|&k| (v.sizes.slots <= 64 || self.random.one_in(25)) && goes(k)).collect()
+    }
+
+    /// A record's slot and its twins, if some record has any.
+    fn twinned(&mut self) -> Option<Vec<u32>> {
+        let (v, slots) = (&self.volume, self.volume.sizes.slots);
+        let from = self.random.below(slots);
+        let class = |k: u32| (0..slots).filter(|&l| k == l || twins(v.view(), k, l)).collect::<Vec<u32>>();
+        (from..slots).chain(0..from).map(class).find(|list| list.len() > 1)
     }
 
     fn any_page(&mut self) -> u32 {

@@ -1,8 +1,9 @@
 //! Promise 3 by trial: random lists of calls and crashes from a formatted volume, each prefix checked against the ledger, and at
 //! each call every crash that it may meet.
 
+use crate::crash::Stage;
 use crate::harness::said;
-use crate::interface::{Calls, NONE};
+use crate::interface::{Calls, Family, NONE};
 use crate::ledger::Ledger;
 use crate::random::Random;
 use crate::volume::{Call, Sizes, Volume};
@@ -15,6 +16,9 @@ pub struct Tally {
     pub refused: u64,
     pub crashes: u64,
     pub completed: u64,
+    /// Cleanings done, and the copies that they made.
+    pub cleaned: u64,
+    pub copies: u64,
     /// Writes refused by 16.
     pub buried: u64,
     /// Recoveries compared with the ledger, page by page.
@@ -27,6 +31,8 @@ impl Tally {
         self.refused += other.refused;
         self.crashes += other.crashes;
         self.completed += other.completed;
+        self.cleaned += other.cleaned;
+        self.copies += other.copies;
         self.buried += other.buried;
         self.checks += other.checks;
     }
@@ -34,7 +40,7 @@ impl Tally {
 
 /// A run, and what has become of its volume and its ledger.
 pub struct Run<'a> {
-    calls: &'a dyn Calls,
+    pub calls: &'a dyn Calls,
     pub random: Random,
     pub volume: Volume,
     ledger: Ledger,
@@ -42,8 +48,8 @@ pub struct Run<'a> {
     lost: bool,
     /// A call in so many meets a crash.
     calm: u32,
-    /// How often the run chooses launch, write, withdraw, erase and recover.
-    pub weights: [u32; 5],
+    /// How often the run chooses launch, write, withdraw, erase, clean and recover.
+    pub weights: [u32; 6],
     tally: Tally,
 }
 
@@ -52,7 +58,8 @@ pub fn run(calls: &dyn Calls, sizes: Sizes, events: u32, every: u32, seed: u64) 
     let volume = Volume::formatted(calls, sizes);
     let mut random = Random::new(seed);
     let calm = random.pick(&[6, 25, 100]);
-    let weights = [8, 24, 6, 2, 1].map(|w| w * random.pick(&[1, 2, 4]));
+    let cleanings = if sizes.family == Family::Bpcc && sizes.slots > calls.block_slots() { 2 } else { 0 };
+    let weights = [8, 24, 6, 2, cleanings, 1].map(|w| w * random.pick(&[1, 2, 4]));
     let mut run = Run { calls, random, volume, ledger: Ledger::new(sizes), lost: false, calm, weights, tally: Tally::default() };
     for i in 0..events {
         let check = i % every == 0 || i + 1 == events;
@@ -88,24 +95,33 @@ impl Run<'_> {
             self.volume = flash;
             self.lose_state();
         } else {
-            let before = self.volume.clone();
-            let reply = self.volume.call(self.calls, &call);
-            self.ledger.called(&call, reply.answer);
-            if reply.answer == 0 {
-                self.tally.accepted += 1;
-                self.tally.completed += u64::from(matches!(call, Call::Write { .. }) && reply.second == 1);
-                self.lost &= !matches!(call, Call::Recover);
-            } else {
-                self.tally.refused += 1;
-                assert!(self.volume == before, "a refused call altered the volume: {call:?}");
-                assert_eq!(reply.second, 0, "a refused call's second number: {call:?}");
-                if reply.answer == 16 {
-                    self.tally.buried += 1;
-                    self.volume.clone().assert_cured(self.calls, &call);
-                }
-            }
-            assert!(!self.lost || !matches!(call, Call::Recover), "recover answered {}", reply.answer);
+            self.make(&call);
         }
+    }
+
+    /// Makes a call: one that is refused leaves the volume, one that would bury a record is done once that is erased.
+    fn make(&mut self, call: &Call) {
+        let before = self.volume.clone();
+        let reply = self.volume.call(self.calls, call);
+        self.ledger.called(call, reply.answer);
+        if reply.answer == 0 {
+            self.tally.accepted += 1;
+            self.tally.completed += u64::from(matches!(call, Call::Write { .. }) && reply.second == 1);
+            if let Call::Clean(_) = call {
+                self.tally.cleaned += 1;
+                self.tally.copies += self.calls.stages(call, &before, &self.volume).len() as u64 - 1;
+            }
+            self.lost &= !matches!(call, Call::Recover);
+        } else {
+            self.tally.refused += 1;
+            assert!(self.volume == before, "a refused call altered the volume: {call:?}");
+            assert_eq!(reply.second, 0, "a refused call's second number: {call:?}");
+            if reply.answer == 16 {
+                self.tally.buried += 1;
+                self.volume.clone().assert_cured(self.calls, call);
+            }
+        }
+        assert!(!self.lost || !matches!(call, Call::Recover), "recover answered {}", reply.answer);
     }
 
     /// Whatever words the crash leaves in the volatile state.
@@ -126,44 +142,49 @@ impl Run<'_> {
         }
     }
 
+    /// What the call would make of the volume, and the stages in which it would; none where it is refused.
+    fn outcome(&self, call: &Call) -> (Volume, Vec<Stage>) {
+        let mut after = self.volume.clone();
+        let accepted = after.call(self.calls, call).answer == 0;
+        let stages = if accepted { self.calls.stages(call, &self.volume, &after) } else { Vec::new() };
+        (after, stages)
+    }
+
     /// The flash that a crash in the call leaves, chosen among all that it may leave, and whether a write's slot was stored.
     fn crash_outcome(&mut self, call: &Call) -> (Volume, bool) {
-        let before = self.volume.clone();
-        let mut after = before.clone();
-        let accepted = after.call(self.calls, call).answer == 0;
-        let mut flash = before;
+        let (after, stages) = self.outcome(call);
+        let mut flash = self.volume.clone();
+        let met = self.random.below(stages.len() as u32) as usize;
         let mut stored = false;
-        match call {
-            Call::Write { slot, .. } if accepted && self.random.one_in(2) => {
-                flash.copy_slot(&after, *slot);
-                stored = true;
+        for (i, stage) in stages.iter().enumerate().take(met + 1) {
+            for &k in stage.iter().filter(|_| i < met || self.random.one_in(2)) {
+                flash.copy_slot(&after, k);
+                stored = matches!(call, Call::Write { .. });
             }
-            Call::Erase(list) if accepted => {
-                for &k in list.iter().filter(|_| self.random.one_in(2)) {
-                    flash.copy_slot(&after, k);
-                }
-            }
-            _ => {}
         }
         (flash, stored)
     }
 
     /// Every crash in the call: each outcome recovers to what the ledger then keeps.
     fn crash_everywhere(&mut self, call: &Call) {
-        let mut after = self.volume.clone();
-        let accepted = after.call(self.calls, call).answer == 0;
-        let outcomes: Vec<(Vec<u32>, bool)> = match call {
-            Call::Write { slot, .. } if accepted => vec![(vec![], false), (vec![*slot], true)],
-            Call::Erase(list) if accepted => self.parts(list).into_iter().map(|part| (part, false)).collect(),
-            _ => vec![(vec![], false)],
-        };
-        for (changed, stored) in outcomes {
-            let mut flash = self.volume.clone();
-            changed.iter().for_each(|&k| flash.copy_slot(&after, k));
-            let mut ledger = self.ledger.clone();
-            ledger.crashed(Some((call, stored)));
-            self.check(flash, &ledger, "after a crash in a call");
+        let (after, stages) = self.outcome(call);
+        let mut done = self.volume.clone();
+        self.check_crash(call, done.clone(), false);
+        for stage in stages {
+            for part in self.parts(&stage).into_iter().filter(|part| !part.is_empty()) {
+                let mut flash = done.clone();
+                part.iter().for_each(|&k| flash.copy_slot(&after, k));
+                self.check_crash(call, flash, matches!(call, Call::Write { .. }));
+            }
+            stage.iter().for_each(|&k| done.copy_slot(&after, k));
         }
+    }
+
+    /// A crash in the call that leaves this flash, a write's slot stored or not.
+    fn check_crash(&mut self, call: &Call, flash: Volume, stored: bool) {
+        let mut ledger = self.ledger.clone();
+        ledger.crashed(Some((call, stored)));
+        self.check(flash, &ledger, "after a crash in a call");
     }
 
     /// All parts of a short list, and of a long one the whole, the empty and some others.

@@ -10,7 +10,7 @@ const SAMPLE: (&str, &str) = (
 );
 
 /// Lines that mean nothing after an accepted format; each prints answer=line and ends the run.
-const MALFORMED: [&str; 61] = [
+const MALFORMED: [&str; 62] = [
     "",
     " ",
     "op",
@@ -70,6 +70,7 @@ const MALFORMED: [&str; 61] = [
     "op=recover state=1",
     "op=list pages=0",
     "op=suggest",
+    "op=clean block=0",
     "op=count fill=3",
     "op=read page=0",
 ];

@@ -5,12 +5,16 @@ use crate::interface::{Family, Name};
 /// Makes the faults: what each is called, and behind it the family that may have it where one alone may.
 macro_rules! faults {
     ($($name:ident $($family:ident)?,)*) => {
-        /// What is wrong; the last two are a call's own.
+        /// What is wrong; those with a name are a call's own, and the last is a driver's.
         #[derive(Clone, Copy, Debug, PartialEq, Eq)]
         pub enum Fault {
             $($name,)*
             TakesAnyWidth(Name),
             Refuses64(Name),
+            IgnoresTwins(Name),
+            TakesEqualVersionsForTwins(Name),
+            ComparesNoBytesOfTwins(Name),
+            DriverBlanksBeforeItCopies,
         }
 
         const PLAIN: &[(Fault, &[Family])] = &[$((Fault::$name, &[$(Family::$family)?]),)*];
@@ -45,6 +49,25 @@ faults! {
     EraseLooksAtHighestLinksOnly Bpcc,
     EraseKeepsStraddlers Scc,
     EraseKeepsExposedRecords,
+    EraseTakesAllTwins Bpcc,
+    CleanDoesNothing Bpcc,
+    CleanCopiesEveryTwin Bpcc,
+    CleanCopiesTheHighestTwin Bpcc,
+    CleanCopiesErasableRecords Bpcc,
+    CleanCopiesInFallingOrder Bpcc,
+    CleanCopiesToTheHighestSlots Bpcc,
+    CleanCopiesIntoTheBlock Bpcc,
+    CleanCopies32Bytes Bpcc,
+    CleanForgetsTheContents Bpcc,
+    CleanJudgesOneByOne Bpcc,
+    CleanJudgesAfterBlanking Bpcc,
+    CleanBlanksBeforeItCopies Bpcc,
+    CleanKeepsTheContents Bpcc,
+    CleanLeavesBlankSlots Bpcc,
+    CleanCountsEveryTwin Bpcc,
+    CleanNeedsASlotToSpare Bpcc,
+    CleanWrapsTheBlock Bpcc,
+    CleanLooksAtTheBlockFirst Bpcc,
     SuggestSaysNothingToErase Bpcc,
     SuggestNamesABlankSlot Bpcc,
     SuggestNamesTheHighestSlot Bpcc,
@@ -60,7 +83,7 @@ faults! {
     RecoverTakesTheHighestVersion,
     RecoverTakesTheLowestVersion Scc,
     RecoverNeedsNoSecondVersion Scc,
-    RecoverTakesEqualRecords,
+    RecoverTakesEqualRecords Scc,
     RecoverCountsNoReturn,
     RecoverCountsNoUncommittedEnd,
     RecoverCountsEachPageOnce,
@@ -75,11 +98,16 @@ faults! {
     RefusesBySlotsBeforeState,
 }
 
-/// Every fault that a family may have; those of a call for each of its calls that may have them.
+/// The calls that look for twins.
+const OF_TWINS: [Name; 4] = [Name::Erase, Name::Suggest, Name::Clean, Name::Recover];
+
+/// Every fault of a family's calls; those of a call for each of its calls that may have them.
 pub fn faults(family: Family) -> Vec<Fault> {
     let plain = PLAIN.iter().filter(|(_, of)| of.is_empty() || of.contains(&family)).map(|&(fault, _)| fault);
     let takes_any_width = family.calls().filter(|&name| name != Name::Count).map(Fault::TakesAnyWidth);
-    plain.chain(takes_any_width).chain(family.calls().map(Fault::Refuses64)).collect()
+    let of_twins = |name: Name| [Fault::IgnoresTwins(name), Fault::TakesEqualVersionsForTwins(name), Fault::ComparesNoBytesOfTwins(name)];
+    let of_twins = OF_TWINS.into_iter().filter(|_| family == Family::Bpcc).flat_map(of_twins);
+    plain.chain(takes_any_width).chain(family.calls().map(Fault::Refuses64)).chain(of_twins).collect()
 }
 
 /// The faults of a family that lose a completed page at a width, so that runs with crashes find them without a second implementation.
@@ -98,6 +126,16 @@ pub fn losing(family: Family, width: u32) -> Vec<Fault> {
     [&LOSING, own, wide].concat()
 }
 
+/// The faults that lose a completed page, or the whole volume, where a volume of several blocks is cleaned. Cleaning makes no twins
+/// within a block, so that a fault in what it does to these is not among them.
+pub fn losing_in_blocks(family: Family, width: u32) -> Vec<Fault> {
+    match (family, width) {
+        (Family::Scc, _) => Vec::new(),
+        (_, 64) => [&LOSING_IN_BLOCKS[..], &[Fault::CleanCopies32Bytes]].concat(),
+        _ => LOSING_IN_BLOCKS.to_vec(),
+    }
+}
+
 const LOSING: [Fault; 8] = [
     Fault::RecoverCallsABrokenRingUncommitted,
     Fault::WriteSkipsTheFlash,
@@ -110,3 +148,13 @@ const LOSING: [Fault; 8] = [
 ];
 
 const LOSING_64: [Fault; 3] = [Fault::WriteCopies32Bytes, Fault::ReadCopies32Bytes, Fault::ReadTakesSlotsFor32Bytes];
+
+const LOSING_IN_BLOCKS: [Fault; 7] = [
+    Fault::EraseTakesAllTwins,
+    Fault::CleanCopiesIntoTheBlock,
+    Fault::CleanForgetsTheContents,
+    Fault::CleanJudgesAfterBlanking,
+    Fault::CleanBlanksBeforeItCopies,
+    Fault::DriverBlanksBeforeItCopies,
+    Fault::IgnoresTwins(Name::Recover),
+];

@@ -1,8 +1,9 @@
 //! Faulty judging of what a write would bury and of what may be erased.
 
 use super::{Fault, Impostor};
+use crate::cleaning::{may_erase, twins};
 use crate::interface::{Arguments, Family, Reply};
-use crate::rules::{entry, is_exposed, may_erase, records, set_slot, slot, would_bury, Record};
+use crate::rules::{entry, is_exposed, records, set_slot, slot, would_bury, Record};
 use crate::volume::Volume;
 
 impl Impostor {
@@ -45,9 +46,10 @@ impl Impostor {
         for &k in a.list {
             let may = match self.0 {
                 Fault::EraseJudgesAfterBlanking => after.may_erase(k),
-                Fault::EraseIgnoresStraddlers | Fault::EraseLooksAtHighestLinksOnly | Fault::EraseTakesRecordsInFlight => {
-                    self.lets_go(a, k)
-                }
+                Fault::EraseIgnoresStraddlers
+                | Fault::EraseLooksAtHighestLinksOnly
+                | Fault::EraseTakesRecordsInFlight
+                | Fault::EraseTakesAllTwins => self.lets_go(a, k),
                 _ => false,
             };
             if !may {
@@ -63,7 +65,7 @@ impl Impostor {
     /// Whether a slot goes by the faulty permission.
     fn lets_go(&self, a: &Arguments, k: u32) -> bool {
         let Some(record) = slot(a.family, a.words, k) else { return false };
-        if may_erase(a.family, a.words, a.state, k) {
+        if may_erase(a.view(), twins, |l| a.list.contains(&l), k) {
             return true;
         }
         let table = records(a.family, a.words);
@@ -72,6 +74,7 @@ impl Impostor {
         match self.0 {
             Fault::EraseTakesRecordsInFlight => is_exposed(a.state, record),
             Fault::EraseIgnoresStraddlers => obsolete,
+            Fault::EraseTakesAllTwins => (0..a.slots).any(|l| twins(a.view(), k, l)),
             _ => obsolete && !table.iter().any(|&(_, i)| highest(i) && record.straddles(i)),
         }
     }

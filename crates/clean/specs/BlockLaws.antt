@@ -1,0 +1,158 @@
+-- The blocks of 64 slots: where one starts and ends, which slots it has, their marks, and their blanking one by one.
+use Prim.Native.Nat.{ℕ, suc, _+_, _*_, _≤_, _<_, min}
+use native.Mathlib.Omega.{arith}
+use mathlib.Core.Path.{_≡_, refl, sym, ap, ap₂, _∙_, fun-ext}
+use mathlib.Core.List.{List, [], _∷_, map-append}
+use mathlib.Core.Bool.{Bool, true, false, _&&_, _||_}
+use lib.Dec.{ltb, leb, eqb}
+use lib.ListN.{length, getD, set, replicate}
+use borrow.Author.Tests.{eqb-true, eq-eqb, ne-eqb, lt-ltb, le-ltb, ltb-true, le-leb, lt-leb, leb-true}
+use Rattle.bounded.specs.Limits.{maxSlots}
+use Rattle.bounded.specs.Choice.{on-lt, on-eq, both, both-left, both-right}
+use Rattle.bounded.specs.Below.{allBelow, listBelow}
+use Rattle.bounded.specs.BelowLaws.{all-at}
+use Rattle.bounded.specs.Passing.{list-more}
+use Rattle.bounded.specs.Members.{list-none}
+use Rattle.bounded.specs.Noted.{list-goes-on}
+use Rattle.sizes.specs.declared.Block.{Block}
+use Rattle.sizes.specs.declared.Layout.the-variants.{FiveWords}
+use Rattle.sizes.specs.Blocks.{blockStarts, blockOk, blockAt, inBlock}
+use Rattle.record.specs.Flash.{Flash, Step, apply, applyAllIn, applyAll}
+use Rattle.record.specs.FlashLaws.{apply-append}
+use Rattle.rules.specs.Erase.{eraseSteps}
+use Rattle.judge.specs.Marked.{marked, no-marks, marked-more}
+
+-- ---- where a block starts and ends
+
+starts : allBelow 16 (λ b. eqb (getD blockStarts b 0) (64 * b)) ≡ true
+unfolding allBelow blockStarts
+starts = refl
+
+-- "(0, 64, to 960 …)"
+block-start : (b : ℕ) → b < 16 → getD blockStarts b 0 ≡ 64 * b
+block-start b h = eqb-true (getD blockStarts b 0) (64 * b) (all-at (λ b. eqb (getD blockStarts b 0) (64 * b)) 16 b starts h)
+
+nexts : (S : ℕ) → allBelow 15 (λ b. eqb (getD blockStarts (suc b) S) (64 * b + 64)) ≡ true
+unfolding allBelow blockStarts
+nexts S = refl
+
+-- before the next one's start, or before S
+block-next : (S b : ℕ) → S ≤ maxSlots → b < 16 → min (getD blockStarts (suc b) S) S ≡ min (64 * b + 64) S
+unfolding blockStarts
+block-next S b m h =
+    on-lt b 15
+    (λ l. ap (λ (x : ℕ). min x S) (eqb-true (getD blockStarts (suc b) S) (64 * b + 64) (all-at (λ b. eqb (getD blockStarts (suc b) S) (64 * b + 64)) 15 b (nexts S) l)))
+    (λ l. let q : b ≡ 15 = omega arith in
+    let e : getD blockStarts (suc b) S ≡ S = ap (λ (x : ℕ). getD blockStarts (suc x) S) q in
+    omega arith)
+
+-- the test of a block's number
+module _ (S b : ℕ) where
+  pub too-high : 16 ≤ b → blockOk S b ≡ false
+  unfolding blockOk blockStarts
+  too-high h = rw (le-ltb b 16 h)
+
+  pub not-too-high : b < 16 → blockOk S b ≡ ltb (64 * b) S
+  unfolding blockOk blockStarts
+  not-too-high h = rw (lt-ltb b 16 h) (ap (λ (x : ℕ). ltb x S) (block-start b h))
+
+  pub named-block : blockOk S b ≡ true → (b < 16) × (64 * b < S)
+  unfolding blockOk blockStarts
+  named-block e =
+      let h = ltb-true b 16 (both-left (ltb b 16) (ltb (getD blockStarts b 0) S) e) in
+      (h, (let l = ltb-true (getD blockStarts b 0) S (both-right (ltb b 16) (ltb (getD blockStarts b 0) S) e) in let s = block-start b h in omega arith))
+
+  -- the block that it names
+  pub block-is : (first end : ℕ) → S ≤ maxSlots → b < 16 → first ≡ 64 * b → end ≡ min (64 * b + 64) S → _≡_ {A = Block} (record { first = first; end = end }) (blockAt S b)
+  unfolding blockAt
+  block-is first end m h e q = ap₂ {C = Block} (λ (f g : ℕ). record { first = f; end = g }) (e ∙ sym (block-start b h)) (q ∙ sym (block-next S b m h))
+
+-- the block's slots are among the S of the table
+pub record BlockIn (S : ℕ) (block : Block) : Type 0 where
+  pub ordered : block .first ≤ block .end
+  pub inside : block .end ≤ S
+
+pub named-inside : (S b : ℕ) → S ≤ maxSlots → blockOk S b ≡ true → BlockIn S (blockAt S b)
+unfolding blockAt
+named-inside S b m e =
+    let h = named-block S b e in
+    let s = block-start b (h .0) in
+    let n = block-next S b m (h .0) in
+    let l = h .1 in
+    record { ordered = omega arith; inside = omega arith }
+
+-- ---- its slots
+
+module _ (block : Block) (k : ℕ) where
+  pub inside-block : block .first ≤ k → k < block .end → inBlock block k ≡ true
+  unfolding inBlock
+  inside-block h l = both (le-leb (block .first) k h) (lt-ltb k (block .end) l)
+
+  pub before-block : k < block .first → inBlock block k ≡ false
+  unfolding inBlock
+  before-block h = rw (lt-leb (block .first) k h)
+
+  pub behind-start : block .first ≤ k → inBlock block k ≡ ltb k (block .end)
+  unfolding inBlock
+  behind-start h = rw (le-leb (block .first) k h)
+
+  pub behind-block : block .first ≤ block .end → block .end ≤ k → inBlock block k ≡ false
+  behind-block o h = behind-start (omega arith) ∙ le-ltb k (block .end) h
+
+  pub block-facts : inBlock block k ≡ true → (block .first ≤ k) × (k < block .end)
+  unfolding inBlock
+  block-facts e = (leb-true (block .first) k (both-left (leb (block .first) k) (ltb k (block .end)) e), ltb-true k (block .end) (both-right (leb (block .first) k) (ltb k (block .end)) e))
+
+-- ---- marked one by one
+
+-- those from `first` to before k
+unfoldable pub slotsUpTo : (first k j : ℕ) → Bool
+slotsUpTo first k j = leb first j && ltb j k
+
+pub block-unmarked : (first n : ℕ) → n ≡ maxSlots → marked (replicate n 0) ≡ slotsUpTo first first
+unfolding slotsUpTo
+block-unmarked first n e =
+    no-marks n e .none
+    ∙ fun-ext (λ j. on-lt j first (λ l. rw (lt-leb first j l)) (λ l. rw (le-leb first j l, le-ltb j first l)))
+
+pub block-more-marked : (marks : List ℕ) (first k : ℕ) → first ≤ k → k < length marks → marked marks ≡ slotsUpTo first k → marked (set marks k 1) ≡ slotsUpTo first (k + 1)
+unfolding slotsUpTo
+block-more-marked marks first k h l e = fun-ext (λ j. marked-more marks k l j ∙ ap (λ (f : ℕ → Bool). f j || eqb k j) e ∙ one-more j)
+  where
+    one-more : (j : ℕ) → ((leb first j && ltb j k) || eqb k j) ≡ (leb first j && ltb j (k + 1))
+    one-more j =
+        on-lt j first
+        (λ a. rw (lt-leb first j a, ne-eqb k j (λ q. omega arith)))
+        (λ a. on-lt j k
+        (λ b. rw (le-leb first j a, lt-ltb j k b, lt-ltb j (k + 1) (omega arith)))
+        (λ b. on-eq k j
+        (λ q. rw (le-leb first j a, le-ltb j k b, eq-eqb k j q, lt-ltb j (k + 1) (omega arith)))
+        (λ d. rw (le-leb first j a, le-ltb j k b, ne-eqb k j d, le-ltb j (k + 1) (omega arith)))))
+
+pub block-all-marked : (block : Block) → slotsUpTo (block .first) (block .end) ≡ inBlock block
+unfolding slotsUpTo inBlock
+block-all-marked block = refl
+
+-- ---- blanked one by one
+
+-- the block's slots below k blanked
+unfoldable pub blankedUpTo : ℕ → Flash → Block → ℕ → Flash
+blankedUpTo w f block k = applyAll w f (eraseSteps (listBelow k (inBlock block)))
+
+module _ (w : ℕ) (f : Flash) (block : Block) where
+  pub none-blanked : f ≡ blankedUpTo w f block (block .first)
+  unfolding blankedUpTo eraseSteps applyAllIn
+  none-blanked = sym (ap (λ (l : List ℕ). applyAll w f (eraseSteps l)) (list-none (inBlock block) (block .first) (λ k h. before-block block k h)))
+
+  pub one-blanked : (k : ℕ) → inBlock block k ≡ true → apply w (blankedUpTo w f block k) (Step.Blank k) ≡ blankedUpTo w f block (k + 1)
+  unfolding blankedUpTo eraseSteps applyAllIn
+  one-blanked k e =
+      sym (apply-append FiveWords w f (eraseSteps (listBelow k (inBlock block))) (Step.Blank k ∷ []))
+      ∙ ap (applyAll w f) (sym (map-append Step.Blank (listBelow k (inBlock block)) (k ∷ [])))
+      ∙ ap (λ (l : List ℕ). applyAll w f (eraseSteps l)) (sym (list-more (inBlock block) k e))
+
+  pub all-blanked : (S : ℕ) → BlockIn S block → blankedUpTo w f block (block .end) ≡ applyAll w f (eraseSteps (listBelow S (inBlock block)))
+  unfolding blankedUpTo
+  all-blanked S b =
+      ap (λ (l : List ℕ). applyAll w f (eraseSteps l))
+      (sym (list-goes-on (inBlock block) (block .end) S (b .inside) (λ k h l. behind-block block k (b .ordered) h)))

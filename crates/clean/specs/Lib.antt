@@ -1,0 +1,4 @@
+pub mod BlockLaws
+pub mod Choosing
+pub mod Copying
+pub mod CleanLaws

@@ -1,0 +1,97 @@
+use borrow.Author.Needs.{needs}
+use mathlib.Core.Path.{sym, _∙_}
+use Rattle.bounded.specs.Choice.{said-no, said-yes}
+use Rattle.bounded.specs.Limits.{twoWidths}
+use Rattle.recovery.specs.Answers.{simple-fits, sizes-wrong, slot-unsound, records-conflict, outcome-by-records, simple-outcome}
+use Rattle.recovery.proofs.simple.recover.Statement.{statement}
+use Rattle.recovery.proofs.simple.recover.Tie as tie
+
+table-ok-requires : tie.Need-table-ok-requires
+table-ok-requires c κs = tt
+
+reply-requires : tie.Need-reply-requires
+reply-requires c κs = tt
+
+same-length : tie.Need-same-length
+same-length c = search needs
+
+returns : tie.Need-returns
+returns c =
+    let a = c .before .before .before .before .before .before .args in
+    sizes-wrong _ _ _ _ _ _ _ _ (c .reply .ensures) (said-no (c .before .before .table-ok .ensures) (c .before .if1 .taken))
+    ∙ sym (simple-outcome twoWidths (a .sizes) (a .words .now) (a .state .now))
+
+table-sound-requires : tie.Need-table-sound-requires
+table-sound-requires c κs = simple-fits _ _ _ _ (said-yes (c .before .table-ok .ensures) (c .if1 .left)) .slots-in
+
+reply-requires-2 : tie.Need-reply-requires-2
+reply-requires-2 c κs = tt
+
+same-length-2 : tie.Need-same-length-2
+same-length-2 c = search needs
+
+returns-2 : tie.Need-returns-2
+returns-2 c =
+    let v = c .before .before .before in
+    let a = v .before .before .before .before .before .args in
+    slot-unsound _ _ _ _ _ _ _ _ (c .reply2 .ensures) (said-yes (v .before .table-ok .ensures) (v .if1 .left)) (said-no (c .before .before .table-sound .ensures) (c .before .if2 .taken))
+    ∙ sym (simple-outcome twoWidths (a .sizes) (a .words .now) (a .state .now))
+
+some-clash-requires : tie.Need-some-clash-requires
+some-clash-requires c κs = simple-fits _ _ _ _ (said-yes (c .before .before .before .table-ok .ensures) (c .before .before .if1 .left)) .slots-in
+
+reply-requires-3 : tie.Need-reply-requires-3
+reply-requires-3 c κs = tt
+
+same-length-3 : tie.Need-same-length-3
+same-length-3 c = search needs
+
+returns-3 : tie.Need-returns-3
+returns-3 c =
+    let t = c .before .before .before in
+    let v = t .before .before in
+    let a = v .before .before .before .before .before .args in
+    records-conflict _ _ _ _ _ _ _ _ (c .reply3 .ensures) (said-yes (v .before .table-ok .ensures) (v .if1 .left)) (said-yes (t .before .table-sound .ensures) (t .if2 .left))
+    (sym (c .before .before .some-clash .ensures) ∙ c .before .if3 .taken)
+    ∙ sym (simple-outcome twoWidths (a .sizes) (a .words .now) (a .state .now))
+
+recover-sound-requires : tie.Need-recover-sound-requires
+recover-sound-requires c κs =
+    let t = c .before .before .before in
+    let v = t .before .before in
+    let f = simple-fits _ _ _ _ (said-yes (v .before .table-ok .ensures) (v .if1 .left)) in
+    (f .slots-in, (f .pages-most, (said-yes (t .before .table-sound .ensures) (t .if2 .left), f .state-sized)))
+
+same-length-4 : tie.Need-same-length-4
+same-length-4 c = search needs
+
+returns-4 : tie.Need-returns-4
+returns-4 c =
+    let d = c .before .before .before .before in
+    let t = d .before .before in
+    let v = t .before .before in
+    let a = v .before .before .before .before .before .args in
+    c .before .before .recover-sound .ensures
+    ∙ outcome-by-records _ _ _ _ _ _ _ (said-yes (v .before .table-ok .ensures) (v .if1 .left)) (said-yes (t .before .table-sound .ensures) (t .if2 .left))
+    (sym (d .before .some-clash .ensures) ∙ d .if3 .left)
+    ∙ sym (simple-outcome twoWidths (a .sizes) (a .words .now) (a .state .now))
+
+pub recover-spec : {M : Type 1} → statement M
+recover-spec =
+    tie.close
+    (tie.spec
+    table-ok-requires
+    reply-requires
+    same-length
+    returns
+    table-sound-requires
+    reply-requires-2
+    same-length-2
+    returns-2
+    some-clash-requires
+    reply-requires-3
+    same-length-3
+    returns-3
+    recover-sound-requires
+    same-length-4
+    returns-4)

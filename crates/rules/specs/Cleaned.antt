@@ -1,0 +1,72 @@
+-- What is shown of cleaning, document 02, wish 1, stated: what an accepted cleaning leaves, that it may be done again, and how many blank slots are enough for it.
+use Prim.Native.Nat.{ℕ, _<_, _≤_}
+use mathlib.Core.Path.{_≡_}
+use mathlib.Core.Logic.{_⊎_}
+use mathlib.Core.Bool.{true, false}
+use lib.ListN.{length, replicate}
+use Rattle.bounded.specs.Limits.{Widths}
+use Rattle.bounded.specs.Below.{listBelow}
+use Rattle.sizes.specs.declared.Block.{Block}
+use Rattle.sizes.specs.declared.Sizes.{Sizes}
+use Rattle.sizes.specs.Blocks.{blockOk, blockAt, inBlock}
+use Rattle.record.specs.declared.Record.{Record}
+use Rattle.record.specs.declared.Slot.the-variants.{Blank, Holds}
+use Rattle.record.specs.Slot.{slotAt, bytesAt, isBlank}
+use Rattle.record.specs.Flash.{Flash}
+use Rattle.state.specs.State.{stateAt, stateSound}
+use Rattle.table.specs.Table.{tableSound}
+use Rattle.rules.specs.Volume.{Volume, volumeFits}
+use Rattle.rules.specs.Permission.{mayErase}
+use Rattle.rules.specs.Clean.{cleanAnswer, cleanOutcome}
+
+-- slot k of the flash f holds the record with these contents
+abbrev pub HoldsAt : Sizes → Flash → ℕ → Record → Flash → ℕ → Type 0
+HoldsAt sizes f k r g j = (slotAt (f .words) k ≡ Holds r) × (bytesAt (sizes .width) (f .contents) k ≡ bytesAt (sizes .width) (g .contents) j)
+
+-- the flash `after` a cleaning of the block, of a volume
+pub record Leaves (sizes : Sizes) (v : Volume) (block : Block) (after : Flash) : Type 0 where
+  -- "the block's slots are blanked"
+  pub block-blank : (k : ℕ) → k < sizes .slots → inBlock block k ≡ true → (slotAt (after .words) k ≡ Blank) × (bytesAt (sizes .width) (after .contents) k ≡ replicate (sizes .width) 255)
+  -- every other slot that held a record is as it was
+  pub others-stay : (k : ℕ) (r : Record) → k < sizes .slots → inBlock block k ≡ false → slotAt (v .flash .words) k ≡ Holds r → HoldsAt sizes after k r (v .flash) k
+  -- every other slot that is blank then is as it was
+  pub blank-stays :
+      (k : ℕ)
+      → k < sizes .slots
+      → inBlock block k ≡ false
+      → slotAt (after .words) k ≡ Blank
+      → (slotAt (v .flash .words) k ≡ Blank) × (bytesAt (sizes .width) (after .contents) k ≡ bytesAt (sizes .width) (v .flash .contents) k)
+  -- a record that is there then was there, with its contents
+  pub none-new : (k : ℕ) (r : Record) → k < sizes .slots → slotAt (after .words) k ≡ Holds r → (j : ℕ) × (j < sizes .slots) × HoldsAt sizes (v .flash) j r after k
+  -- a record that was there is there then, with its contents, outside the block, or the old rule allows to erase it
+  pub stays-or-erasable :
+      (k : ℕ) (r : Record)
+      → k < sizes .slots
+      → slotAt (v .flash .words) k ≡ Holds r
+      → ((j : ℕ) × (j < sizes .slots) × (inBlock block j ≡ false) × HoldsAt sizes after j r (v .flash) k) ⊎ (mayErase (sizes .slots) (slotAt (v .flash .words)) (stateAt (v .state)) k ≡ true)
+
+-- after every accepted cleaning, of any volume and with any widths allowed
+abbrev pub Cleaned : Type 0
+Cleaned =
+    (widths : Widths) (sizes : Sizes) (v : Volume) (block : ℕ)
+    → cleanAnswer widths sizes v block ≡ 0
+    → Leaves sizes v (blockAt (sizes .slots) block) (cleanOutcome widths sizes v block .left)
+
+-- cleaning the same block again is accepted and alters nothing
+abbrev pub CleanedAgain : Type 0
+CleanedAgain =
+    (widths : Widths) (sizes : Sizes) (v : Volume) (block : ℕ)
+    → cleanAnswer widths sizes v block ≡ 0
+    → cleanOutcome widths sizes (record { flash = cleanOutcome widths sizes v block .left; state = v .state }) block
+    ≡ record { answer = 0; second = 0; left = cleanOutcome widths sizes v block .left }
+
+-- Where conditions 1, 2, 5 and 6 do not hold, a block can be cleaned if the volume has as many blank slots as the block has slots, wherever they are.
+abbrev pub CleanAccepted : Type 0
+CleanAccepted =
+    (widths : Widths) (sizes : Sizes) (v : Volume) (block : ℕ)
+    → volumeFits widths sizes v ≡ true
+    → tableSound (sizes .pages) (sizes .slots) (slotAt (v .flash .words)) ≡ true
+    → stateSound (sizes .pages) (stateAt (v .state)) ≡ true
+    → blockOk (sizes .slots) block ≡ true
+    → length (listBelow (sizes .slots) (inBlock (blockAt (sizes .slots) block))) ≤ length (listBelow (sizes .slots) (λ k. isBlank (slotAt (v .flash .words) k)))
+    → cleanAnswer widths sizes v block ≡ 0

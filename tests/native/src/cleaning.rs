@@ -1,0 +1,94 @@
+//! Document 02's wish 1: twins, the permission of a list of slots, and what the cleaning of a block does. Of four-word records there are
+//! no twins.
+
+use crate::interface::{Family, BLOCKS};
+use crate::rules::{old_rule, records, slot, slot_bytes, Record};
+use crate::volume::Layout;
+use std::ops::Range;
+
+/// A volume that is looked at: its flash and its state.
+#[derive(Clone, Copy)]
+pub struct View<'a> {
+    pub layout: Layout,
+    pub words: &'a [u32],
+    pub contents: &'a [u8],
+    pub state: &'a [u32],
+}
+
+impl View<'_> {
+    pub fn slots(self) -> u32 {
+        (self.words.len() / self.layout.family.slot_words()) as u32
+    }
+
+    /// Slot k's record, or nothing where the slot is blank.
+    pub fn slot(self, k: u32) -> Option<Record> {
+        slot(self.layout.family, self.words, k)
+    }
+
+    pub fn bytes(&self, k: u32) -> &[u8] {
+        &self.contents[slot_bytes(self.layout.width, k)]
+    }
+}
+
+/// A test whether two slots hold one record.
+pub type Test = fn(View, u32, u32) -> bool;
+
+/// "A record may now have twins, equal in all words and bytes": different slots, neither of them blank.
+pub fn twins(v: View, k: u32, l: u32) -> bool {
+    v.layout.family == Family::Bpcc && k != l && v.slot(k).is_some() && v.slot(k) == v.slot(l) && v.bytes(k) == v.bytes(l)
+}
+
+/// "For equal page and version recovery gives 3 only if the two are no twins."
+pub fn clash(v: View, twins: Test) -> bool {
+    let table = records(v.layout.family, v.words);
+    table.iter().any(|&(k, r)| table.iter().any(|&(l, q)| k < l && r.p == q.p && r.v == q.v && !twins(v, k, l)))
+}
+
+/// "A slot whose twin is outside the erase list may always be erased, and if all twins are listed the old rule judges them."
+pub fn may_erase(v: View, twins: Test, listed: impl Fn(u32) -> bool, k: u32) -> bool {
+    (0..v.slots()).any(|l| !listed(l) && twins(v, k, l)) || old_rule(v.layout.family, v.words, v.state, k)
+}
+
+/// Whether every slot of a list may be erased.
+pub fn may_erase_all(v: View, twins: Test, list: &[u32]) -> bool {
+    let mut marks = vec![false; v.slots() as usize];
+    list.iter().for_each(|&k| marks[k as usize] = true);
+    list.iter().all(|&k| may_erase(v, twins, |l| marks[l as usize], k))
+}
+
+/// "Suggest judges a list of one."
+pub fn may_erase_alone(v: View, twins: Test, k: u32) -> bool {
+    may_erase(v, twins, |l| l == k, k)
+}
+
+/// The slots of a block where blocks have so many: "numbered 0 to 15, its first slot taken from a constant table", "the last in use ends
+/// at S". None of "a block above 15, or one that starts at or after S".
+pub fn block(block_slots: u32, slots: u32, number: u32) -> Option<Range<u32>> {
+    let start = |number: u32| block_slots * number;
+    (number < BLOCKS && start(number) < slots).then(|| start(number)..slots.min(start(number + 1)))
+}
+
+/// A step of cleaning: what a slot then holds, a record with its bytes, or nothing.
+pub struct Step {
+    pub slot: u32,
+    pub held: Option<(Record, Vec<u8>)>,
+}
+
+/// The slots of a block that are copied: "every record there that may not be erased, the whole block being listed, is copied once (of
+/// twins within the block only the lowest)".
+pub fn copied(v: View, twins: Test, block: Range<u32>) -> Vec<u32> {
+    let stays = |k: u32| v.slot(k).is_some() && !may_erase(v, twins, |l| block.contains(&l), k);
+    let lowest = |k: u32| !(block.start..k).any(|l| twins(v, k, l));
+    block.clone().filter(|&k| stays(k) && lowest(k)).collect()
+}
+
+/// The blank slots outside a block, rising.
+pub fn blank_outside(v: View, block: Range<u32>) -> Vec<u32> {
+    (0..v.slots()).filter(|k| !block.contains(k) && v.slot(*k).is_none()).collect()
+}
+
+/// "The copies in their order, then the blankings": copies of the slots `from`, each to one of `to`.
+pub fn steps(v: View, from: &[u32], to: &[u32], block: Range<u32>) -> Vec<Step> {
+    let copies = from.iter().zip(to).map(|(&k, &slot)| Step { slot, held: v.slot(k).map(|r| (r, v.bytes(k).to_vec())) });
+    copies.chain(block.map(|slot| Step { slot, held: None })).collect()
+}
