@@ -106,17 +106,17 @@ module _ (block : Block) (k : ℕ) where
 -- ---- marked one by one
 
 -- those from `first` to before k
-unfoldable pub slotsUpTo : (first k j : ℕ) → Bool
-slotsUpTo first k j = leb first j && ltb j k
+abbrev pub slotsUpTo : (first k j : ℕ) → Bool
+slotsUpTo first k = inBlock (record { first = first; end = k })
 
 pub block-unmarked : (first n : ℕ) → n ≡ maxSlots → marked (replicate n 0) ≡ slotsUpTo first first
-unfolding slotsUpTo
+unfolding inBlock
 block-unmarked first n e =
     no-marks n e .none
     ∙ fun-ext (λ j. on-lt j first (λ l. rw (lt-leb first j l)) (λ l. rw (le-leb first j l, le-ltb j first l)))
 
 pub block-more-marked : (marks : List ℕ) (first k : ℕ) → first ≤ k → k < length marks → marked marks ≡ slotsUpTo first k → marked (set marks k 1) ≡ slotsUpTo first (k + 1)
-unfolding slotsUpTo
+unfolding inBlock
 block-more-marked marks first k h l e = fun-ext (λ j. marked-more marks k l j ∙ ap (λ (f : ℕ → Bool). f j || eqb k j) e ∙ one-more j)
   where
     one-more : (j : ℕ) → ((leb first j && ltb j k) || eqb k j) ≡ (leb first j && ltb j (k + 1))
@@ -130,7 +130,6 @@ block-more-marked marks first k h l e = fun-ext (λ j. marked-more marks k l j �
         (λ d. rw (le-leb first j a, le-ltb j k b, ne-eqb k j d, le-ltb j (k + 1) (omega arith)))))
 
 pub block-all-marked : (block : Block) → slotsUpTo (block .first) (block .end) ≡ inBlock block
-unfolding slotsUpTo inBlock
 block-all-marked block = refl
 
 -- ---- blanked one by one

@@ -12,7 +12,7 @@ use Rattle.bounded.specs.BelowLaws.{below-suc, all-at, some-at, some-of, first-
 use Rattle.record.specs.declared.Record.{Record}
 use Rattle.record.specs.declared.Slot.{Slot}
 use Rattle.record.specs.declared.Slot.the-variants.{Blank, Holds}
-use Rattle.record.specs.SlotLaws.{holds-exactly}
+use Rattle.record.specs.SlotLaws.{holds-exactly, holds-one}
 use Rattle.record.specs.Slot.{slotSound, recordSound, holds, someRecord}
 use Rattle.table.specs.Table.{tableSound, ofPage, ofVersion, clash, someClash, hasRecord, lowestSlot, hasVersion, above, better, raised, highest, versionIn}
 
@@ -23,6 +23,25 @@ blank-holds e h = let z : _≡_ {A = ℕ} 0 1 = cc in omega arith
 -- a slot that holds a record which passes
 pub holds-of : (f : Record → Bool) {s : Slot} {r : Record} → s ≡ Holds r → f r ≡ true → holds f s ≡ true
 holds-of f {s} {r} e h = holds-exactly f s .1 (r, e, h)
+
+pub of-version : (p v : ℕ) (r : Record) → (ofVersion p v r ≡ true) ↔ ((r .p ≡ p) × (r .v ≡ v))
+unfolding ofVersion
+of-version p v r = (
+  λ e. (eqb-true (r .p) p (both-left (eqb (r .p) p) (eqb (r .v) v) e), eqb-true (r .v) v (both-right (eqb (r .p) p) (eqb (r .v) v) e)),
+  λ w. both (eq-eqb (r .p) p (w .0)) (eq-eqb (r .v) v (w .1)),
+)
+
+-- two slots "with equal page and version", as a proposition
+pub clash-exactly : (x y : Slot) → (clash x y ≡ true) ↔ ((a : Record) × (b : Record) × (x ≡ Holds a) × (y ≡ Holds b) × (a .p ≡ b .p) × (a .v ≡ b .v))
+unfolding clash
+clash-exactly x Blank = (λ e. absurd (never refl (sym e)), λ w. absurd (blank-holds refl (w .3)))
+clash-exactly x (Holds b) = (
+  λ e. let h = holds-exactly (ofVersion (b .p) (b .v)) x .0 e in
+      let q = of-version (b .p) (b .v) (h .0) .0 (h .2) in
+      (h .0, b, h .1, refl, q .0, q .1),
+  λ w. let r = holds-one refl (w .3) in
+      holds-of (ofVersion (b .p) (b .v)) (w .2) (of-version (b .p) (b .v) (w .0) .1 (w .4 ∙ ap (λ (x : Record). x .p) (sym r), w .5 ∙ ap (λ (x : Record). x .v) (sym r))),
+)
 
 module _ (t : ℕ → Slot) where
   -- "a slot neither blank nor sound": there is none
@@ -127,13 +146,6 @@ module _ (t : ℕ → Slot) where
 
   -- ---- a page at a version
 
-  pub of-version : (p v : ℕ) (r : Record) → (ofVersion p v r ≡ true) ↔ ((r .p ≡ p) × (r .v ≡ v))
-  unfolding ofVersion
-  of-version p v r = (
-    λ e. (eqb-true (r .p) p (both-left (eqb (r .p) p) (eqb (r .v) v) e), eqb-true (r .v) v (both-right (eqb (r .p) p) (eqb (r .v) v) e)),
-    λ w. both (eq-eqb (r .p) p (w .0)) (eq-eqb (r .v) v (w .1)),
-  )
-
   -- "the lowest slot holding the page at" a version: where there is one, it holds such a record and no lower slot does
   pub lowest-holds : (S p v : ℕ) → lowestSlot S t p v < S → (r : Record) × (t (lowestSlot S t p v) ≡ Holds r) × (r .p ≡ p) × (r .v ≡ v)
   unfolding lowestSlot
@@ -164,23 +176,12 @@ module _ (t : ℕ → Slot) where
       (S : ℕ)
       → (someClash S t ≡ true)
       ↔ ((j : ℕ) × (k : ℕ) × (a : Record) × (b : Record) × (j < k) × (k < S) × (t j ≡ Holds a) × (t k ≡ Holds b) × (a .p ≡ b .p) × (a .v ≡ b .v))
-  unfolding someClash clash
+  unfolding someClash
   some-clash S = (
     λ e. let w = some-at (λ k. someBelow k (λ j. clash (t j) (t k))) S e in
         let u = some-at (λ j. clash (t j) (t (w .0))) (w .0) (w .2) in
-        let c = clash-at (t (u .0)) (t (w .0)) (u .2) in
+        let c = clash-exactly (t (u .0)) (t (w .0)) .0 (u .2) in
         (u .0, w .0, c .0, c .1, u .1, w .1, c .2, c .3, c .4, c .5),
     λ w. some-of (λ k. someBelow k (λ j. clash (t j) (t k))) S (w .1) (w .5)
-        (some-of (λ j. clash (t j) (t (w .1))) (w .1) (w .0) (w .4) (clash-of (w .6) (w .7) (w .8) (w .9))),
+        (some-of (λ j. clash (t j) (t (w .1))) (w .1) (w .0) (w .4) (clash-exactly (t (w .0)) (t (w .1)) .1 (w .2, w .3, w .6, w .7, w .8, w .9))),
   )
-    where
-      clash-at : (x y : Slot) → clash x y ≡ true → (a : Record) × (b : Record) × (x ≡ Holds a) × (y ≡ Holds b) × (a .p ≡ b .p) × (a .v ≡ b .v)
-      clash-at x Blank e = absurd (never refl (sym e))
-      clash-at x (Holds b) e =
-          let h = holds-exactly (ofVersion (b .p) (b .v)) x .0 e in
-          let q = of-version (b .p) (b .v) (h .0) .0 (h .2) in
-          (h .0, b, h .1, refl, q .0, q .1)
-
-      clash-of : {x y : Slot} {a b : Record} → x ≡ Holds a → y ≡ Holds b → a .p ≡ b .p → a .v ≡ b .v → clash x y ≡ true
-      clash-of {x} {y} {a} {b} e f q u =
-          subst (λ (s : Slot). clash x s ≡ true) (sym f) (holds-of (ofVersion (b .p) (b .v)) e (of-version (b .p) (b .v) a .1 (q, u)))

@@ -1,7 +1,7 @@
 -- Twins as facts: both slots hold one record, with the same bytes.
 use Prim.Native.Nat.{ℕ, _<_}
 use native.Mathlib.Omega.{arith}
-use mathlib.Core.Path.{_≡_, refl, sym, ap, ap₂, _∙_}
+use mathlib.Core.Path.{_≡_, refl, sym, ap, _∙_}
 use mathlib.Core.Logic.{_↔_}
 use mathlib.Core.List.{List}
 use mathlib.Core.Bool.{true, false, not, _&&_, false≢true}
@@ -16,11 +16,11 @@ use Rattle.record.specs.declared.Record.{Record}
 use Rattle.record.specs.declared.Slot.{Slot}
 use Rattle.record.specs.declared.Slot.the-variants.{Blank, Holds}
 use Rattle.record.specs.Slot.{holds, slotAt, bytesAt}
-use Rattle.record.specs.SlotLaws.{holds-exactly}
+use Rattle.record.specs.SlotLaws.{holds-exactly, holds-one}
 use Rattle.record.specs.Flash.{Flash}
 use Rattle.table.specs.Given.{given}
-use Rattle.table.specs.Table.{ofVersion, clash}
-use Rattle.table.specs.TableLaws.{blank-holds, holds-of}
+use Rattle.table.specs.Table.{clash}
+use Rattle.table.specs.TableLaws.{blank-holds, holds-of, clash-exactly}
 use Rattle.twins.specs.Twins.{sameWords, sameRecord, sameBytes, twins, someConflict}
 
 -- equal "in all words": one record
@@ -74,13 +74,11 @@ same-bytes w a b m n = (
 
 -- two that have "equal page and version" with a third have it with each other
 clash-shared : (x y z : Slot) → clash x z ≡ true → clash y z ≡ true → clash x y ≡ true
-unfolding clash ofVersion
-clash-shared x y Blank e h = absurd (never e refl)
-clash-shared x y (Holds r) e h =
-    let b = holds-exactly (ofVersion (r .p) (r .v)) y .0 h in
-    let p = eqb-true (b .0 .p) (r .p) (both-left (eqb (b .0 .p) (r .p)) (eqb (b .0 .v) (r .v)) (b .2)) in
-    let v = eqb-true (b .0 .v) (r .v) (both-right (eqb (b .0 .p) (r .p)) (eqb (b .0 .v) (r .v)) (b .2)) in
-    ap (clash x) (b .1) ∙ ap₂ (λ (p v : ℕ). holds (ofVersion p v) x) p v ∙ e
+clash-shared x y z e h =
+    let a = clash-exactly x z .0 e in
+    let b = clash-exactly y z .0 h in
+    let r = holds-one (a .3) (b .3) in
+    clash-exactly x y .1 (a .0, b .0, a .2, b .2, a .4 ∙ ap (λ (r : Record). r .p) r ∙ sym (b .4), a .5 ∙ ap (λ (r : Record). r .v) r ∙ sym (b .5))
 
 -- "twins, equal in all words and bytes"
 abbrev pub Twins : (w : ℕ) (f : Flash) (j k : ℕ) → Type 0

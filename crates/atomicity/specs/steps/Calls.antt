@@ -6,12 +6,10 @@ use mathlib.Core.List.{List, [], _∷_, append-nil, flatten}
 use mathlib.Core.Bool.{true}
 use lib.ListN.{length}
 use Rattle.bounded.specs.Limits.{noNumber, Widths}
-use Rattle.bounded.specs.Choice.{never}
 use Rattle.outcome.specs.Outcome.{Outcome}
 use Rattle.sizes.specs.declared.Sizes.{Sizes}
-use Rattle.record.specs.declared.Slot.{Slot}
-use Rattle.record.specs.declared.Slot.the-variants.{Blank, Holds}
-use Rattle.record.specs.Slot.{slotIn, isBlank}
+use Rattle.record.specs.Slot.{slotIn}
+use Rattle.record.specs.SlotLaws.{is-blank-exactly}
 use Rattle.record.specs.Flash.{Flash, Step, applyIn, applyAllIn}
 use Rattle.record.specs.FlashLaws.{SizedIn, store-sized}
 use Rattle.state.specs.State.{stateAt}
@@ -92,11 +90,10 @@ module _ {F : Family} (T : Theory F) (widths : Widths) (sizes : Sizes) (v : Volu
       (spares-accepted (F .cleanStages sizes v block) (T .clean-spares widths sizes v block (k .fits) e))
 
   write-accepted : (page slot : ℕ) (bytes : List ℕ) → T .writeAnswer widths sizes v page slot bytes ≡ 0 → Known T widths sizes (written F sizes v page slot bytes) (enter page bytes (m .kept) (m .rings))
-  unfolding isBlank
   write-accepted page slot bytes e =
       let a = T .write-tested widths sizes v page slot bytes e in
       let y : Flies (sizes .pages) (stateAt (v .state)) page = record { below = a .page-below; flies = a .flying } in
-      let free = blank-exactly (slotIn (F .layout) (v .flash .words) slot) (a .free) in
+      let free = is-blank-exactly (slotIn (F .layout) (v .flash .words) slot) .0 (a .free) in
       record {
         fits = record {
           bounds = k .fits .bounds;
@@ -108,10 +105,6 @@ module _ {F : Family} (T : Theory F) (widths : Widths) (sizes : Sizes) (v : Volu
             (written-live T sizes (v .flash) (k .fits .flash-sized) (stateAt (v .state)) m (k .live) page slot bytes y (a .unwritten) (a .slot-below) (a .whole) free (T .write-fresh widths sizes v page slot bytes e _));
       }
     where
-      blank-exactly : (s : Slot) → isBlank s ≡ true → s ≡ Blank
-      blank-exactly Blank e = refl
-      blank-exactly (Holds r) e = absurd (never refl (sym e))
-
       stored-sized : (page slot : ℕ) (bytes : List ℕ) → slot < (sizes .slots) → length bytes ≡ sizes .width → SizedIn (F .layout) (sizes .width) (sizes .slots) (applyIn (F .layout) (sizes .width) (v .flash) (Step.Store slot (F .plan (stateAt (v .state)) page) bytes))
       stored-sized page slot bytes h e = store-sized (F .layout) (sizes .width) (sizes .slots) (v .flash) (k .fits .flash-sized) slot h (F .plan (stateAt (v .state)) page) bytes e
 

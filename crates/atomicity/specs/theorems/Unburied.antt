@@ -1,15 +1,15 @@
 -- A write is refused by 16 only where an exposed record is neither in flight nor at its page's used version: every other is the record planned for its page.
-use Prim.Native.Nat.{ℕ, zero, suc, _<_}
+use Prim.Native.Nat.{ℕ, _<_}
 use native.Mathlib.Omega.{arith}
 use mathlib.Core.Path.{_≡_, refl, sym, ap, _∙_, subst}
 use mathlib.Core.Logic.{_⊎_, inl, inr, ⊎-elim, _↔_}
-use mathlib.Core.List.{List, [], _∷_, map, List·Memᴰ, List·Memᴰ·head, List·Memᴰ·tail}
+use mathlib.Core.List.{List, map, List·Memᴰ}
 use mathlib.Core.Bool.{Bool, true, false, not, _&&_, false≢true}
 use lib.Dec.{ltb, eqb}
 use lib.ListN.{length, getD}
 use borrow.Author.Tests.{not-false}
 use Rattle.bounded.specs.Limits.{Widths}
-use Rattle.bounded.specs.Members.{listed?}
+use Rattle.bounded.specs.Members.{listed?, entry-member}
 use Rattle.bounded.specs.Choice.{on-test, never, both-left, both-right, conjoined, equal-test}
 use Rattle.outcome.specs.Outcome.{_⇒_otherwise_, settled}
 use Rattle.sizes.specs.declared.Layout.the-variants.{FourWords}
@@ -151,11 +151,6 @@ module _ (sizes : Sizes) (f : Flash) (st : ℕ → PageState) (m : Model) (l : L
 
 -- ---- after an erase of every such record
 
-at-member : (l : List ℕ) (i : ℕ) → i < length l → List·Memᴰ (getD l i 0) l
-at-member [] i h = absurd (omega arith)
-at-member (x ∷ l) zero h = List·Memᴰ·head refl
-at-member (x ∷ l) (suc i) h = List·Memᴰ·tail (at-member l i (omega arith))
-
 spared :
     (sizes : Sizes) (v : Volume) (slots : List ℕ)
     → SizedIn FourWords (sizes .width) (sizes .slots) (v .flash)
@@ -170,7 +165,7 @@ spared sizes v slots size inside lists k h e =
     (λ m. false≢true (subst (λ (s : Slot). holds spare s ≡ true) (blanks-listed FourWords (sizes .width) (sizes .slots) slots (v .flash) k size inside m .slot-blank) e))
     (λ n. let s = blanks-unlisted FourWords (sizes .width) (sizes .slots) slots (v .flash) k size inside n in
     let w = lists k h (subst (λ (x : Slot). holds spare x ≡ true) (s .same-slot) e) in
-    n (subst (λ (x : ℕ). List·Memᴰ x slots) (w .2) (at-member slots (w .0) (w .1))))
+    n (entry-member slots (w .0) k (w .1) (w .2)))
     (listed? k slots)
   where
     spare : Record → Bool

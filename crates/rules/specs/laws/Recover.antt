@@ -5,12 +5,11 @@ use mathlib.Core.Path.{_≡_, refl, sym, ap}
 use mathlib.Core.List.{List}
 use mathlib.Core.Logic.{_↔_}
 use mathlib.Core.Bool.{Bool, true, false, cond, not, _&&_}
-use lib.Dec.{ltb, eqb}
+use lib.Dec.{ltb}
 use lib.ListN.{length}
 use Rattle.bounded.specs.Limits.{Widths}
 use Rattle.bounded.specs.Below.{someBelow}
-use borrow.Author.Tests.{eqb-true}
-use Rattle.bounded.specs.Choice.{never, on-test, both-left, both-right}
+use Rattle.bounded.specs.Choice.{never, on-test}
 use Rattle.bounded.specs.BelowLaws.{some-at, some-of, some-none, some-not-at}
 use Rattle.outcome.specs.OutcomeLaws.{settled-refused, settled-done}
 use Rattle.sizes.specs.declared.Sizes.{Sizes}
@@ -20,10 +19,10 @@ use Rattle.record.specs.declared.Slot.{Slot}
 use Rattle.record.specs.declared.Slot.the-variants.{Blank, Holds}
 use Rattle.record.specs.Slot.{slotAt, straddles}
 use Rattle.record.specs.Flash.{Flash, flash}
-use Rattle.record.specs.SlotLaws.{sound-facts, Straddles, straddles-exactly, holds-exactly, some-record}
+use Rattle.record.specs.SlotLaws.{sound-facts, Straddles, straddles-exactly, some-record}
 use Rattle.state.specs.State.{stateWords}
-use Rattle.table.specs.Table.{tableSound, ofVersion, clash, someClash, highest, highestVersionOf}
-use Rattle.table.specs.TableLaws.{highest-is, highest-held, sound-at}
+use Rattle.table.specs.Table.{tableSound, clash, someClash, highest, highestVersionOf}
+use Rattle.table.specs.TableLaws.{highest-is, highest-held, sound-at, clash-exactly}
 use Rattle.follow.specs.declared.Verdict.the-variants as says
 use Rattle.follow.specs.declared.End.{End}
 use Rattle.follow.specs.declared.End.the-variants as ends
@@ -101,13 +100,6 @@ unclashed S t twin e =
     (λ k h. some-none (λ j. clash (t j) (t k) && not (twin j k)) k
     (λ j l. ap (λ (b : Bool). b && not (twin j k)) (some-not-at (λ j. clash (t j) (t k)) k j (some-not-at (λ k. someBelow k (λ j. clash (t j) (t k))) S k e h) l)))
 
-clash-records : (x y : Slot) → clash x y ≡ true → (a : Record) × (b : Record) × (x ≡ Holds a) × (y ≡ Holds b) × (a .p ≡ b .p) × (a .v ≡ b .v)
-unfolding clash ofVersion
-clash-records x Blank e = absurd (never e refl)
-clash-records x (Holds b) e =
-    let h = holds-exactly (ofVersion (b .p) (b .v)) x .0 e in
-    (h .0, b, h .1, refl, eqb-true (h .0 .p) (b .p) (both-left (eqb (h .0 .p) (b .p)) (eqb (h .0 .v) (b .v)) (h .2)), eqb-true (h .0 .v) (b .v) (both-right (eqb (h .0 .p) (b .p)) (eqb (h .0 .v) (b .v)) (h .2)))
-
 -- "for equal page and version recovery gives 3 only if the two are no twins": where all such records are twins, none conflict
 pub twins-agree :
     (S : ℕ) (t : ℕ → Slot) (twin : ℕ → ℕ → Bool)
@@ -117,7 +109,7 @@ unfolding someConflict
 twins-agree S t twin agree =
     some-none (λ k. someBelow k (λ j. clash (t j) (t k) && not (twin j k))) S
     (λ k h. some-none (λ j. clash (t j) (t k) && not (twin j k)) k
-    (λ j l. on-test (clash (t j) (t k)) (λ e. let c = clash-records (t j) (t k) e in rw (e, agree j k (c .0) (c .1) l h (c .2) (c .3) (c .4) (c .5))) (λ e. rw e)))
+    (λ j l. on-test (clash (t j) (t k)) (λ e. let c = clash-exactly (t j) (t k) .0 e in rw (e, agree j k (c .0) (c .1) l h (c .2) (c .3) (c .4) (c .5))) (λ e. rw e)))
 
 -- ---- what recovery reads
 
