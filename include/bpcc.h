@@ -16,16 +16,18 @@
  * record (section 2) and a state (section 3) are sound. A record may be in several slots: twins, equal in all five words and all W
  * bytes, as a cut in bpcc_clean leaves them.
  *
- * A block is BPCC_BLOCK_SLOTS slots that the chip erases together: block b, 0 to 15, has those from 64*b on, up to the next block
- * or to S.
+ * A block is slots that the chip erases together. The calls about blocks take a table of them, another at each call if need be:
+ *
+ *   starts    1 to BPCC_MAX_BLOCKS words, the blocks' first slots: the first is 0, they rise strictly, all are below S. Block b has
+ *             the slots from starts[b] to before starts[b + 1], the last block those to before S.
  *
  * A buffer, and a list is one, is a pointer and then its length, in elements; it is really there and as long as stated, as
  * premise 1 of README.md says. What the buffers hold, and all numbers and lengths, may be anything: every call either is done or
  * refuses. Nothing is kept between calls; two calls on one volume must not overlap in time.
  *
  * Every call returns the answer in the lower 32 bits (bpcc_answer) and a second number in the upper (bpcc_second). The answer
- * is 0 or the first refusal, from the lowest number up, whose condition holds, each tried for all pages or slots before the
- * next. After a refusal every buffer is as it was and the second number is 0 (of bpcc_suggest: BPCC_NONE).
+ * is 0 or the first refusal, from the lowest number up (17 straight after 1), whose condition holds, each tried for all pages or
+ * slots before the next. After a refusal every buffer is as it was and the second number is 0 (of bpcc_suggest: BPCC_NONE).
  */
 #ifndef BPCC_H
 #define BPCC_H
@@ -39,7 +41,7 @@ extern "C" {
 
 /* The interface's version: the major number rises where a caller must change, the minor where something is added, made
  * stricter, or costs otherwise (docs/CHANGES.md). */
-#define BPCC_VERSION_MAJOR 3
+#define BPCC_VERSION_MAJOR 4
 #define BPCC_VERSION_MINOR 0
 
 /* The two widths: bytes of contents for each slot, and the length of what is written and read. */
@@ -54,9 +56,16 @@ extern "C" {
 #define BPCC_MAX_SLOTS 1024
 #define BPCC_MAX_WIDTH BPCC_WIDTH_64
 
-/* Slots of a block, and the most blocks of a volume. */
-#define BPCC_BLOCK_SLOTS 64
+/* The most blocks of a table. */
 #define BPCC_MAX_BLOCKS 16
+
+/* A sample of a table, as an initializer: blocks of 64 slots. A volume of S slots has the first BPCC_BLOCKS_OF_64_LENGTH(S) of them:
+ *
+ *   static const uint32_t starts[BPCC_MAX_BLOCKS] = BPCC_BLOCKS_OF_64;
+ *   bpcc_check_blocks(P, S, W, starts, BPCC_BLOCKS_OF_64_LENGTH(S))
+ */
+#define BPCC_BLOCKS_OF_64 {0, 64, 128, 192, 256, 320, 384, 448, 512, 576, 640, 704, 768, 832, 896, 960}
+#define BPCC_BLOCKS_OF_64_LENGTH(slots) (((size_t)(slots) + 63) / 64)
 
 /* Words of a slot in the table, and of a page in the state. */
 #define BPCC_SLOT_WORDS 5
@@ -84,7 +93,8 @@ enum bpcc_answers {
     BPCC_MAY_NOT_ERASE = 12,
     BPCC_NOTHING_TO_ERASE = 13,
     BPCC_NO_COMMITTED_RECORD = 14,
-    BPCC_TOO_FEW_BLANK = 15
+    BPCC_TOO_FEW_BLANK = 15,
+    BPCC_WRONG_BLOCKS = 17
 };
 
 /* The answer, 0 for done. */
@@ -112,6 +122,7 @@ static inline const char *bpcc_answer_text(uint32_t answer) {
     case BPCC_NO_COMMITTED_RECORD: return "no committed record";
     case BPCC_TOO_FEW_BLANK: return "too few blank slots outside the block";
     case 16: return "a record would be buried";
+    case BPCC_WRONG_BLOCKS: return "block table wrong";
     default: return "no answer of this library";
     }
 }
@@ -184,7 +195,14 @@ uint64_t bpcc_suggest(uint32_t pages, uint32_t slots, uint32_t width,
                       const uint32_t *state, size_t state_length);
 
 /*
- * Cleans a block: each record in it that may not be erased, all slots of the block being listed, is copied with its bytes to a
+ * Checks a block table, for loading: the calls that take it check it again. Alters nothing.
+ * Refuses: 1 (pages, slots or width), 17.
+ */
+uint64_t bpcc_check_blocks(uint32_t pages, uint32_t slots, uint32_t width,
+                           const uint32_t *starts, size_t starts_length);
+
+/*
+ * Cleans a block of the table: each record in it that may not be erased, all slots of the block being listed, is copied with its bytes to a
  * blank slot outside the block, of twins in the block the lowest alone; then every slot of the block becomes blank with bytes 255.
  * The copies are made in rising order of the block's slots, to the lowest blank slots outside, rising. The state stays.
  *
@@ -192,13 +210,14 @@ uint64_t bpcc_suggest(uint32_t pages, uint32_t slots, uint32_t width,
  * first the slots outside the block that were blank before the call and hold a record after it, one after the other in rising
  * order, and only when all are programmed the block, as one. After a cut anywhere in this bpcc_recover finds every page, some
  * records perhaps in two slots, as twins; clean the block again.
- * Refuses: 1, 2, 5, 6 (no such block), 15 (fewer blank slots outside the block than records to copy). Uses less than 12 KiB of
- * stack.
+ * Refuses: 1, 17, 2, 5, 6 (a block at or past the table's length), 15 (fewer blank slots outside the block than records to copy), in
+ * this order. Uses less than 12 KiB of stack.
  */
 uint64_t bpcc_clean(uint32_t pages, uint32_t slots, uint32_t width,
                     uint32_t *words, size_t words_length,
                     uint8_t *contents, size_t contents_length,
                     const uint32_t *state, size_t state_length,
+                    const uint32_t *starts, size_t starts_length,
                     uint32_t block);
 
 /*

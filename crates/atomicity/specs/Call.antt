@@ -6,6 +6,7 @@ use lib.Dec.{eqb}
 use Rattle.bounded.specs.Limits.{Widths}
 use Rattle.outcome.specs.Outcome.{Outcome}
 use Rattle.sizes.specs.declared.Sizes.{Sizes}
+use Rattle.sizes.specs.Blocks.{NamedBlock}
 use Rattle.record.specs.Flash.{Flash, Step}
 use Rattle.state.specs.State.{stateAt}
 use Rattle.rules.specs.Volume.{Volume}
@@ -14,14 +15,14 @@ use Rattle.rules.specs.Withdraw.{withdrawOutcome}
 use Rattle.rules.specs.Erase.{eraseSteps}
 use Rattle.atomicity.specs.Family.{Family}
 
--- "It holds launch, write, withdraw, erase and recover, with any pages, slots, lists and bytes"; document 02: "Cleaning joins the calls of promise 3."
+-- "It holds launch, write, withdraw, erase and recover, with any pages, slots, lists and bytes"; document 02: "Cleaning joins the calls of promise 3", each by a table of its own: "another at each call included".
 pub data Call : Type 0 where
   Launch : (pages : List ℕ) → Call
   Write : (page slot : ℕ) (bytes : List ℕ) → Call
   Withdraw : (page : ℕ) → Call
   Erase : (slots : List ℕ) → Call
   Recover : Call
-  Clean : (block : ℕ) → Call
+  Clean : (block : NamedBlock) → Call
 
 -- the volume's outcome where a call alters the state alone; and where it alters the flash alone
 unfoldable pub withState : Volume → Outcome (List ℕ) → Outcome Volume

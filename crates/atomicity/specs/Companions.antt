@@ -7,6 +7,7 @@ use mathlib.Core.Bool.{Bool, true, false}
 use lib.ListN.{length}
 use Rattle.bounded.specs.Limits.{Widths}
 use Rattle.sizes.specs.declared.Sizes.{Sizes}
+use Rattle.sizes.specs.Blocks.{NamedBlock}
 use Rattle.record.specs.declared.Slot.the-variants.{Holds}
 use Rattle.record.specs.Slot.{slotIn}
 use Rattle.record.specs.Flash.{Step, applyAllIn}
@@ -96,11 +97,11 @@ pub record SameFound (F : Family) (widths : Widths) (sizes : Sizes) (v w : Volum
       → readOutcomeIn (F .layout) widths sizes (record { flash = v .flash; state = F .recover widths sizes v .left }) page out
       ≡ readOutcomeIn (F .layout) widths sizes (record { flash = w .flash; state = F .recover widths sizes w .left }) page out
 
--- after every list under the premises that leaves the state known, recovery straight before a cleaning and after it, whichever block it is of
+-- after every list under the premises that leaves the state known, recovery straight before a cleaning and after it, whichever block it is of, by whatever table
 abbrev pub CleaningUnseen : Family → Type 0
 CleaningUnseen F =
     (widths : Widths) (sizes : Sizes) (v : Volume) (events : List Event)
     → Premises F widths sizes v events
     → StateKnown F widths sizes v events
-    → (block : ℕ)
+    → (block : NamedBlock)
     → SameFound F widths sizes (after F widths sizes (started F widths sizes v) events .volume) (perform F widths sizes (after F widths sizes (started F widths sizes v) events .volume) (Call.Clean block) .left)

@@ -7,7 +7,7 @@ use Rattle.outcome.specs.Outcome.{Outcome}
 use Rattle.sizes.specs.declared.Layout.{Layout}
 use Rattle.sizes.specs.declared.Layout.the-variants.{FiveWords, FourWords}
 use Rattle.sizes.specs.declared.Sizes.{Sizes}
-use Rattle.sizes.specs.Blocks.{blockAt}
+use Rattle.sizes.specs.Blocks.{NamedBlock, blockAt}
 use Rattle.record.specs.declared.Record.{Record}
 use Rattle.record.specs.declared.Slot.{Slot}
 use Rattle.record.specs.Flash.{Flash, Step}
@@ -30,9 +30,9 @@ pub record Family : Type 0 where
   pub write : Widths → Sizes → Volume → (page slot : ℕ) (bytes : List ℕ) → Outcome Volume
   pub erase : Widths → Sizes → Volume → (slots : List ℕ) → Outcome Flash
   pub recover : Widths → Sizes → Volume → Outcome (List ℕ)
-  pub clean : Widths → Sizes → Volume → (block : ℕ) → Outcome Flash
+  pub clean : Widths → Sizes → Volume → (block : NamedBlock) → Outcome Flash
   -- what an accepted cleaning does to the flash: its stages, one after the other, each of single steps
-  pub cleanStages : Sizes → Volume → (block : ℕ) → List (List Step)
+  pub cleanStages : Sizes → Volume → (block : NamedBlock) → List (List Step)
 
 -- document 01's records, with a back pointer
 abbrev pub backPointer : Family
@@ -48,7 +48,7 @@ backPointer =
       cleanStages = λ sizes v block. cleanStages sizes v (blockAt (sizes .slots) block);
     }
 
--- "These volumes are not cleaned": they have no blocks, so that each block's number is out of range
+-- "These volumes are not cleaned": there is no such call, and in a run one refuses by 6 whatever it names
 unfoldable pub notCleaned : Volume → Outcome Flash
 notCleaned v = record { answer = 6; second = 0; left = v .flash }
 

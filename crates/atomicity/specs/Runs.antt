@@ -1,5 +1,5 @@
--- Runs that meet the premises, computed: three end in contents that are not the formatted zeros; in the fourth a ring that a recover closed stays closed; a fifth, of
--- records without a back pointer, has a write that is refused by 16.
+-- Runs that meet the premises, computed: three end in contents that are not the formatted zeros; in the fourth a ring that a recover closed stays closed; in the fifth a block is
+-- cleaned, with a crash, by small blocks of two tables; a sixth, of records without a back pointer, has a write that is refused by 16.
 use Prim.Native.Nat.{ℕ}
 use mathlib.Core.Path.{_≡_}
 use mathlib.Core.List.{List, [], _∷_}
@@ -9,6 +9,7 @@ use lib.ListN.{replicate}
 use Rattle.bounded.specs.Limits.{noNumber, Widths}
 use Rattle.sizes.specs.declared.Sizes.{Sizes}
 use Rattle.sizes.specs.Sizes.{sizesOf}
+use Rattle.sizes.specs.Blocks.{named}
 use Rattle.record.specs.Slot.{blankRecord}
 use Rattle.table.specs.Given.{given, tableOf}
 use Rattle.rules.specs.Volume.{Volume}
@@ -92,6 +93,26 @@ runClosed =
     ∷ Event.Returns (Call.Write 0 2 (5 ∷ []))
     ∷ []
 
+-- page 0 is stored; a cleaning by a wrong table is refused; one of slots 0 and 1 crashes when page 1's record is copied, to slot 3, and slot 0 alone is blanked
+unfoldable pub runCopied : List Event
+runCopied =
+    Event.Returns (Call.Launch (0 ∷ []))
+    ∷ Event.Returns (Call.Write 0 2 (5 ∷ []))
+    ∷ Event.Returns (Call.Clean (named (0 ∷ 2 ∷ 2 ∷ []) 0))
+    ∷ Event.CrashIn (Call.Clean (named (0 ∷ 2 ∷ 4 ∷ []) 0)) 1 (eqb 0) lostState
+    ∷ []
+
+-- … then it is recovered, and slot 1 is cleaned, a block of another table; nothing is to be copied
+unfoldable pub runCleaned : List Event
+runCleaned =
+    Event.Returns (Call.Launch (0 ∷ []))
+    ∷ Event.Returns (Call.Write 0 2 (5 ∷ []))
+    ∷ Event.Returns (Call.Clean (named (0 ∷ 2 ∷ 2 ∷ []) 0))
+    ∷ Event.CrashIn (Call.Clean (named (0 ∷ 2 ∷ 4 ∷ []) 0)) 1 (eqb 0) lostState
+    ∷ Event.Returns Call.Recover
+    ∷ Event.Returns (Call.Clean (named (0 ∷ 1 ∷ 2 ∷ 3 ∷ 4 ∷ []) 1))
+    ∷ []
+
 -- the first write of a ring of two, then a crash: its record stays exposed; the page is launched in another ring
 unfoldable pub runExposed : List Event
 runExposed =
@@ -123,7 +144,7 @@ keptAfter F v events = let m = modelAfter F oneByte sizes2 (started F oneByte si
 unfoldable pub wordsAfter : Family → Volume → List Event → List ℕ
 wordsAfter F v events = after F oneByte sizes2 (started F oneByte sizes2 v) events .volume .flash .words
 
--- What is computed of them. The crashed erasure blanked slot 2 and not slot 0, and neither crashed write stored its slot.
+-- What is computed of them. The crashed erasure blanked slot 2 and not slot 0, and neither crashed write stored its slot; the crashed cleaning left twins, in slots 1 and 3.
 pub record RunsComputed : Type 0 where
   pub completed-meets : Premises backPointer oneByte sizes2 blankBuffers runCompleted
   pub completed-keeps : keptAfter backPointer blankBuffers runCompleted ≡ (5 ∷ []) ∷ (6 ∷ []) ∷ []
@@ -134,6 +155,10 @@ pub record RunsComputed : Type 0 where
   pub past-keeps : keptAfter backPointer blankBuffers runPast ≡ (5 ∷ []) ∷ (0 ∷ []) ∷ []
   pub closed-meets : Premises backPointer oneByte sizes2 blankBuffers runClosed
   pub closed-keeps : keptAfter backPointer blankBuffers runClosed ≡ (0 ∷ []) ∷ (0 ∷ []) ∷ []
+  pub copied-leaves : wordsAfter backPointer blankBuffers runCopied ≡ tableOf 5 (blankRecord ∷ given 1 0 0 1 0 ∷ given 0 1 0 0 1 ∷ given 1 0 0 1 0 ∷ [])
+  pub cleaned-meets : Premises backPointer oneByte sizes2 blankBuffers runCleaned
+  pub cleaned-keeps : keptAfter backPointer blankBuffers runCleaned ≡ (5 ∷ []) ∷ (0 ∷ []) ∷ []
+  pub cleaned-leaves : wordsAfter backPointer blankBuffers runCleaned ≡ tableOf 5 (blankRecord ∷ blankRecord ∷ given 0 1 0 0 1 ∷ given 1 0 0 1 0 ∷ [])
 
 -- The same of records without a back pointer; and a ring's first record, buried by none.
 pub record SimpleRunsComputed : Type 0 where

@@ -1,4 +1,4 @@
--- "Each", "there is", "how many", "the highest", "the first", "the last" and "those that" over the numbers below n.
+-- "Each", "there is", "the sum", "the highest", "the first", "the last" and "those that" over the numbers below n.
 -- A counting loop's invariant is the definition at its counter.
 use Prim.Native.Nat.{ℕ, zero, suc, _+_, max}
 use mathlib.Core.List.{List, [], _∷_, _++_}

@@ -7,6 +7,7 @@ ghost use Rattle.bounded.specs.Limits.{twoWidths};
 ghost use Rattle.outcome.specs.Outcome.{returned};
 ghost use Rattle.outcome.specs.Row.{RowsHold};
 ghost use Rattle.sizes.specs.Sizes.{sizesOf};
+ghost use Rattle.sizes.specs.Blocks.{named};
 ghost use Rattle.record.specs.Flash.{flash};
 ghost use Rattle.bits.specs.Bits.{countOutcome};
 ghost use Rattle.bits.specs.Cases.{countRows};
@@ -21,6 +22,7 @@ ghost use Rattle.rules.specs.Write.{writeOutcome};
 ghost use Rattle.rules.specs.Withdraw.{withdrawOutcome};
 ghost use Rattle.rules.specs.Erase.{eraseOutcome};
 ghost use Rattle.rules.specs.Suggest.{suggestOutcome};
+ghost use Rattle.rules.specs.CheckBlocks.{checkBlocksOutcome};
 ghost use Rattle.rules.specs.Clean.{cleanOutcome};
 ghost use Rattle.rules.specs.Recover.{recoverOutcome};
 ghost use Rattle.rules.specs.Links.{backPointing, LinksAtMost, OneRingReaches, LinksAreSteps, LinksApart};
@@ -29,6 +31,7 @@ ghost use Rattle.rules.specs.cases.Found.{foundRows};
 ghost use Rattle.rules.specs.cases.Links.{linkRows};
 ghost use Rattle.rules.specs.cases.Width.{widthRows};
 ghost use Rattle.rules.specs.cases.Clean.{cleanRows};
+ghost use Rattle.rules.specs.cases.Blocks.{blockRows};
 ghost use Rattle.rules.specs.Cleaned.{Cleaned, CleanedAgain, CleanAccepted};
 ghost use Rattle.rules.specs.laws.Found.{FoundExactly, JudgedByFound};
 ghost use Rattle.atomicity.specs.Family.{backPointer};
@@ -193,7 +196,22 @@ pub extern "C" fn bpcc_suggest(
     )
 }
 
-// Clean one flash block.
+// Check a table of blocks, for loading.
+#[no_mangle]
+pub extern "C" fn bpcc_check_blocks(pages: u32, slots: u32, width: u32, starts: &[u32]) -> u64
+    ensures { λ r. ⌜ returned r tt ≡ checkBlocksOutcome twoWidths (sizesOf pages slots width) (now (starts .entry)) ⌝ }
+{
+    volume::blocks::check(
+        Sizes {
+            pages,
+            slots,
+            width,
+        },
+        starts,
+    )
+}
+
+// Clean one flash block, by a table of blocks.
 #[no_mangle]
 pub extern "C" fn bpcc_clean(
     pages: u32,
@@ -202,10 +220,11 @@ pub extern "C" fn bpcc_clean(
     words: &mut [u32],
     contents: &mut [u8],
     state: &[u32],
+    starts: &[u32],
     block: u32,
 ) -> u64
     ensures { λ r. ⌜ returned r (flash (now (words .exit)) (now (contents .exit)))
-        ≡ cleanOutcome twoWidths (sizesOf pages slots width) (volume (now (words .entry)) (now (contents .entry)) (now (state .entry))) block ⌝ }
+        ≡ cleanOutcome twoWidths (sizesOf pages slots width) (volume (now (words .entry)) (now (contents .entry)) (now (state .entry))) (named (now (starts .entry)) block) ⌝ }
 {
     clean::clean(
         Sizes {
@@ -216,6 +235,7 @@ pub extern "C" fn bpcc_clean(
         words,
         contents,
         state,
+        starts,
         block,
     )
 }
@@ -289,7 +309,7 @@ pub fn exposed_found()
 {}
 
 // Promise 3, whole: one theorem over all lists of calls and crashes, for any widths; that it holds of the volume's own state; the paper's two invariants; that its
-// premises are met by every volume that formats, and what may follow a list; what ties a call's stages to what it leaves and to a crash in it; and four
+// premises are met by every volume that formats, and what may follow a list; what ties a call's stages to what it leaves and to a crash in it; and five
 // runs, computed.
 pub fn promise_3()
     ensures whole { λ _. ⌜ Promise3 ⌝ }
@@ -300,14 +320,15 @@ pub fn promise_3()
     ensures runs { λ _. ⌜ RunsComputed ⌝ }
 {}
 
-// Document 02, wish 1: what an accepted cleaning leaves; that done again it alters nothing; that as many blank slots as the block has are enough for it; that recovery straight
-// before and after one finds the same versions and contents; and twins and cleanings, computed.
+// Document 02, wishes 1 and 8: what an accepted cleaning leaves, by any table of blocks; that done again, by this table or another, it alters nothing; that as many blank slots as the block has are enough for it; that recovery straight
+// before and after one finds the same versions and contents; and twins, cleanings and tables of blocks, computed.
 pub fn cleaning()
     ensures leaves { λ _. ⌜ Cleaned ⌝ }
     ensures again { λ _. ⌜ CleanedAgain ⌝ }
     ensures room { λ _. ⌜ CleanAccepted ⌝ }
     ensures unseen { λ _. ⌜ CleaningUnseen backPointer ⌝ }
     ensures cleaned { λ _. ⌜ RowsHold cleanRows ⌝ }
+    ensures blocks { λ _. ⌜ RowsHold blockRows ⌝ }
 {}
 
 // Document 02, wish 10: promise 3, shown once for any width, used at the two that the calls take; and what the calls answer at these and at others, and

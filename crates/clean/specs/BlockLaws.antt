@@ -1,85 +1,26 @@
--- The blocks of 64 slots: where one starts and ends, which slots it has, their marks, and their blanking one by one.
-use Prim.Native.Nat.{ℕ, suc, _+_, _*_, _≤_, _<_, min}
+-- A block's slots: which they are, their marks, and their blanking one by one.
+use Prim.Native.Nat.{ℕ, _+_, _≤_, _<_}
 use native.Mathlib.Omega.{arith}
-use mathlib.Core.Path.{_≡_, refl, sym, ap, ap₂, _∙_, fun-ext}
+use mathlib.Core.Path.{_≡_, refl, sym, ap, _∙_, fun-ext}
 use mathlib.Core.List.{List, [], _∷_, map-append}
 use mathlib.Core.Bool.{Bool, true, false, _&&_, _||_}
 use lib.Dec.{ltb, leb, eqb}
-use lib.ListN.{length, getD, set, replicate}
-use borrow.Author.Tests.{eqb-true, eq-eqb, ne-eqb, lt-ltb, le-ltb, ltb-true, le-leb, lt-leb, leb-true}
+use lib.ListN.{length, set, replicate}
+use borrow.Author.Tests.{eq-eqb, ne-eqb, lt-ltb, le-ltb, ltb-true, le-leb, lt-leb, leb-true}
 use Rattle.bounded.specs.Limits.{maxSlots}
 use Rattle.bounded.specs.Choice.{on-lt, on-eq, both, both-left, both-right}
-use Rattle.bounded.specs.Below.{allBelow, listBelow}
-use Rattle.bounded.specs.BelowLaws.{all-at}
+use Rattle.bounded.specs.Below.{listBelow}
 use Rattle.bounded.specs.Passing.{list-more}
 use Rattle.bounded.specs.Members.{list-none}
 use Rattle.bounded.specs.Noted.{list-goes-on}
 use Rattle.sizes.specs.declared.Block.{Block}
 use Rattle.sizes.specs.declared.Layout.the-variants.{FiveWords}
-use Rattle.sizes.specs.Blocks.{blockStarts, blockOk, blockAt, inBlock}
+use Rattle.sizes.specs.Blocks.{inBlock}
+use Rattle.sizes.specs.BlocksLaws.{BlockIn}
 use Rattle.record.specs.Flash.{Flash, Step, apply, applyAllIn, applyAll}
 use Rattle.record.specs.FlashLaws.{apply-append}
 use Rattle.rules.specs.Erase.{eraseSteps}
 use Rattle.judge.specs.Marked.{marked, no-marks, marked-more}
-
--- ---- where a block starts and ends
-
-starts : allBelow 16 (λ b. eqb (getD blockStarts b 0) (64 * b)) ≡ true
-unfolding allBelow blockStarts
-starts = refl
-
--- "(0, 64, to 960 …)"
-block-start : (b : ℕ) → b < 16 → getD blockStarts b 0 ≡ 64 * b
-block-start b h = eqb-true (getD blockStarts b 0) (64 * b) (all-at (λ b. eqb (getD blockStarts b 0) (64 * b)) 16 b starts h)
-
-nexts : (S : ℕ) → allBelow 15 (λ b. eqb (getD blockStarts (suc b) S) (64 * b + 64)) ≡ true
-unfolding allBelow blockStarts
-nexts S = refl
-
--- before the next one's start, or before S
-block-next : (S b : ℕ) → S ≤ maxSlots → b < 16 → min (getD blockStarts (suc b) S) S ≡ min (64 * b + 64) S
-unfolding blockStarts
-block-next S b m h =
-    on-lt b 15
-    (λ l. ap (λ (x : ℕ). min x S) (eqb-true (getD blockStarts (suc b) S) (64 * b + 64) (all-at (λ b. eqb (getD blockStarts (suc b) S) (64 * b + 64)) 15 b (nexts S) l)))
-    (λ l. let q : b ≡ 15 = omega arith in
-    let e : getD blockStarts (suc b) S ≡ S = ap (λ (x : ℕ). getD blockStarts (suc x) S) q in
-    omega arith)
-
--- the test of a block's number
-module _ (S b : ℕ) where
-  pub too-high : 16 ≤ b → blockOk S b ≡ false
-  unfolding blockOk blockStarts
-  too-high h = rw (le-ltb b 16 h)
-
-  pub not-too-high : b < 16 → blockOk S b ≡ ltb (64 * b) S
-  unfolding blockOk blockStarts
-  not-too-high h = rw (lt-ltb b 16 h) (ap (λ (x : ℕ). ltb x S) (block-start b h))
-
-  pub named-block : blockOk S b ≡ true → (b < 16) × (64 * b < S)
-  unfolding blockOk blockStarts
-  named-block e =
-      let h = ltb-true b 16 (both-left (ltb b 16) (ltb (getD blockStarts b 0) S) e) in
-      (h, (let l = ltb-true (getD blockStarts b 0) S (both-right (ltb b 16) (ltb (getD blockStarts b 0) S) e) in let s = block-start b h in omega arith))
-
-  -- the block that it names
-  pub block-is : (first end : ℕ) → S ≤ maxSlots → b < 16 → first ≡ 64 * b → end ≡ min (64 * b + 64) S → _≡_ {A = Block} (record { first = first; end = end }) (blockAt S b)
-  unfolding blockAt
-  block-is first end m h e q = ap₂ {C = Block} (λ (f g : ℕ). record { first = f; end = g }) (e ∙ sym (block-start b h)) (q ∙ sym (block-next S b m h))
-
--- the block's slots are among the S of the table
-pub record BlockIn (S : ℕ) (block : Block) : Type 0 where
-  pub ordered : block .first ≤ block .end
-  pub inside : block .end ≤ S
-
-pub named-inside : (S b : ℕ) → S ≤ maxSlots → blockOk S b ≡ true → BlockIn S (blockAt S b)
-unfolding blockAt
-named-inside S b m e =
-    let h = named-block S b e in
-    let s = block-start b (h .0) in
-    let n = block-next S b m (h .0) in
-    let l = h .1 in
-    record { ordered = omega arith; inside = omega arith }
 
 -- ---- its slots
 

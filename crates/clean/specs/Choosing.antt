@@ -14,6 +14,7 @@ use Rattle.bounded.specs.Passing.{end-le}
 use Rattle.sizes.specs.declared.Block.{Block}
 use Rattle.sizes.specs.declared.Sizes.{Sizes}
 use Rattle.sizes.specs.Blocks.{inBlock}
+use Rattle.sizes.specs.BlocksLaws.{BlockIn}
 use Rattle.record.specs.declared.Record.{Record}
 use Rattle.record.specs.declared.Slot.{Slot}
 use Rattle.record.specs.declared.Slot.the-variants.{Blank, Holds}
@@ -32,7 +33,6 @@ use Rattle.rules.specs.laws.Found.{judged-from-found}
 use Rattle.judge.specs.Marked.{marked}
 use Rattle.judge.specs.Judgeable.{Judgeable}
 use Rattle.judge.specs.JudgeLaws.{twin-in-chain}
-use Rattle.clean.specs.BlockLaws.{BlockIn}
 
 -- ---- one slot of the block
 

@@ -9,12 +9,12 @@ ghost use mathlib.Core.Path.{_≡_};
 ghost use mathlib.Core.Bool.{not, cond};
 ghost use Rattle.bounded.specs.Limits.{twoWidths};
 ghost use Rattle.outcome.specs.Outcome.{returned};
+ghost use Rattle.sizes.specs.Blocks.{named};
 ghost use Rattle.record.specs.Flash.{flash, applyAll};
 ghost use Rattle.rules.specs.Volume.{volume};
 ghost use Rattle.rules.specs.Clean.{tooFewBlank, cleanSteps, cleanOutcome};
-ghost use Rattle.clean.specs.CleanLaws.{Cleanable, namedAnswer};
+ghost use Rattle.clean.specs.CleanLaws.{Cleanable};
 use sizes::Block;
-use sizes::Layout;
 use sizes::Sizes;
 
 // The block's records copied and its slots blanked, where the blank slots outside are enough; where they are not it says so and alters nothing.
@@ -43,31 +43,23 @@ fn clean_block(
     true
 }
 
-// Conditions 1, 2, 5 and 6 of a cleaning: the first that holds, or 0.
-fn named_answer(sizes: Sizes, words: &[u32], contents: &[u8], state: &[u32], block: u32) -> u32
-    ensures { λ r. ⌜ r ≡ namedAnswer twoWidths sizes (volume (now (words .entry)) (now (contents .entry)) (now (state .entry))) block ⌝ }
-{
-    let fits = volume::volume_fits(Layout::FiveWords, sizes, words, contents, state);
-    let first = volume::judged(Layout::FiveWords, fits, sizes, words, state);
-    if first != 0 {
-        return first;
-    }
-    if !blocks::block_ok(sizes.slots, block) {
-        return 6;
-    }
-    0
-}
-
 // Clean one flash block.
-pub fn clean(sizes: Sizes, words: &mut [u32], contents: &mut [u8], state: &[u32], block: u32) -> u64
+pub fn clean(
+    sizes: Sizes,
+    words: &mut [u32],
+    contents: &mut [u8],
+    state: &[u32],
+    starts: &[u32],
+    block: u32,
+) -> u64
     ensures { λ r. ⌜ returned r (flash (now (words .exit)) (now (contents .exit)))
-        ≡ cleanOutcome twoWidths sizes (volume (now (words .entry)) (now (contents .entry)) (now (state .entry))) block ⌝ }
+        ≡ cleanOutcome twoWidths sizes (volume (now (words .entry)) (now (contents .entry)) (now (state .entry))) (named (now (starts .entry)) block) ⌝ }
 {
-    let first = named_answer(sizes, words, contents, state, block);
+    let first = volume::blocks::judged(sizes, words, contents, state, starts, block);
     if first != 0 {
         return outcome::reply(first, 0);
     }
-    let slots = blocks::block_at(sizes.slots, block);
+    let slots = sizes::blocks::block_at(sizes.slots, starts, block);
     if !clean_block(sizes, words, contents, state, slots) {
         return outcome::reply(15, 0);
     }

@@ -10,10 +10,10 @@ ghost use Prim.Native.Nat.{_+_, _*_, _≤_};
 ghost use lib.ListN.{length};
 ghost use Rattle.bounded.specs.Below.{listBelow};
 ghost use Rattle.sizes.specs.Blocks.{inBlock};
+ghost use Rattle.sizes.specs.BlocksLaws.{BlockIn};
 ghost use Rattle.record.specs.Flash.{flash, apply, applyAll};
 ghost use Rattle.rules.specs.Erase.{eraseSteps};
 ghost use Rattle.rules.specs.Clean.{recordIn, copyStep, copySteps};
-ghost use Rattle.clean.specs.BlockLaws.{BlockIn};
 ghost use Rattle.clean.specs.Copying.{Copying};
 
 // The record in a slot; the words of a blank one.

@@ -26,6 +26,12 @@ unfolding firstOf
 both-pass zero own e = (refl, e)
 both-pass (suc n) own e = absurd (omega arith)
 
+-- a condition in front of a chain in two parts belongs to its first
+pub split-front : (b : Bool) (x first own : ℕ) → (b ⇒ suc x otherwise firstOf first own) ≡ firstOf (b ⇒ suc x otherwise first) own
+unfolding firstOf
+split-front true x first own = refl
+split-front false x first own = refl
+
 -- conditions in front of a chain are its first part
 pub split-two : (a b : Bool) (x y own : ℕ) → (a ⇒ suc x otherwise b ⇒ suc y otherwise own) ≡ firstOf (a ⇒ suc x otherwise b ⇒ suc y otherwise 0) own
 unfolding firstOf

@@ -9,7 +9,7 @@ use Rattle.bounded.specs.Below.{someBelow, listBelow}
 use Rattle.outcome.specs.Outcome.{_⇒_otherwise_, Outcome, settled}
 use Rattle.sizes.specs.declared.Block.{Block}
 use Rattle.sizes.specs.declared.Sizes.{Sizes}
-use Rattle.sizes.specs.Blocks.{blockOk, blockAt, inBlock}
+use Rattle.sizes.specs.Blocks.{startsOk, NamedBlock, blockOk, blockAt, inBlock}
 use Rattle.record.specs.declared.Record.{Record}
 use Rattle.record.specs.declared.Slot.{Slot}
 use Rattle.record.specs.declared.Slot.the-variants.{Blank, Holds}
@@ -77,7 +77,7 @@ module _ (sizes : Sizes) (v : Volume) (block : Block) where
   unfoldable pub cleanBlanks : List Step
   cleanBlanks = eraseSteps (listBelow (sizes .slots) (inBlock block))
 
--- "its list of single steps …: the copies in their order, then the blankings"
+-- "its list of single steps … (the copies in their order, then the blankings)"
 unfoldable pub cleanSteps : Sizes → Volume → Block → List Step
 cleanSteps sizes v block = cleanCopies sizes v block ++ cleanBlanks sizes v block
 
@@ -88,17 +88,19 @@ cleanStages sizes v block = map (λ s. s ∷ []) (cleanCopies sizes v block) ++ 
 
 -- ---- the call
 
--- "Refused: 15, too few blank slots outside …; a block above 15, or one that starts at or after S, is 6; 1, 2 and 5 as for erase."
-unfoldable pub cleanAnswer : Widths → Sizes → Volume → (block : ℕ) → ℕ
+-- "Refused: 15, too few blank slots outside …; 1, 2 and 5 as for erase"; wish 8: "Block numbers then run below its length; others are 6", and "17, a table that breaks these
+-- rules, …, after 1", checked "again by every call that takes it".
+unfoldable pub cleanAnswer : Widths → Sizes → Volume → NamedBlock → ℕ
 cleanAnswer widths sizes v block =
     not (volumeFits widths sizes v) ⇒ 1 otherwise
+    not (startsOk (sizes .slots) (block .starts)) ⇒ 17 otherwise
     not (tableSound (sizes .pages) (sizes .slots) (slotAt (v .flash .words))) ⇒ 2 otherwise
     not (stateSound (sizes .pages) (stateAt (v .state))) ⇒ 5 otherwise
-    not (blockOk (sizes .slots) block) ⇒ 6 otherwise
+    not (blockOk block) ⇒ 6 otherwise
     tooFewBlank sizes v (blockAt (sizes .slots) block) ⇒ 15 otherwise
     0
 
 -- It alters the flash alone, by these steps: "nothing else in cleaning alters the flash, and the sheet stays".
-unfoldable pub cleanOutcome : Widths → Sizes → Volume → (block : ℕ) → Outcome Flash
+unfoldable pub cleanOutcome : Widths → Sizes → Volume → NamedBlock → Outcome Flash
 cleanOutcome widths sizes v block =
     settled (cleanAnswer widths sizes v block) 0 0 (v .flash) (applyAll (sizes .width) (v .flash) (cleanSteps sizes v (blockAt (sizes .slots) block)))

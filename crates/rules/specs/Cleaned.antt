@@ -8,7 +8,7 @@ use Rattle.bounded.specs.Limits.{Widths}
 use Rattle.bounded.specs.Below.{listBelow}
 use Rattle.sizes.specs.declared.Block.{Block}
 use Rattle.sizes.specs.declared.Sizes.{Sizes}
-use Rattle.sizes.specs.Blocks.{blockOk, blockAt, inBlock}
+use Rattle.sizes.specs.Blocks.{startsOk, NamedBlock, blockOk, blockAt, inBlock}
 use Rattle.record.specs.declared.Record.{Record}
 use Rattle.record.specs.declared.Slot.the-variants.{Blank, Holds}
 use Rattle.record.specs.Slot.{slotAt, bytesAt, isBlank}
@@ -45,28 +45,32 @@ pub record Leaves (sizes : Sizes) (v : Volume) (block : Block) (after : Flash) :
       → slotAt (v .flash .words) k ≡ Holds r
       → ((j : ℕ) × (j < sizes .slots) × (inBlock block j ≡ false) × HoldsAt sizes after j r (v .flash) k) ⊎ (mayErase (sizes .slots) (slotAt (v .flash .words)) (stateAt (v .state)) k ≡ true)
 
--- after every accepted cleaning, of any volume and with any widths allowed
+-- after every accepted cleaning, of any volume, by any table of blocks and with any widths allowed
 abbrev pub Cleaned : Type 0
 Cleaned =
-    (widths : Widths) (sizes : Sizes) (v : Volume) (block : ℕ)
+    (widths : Widths) (sizes : Sizes) (v : Volume) (block : NamedBlock)
     → cleanAnswer widths sizes v block ≡ 0
     → Leaves sizes v (blockAt (sizes .slots) block) (cleanOutcome widths sizes v block .left)
 
--- cleaning the same block again is accepted and alters nothing
+-- cleaning the same slots again, or some of them, by the same table or another, is accepted and alters nothing
 abbrev pub CleanedAgain : Type 0
 CleanedAgain =
-    (widths : Widths) (sizes : Sizes) (v : Volume) (block : ℕ)
+    (widths : Widths) (sizes : Sizes) (v : Volume) (block again : NamedBlock)
     → cleanAnswer widths sizes v block ≡ 0
-    → cleanOutcome widths sizes (record { flash = cleanOutcome widths sizes v block .left; state = v .state }) block
+    → startsOk (sizes .slots) (again .starts) ≡ true
+    → blockOk again ≡ true
+    → ((k : ℕ) → inBlock (blockAt (sizes .slots) again) k ≡ true → inBlock (blockAt (sizes .slots) block) k ≡ true)
+    → cleanOutcome widths sizes (record { flash = cleanOutcome widths sizes v block .left; state = v .state }) again
     ≡ record { answer = 0; second = 0; left = cleanOutcome widths sizes v block .left }
 
--- Where conditions 1, 2, 5 and 6 do not hold, a block can be cleaned if the volume has as many blank slots as the block has slots, wherever they are.
+-- Where conditions 1, 17, 2, 5 and 6 do not hold, a block can be cleaned if the volume has as many blank slots as the block has slots, wherever they are.
 abbrev pub CleanAccepted : Type 0
 CleanAccepted =
-    (widths : Widths) (sizes : Sizes) (v : Volume) (block : ℕ)
+    (widths : Widths) (sizes : Sizes) (v : Volume) (block : NamedBlock)
     → volumeFits widths sizes v ≡ true
+    → startsOk (sizes .slots) (block .starts) ≡ true
     → tableSound (sizes .pages) (sizes .slots) (slotAt (v .flash .words)) ≡ true
     → stateSound (sizes .pages) (stateAt (v .state)) ≡ true
-    → blockOk (sizes .slots) block ≡ true
+    → blockOk block ≡ true
     → length (listBelow (sizes .slots) (inBlock (blockAt (sizes .slots) block))) ≤ length (listBelow (sizes .slots) (λ k. isBlank (slotAt (v .flash .words) k)))
     → cleanAnswer widths sizes v block ≡ 0

@@ -6,6 +6,7 @@ pub mod Withdraw
 pub mod Permission
 pub mod Found
 pub mod Erase
+pub mod CheckBlocks
 pub mod Clean
 pub mod Cleaned
 pub mod Suggest

@@ -46,7 +46,7 @@ mayErase S t st k = holds (mayEraseRecord S t st) (t k)
 
 -- ---- twins: `twin j k` says that slots j and k are, `inList j` that slot j is in "the erase list"
 
--- a listed slot k "whose twin is outside the erase list" (a slot is its own twin, and is listed)
+-- a listed slot k "whose twin is outside the erase list" (a slot that holds a record is its own twin, and is listed)
 unfoldable pub twinOutside : ℕ → (twin : ℕ → ℕ → Bool) → (inList : ℕ → Bool) → ℕ → Bool
 twinOutside S twin inList k = someBelow S (λ j. twin j k && not (inList j))
 

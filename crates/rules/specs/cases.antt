@@ -7,6 +7,7 @@ pub mod Erase
 pub mod Found
 pub mod Suggest
 pub mod Clean
+pub mod Blocks
 pub mod Recover
 pub mod Links
 pub mod Star

@@ -3,3 +3,4 @@ pub mod SizesLaws
 pub mod Lists
 pub mod Marks
 pub mod Blocks
+pub mod BlocksLaws

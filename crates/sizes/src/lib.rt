@@ -1,4 +1,7 @@
 // The sizes of a volume, the lengths of its buffers, and lists of pages or slots, as every call checks them. The definitions are in specs/.
+
+pub mod blocks; // blocks.rt: the lent table of blocks
+
 ghost use mathlib.Core.Path.{_≡_};
 ghost use mathlib.Core.Bool.{_&&_};
 ghost use Prim.Native.Nat.{_≤_};

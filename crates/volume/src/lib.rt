@@ -1,4 +1,7 @@
 // The volume: its sizes, lengths and soundness as the calls on it check them, and format. The definitions are in crate rules.
+
+pub mod blocks; // blocks.rt: a block of it, by the lent table
+
 ghost use mathlib.Core.Path.{_≡_};
 ghost use mathlib.Core.Bool.{true, _&&_};
 ghost use Prim.Native.Nat.{_+_, _*_, _≤_};

@@ -8,6 +8,7 @@ use lib.ListN.{length}
 use Rattle.bounded.specs.Limits.{noNumber, Widths}
 use Rattle.outcome.specs.Outcome.{Outcome}
 use Rattle.sizes.specs.declared.Sizes.{Sizes}
+use Rattle.sizes.specs.Blocks.{NamedBlock}
 use Rattle.record.specs.Slot.{slotIn}
 use Rattle.record.specs.SlotLaws.{is-blank-exactly}
 use Rattle.record.specs.Flash.{Flash, Step, applyIn, applyAllIn}
@@ -83,7 +84,7 @@ module _ {F : Family} (T : Theory F) (widths : Widths) (sizes : Sizes) (v : Volu
       (subst (λ (l : List Step). Known T widths sizes (record { flash = applyAllIn (F .layout) (sizes .width) (v .flash) l; state = v .state }) m) (append-nil (eraseSteps slots))
       (spares-accepted (eraseSteps slots ∷ []) (T .erase-spares widths sizes v slots (k .fits) e)))
 
-  clean-accepted : (block : ℕ) → T .cleanAnswer widths sizes v block ≡ 0 → Known T widths sizes (perform F widths sizes v (Call.Clean block) .left) (accept m (Call.Clean block))
+  clean-accepted : (block : NamedBlock) → T .cleanAnswer widths sizes v block ≡ 0 → Known T widths sizes (perform F widths sizes v (Call.Clean block) .left) (accept m (Call.Clean block))
   unfolding perform withFlash accept
   clean-accepted block e =
       subst (λ (o : Outcome Flash). Known T widths sizes (record { flash = o .left; state = v .state }) m) (sym (clean-done T widths sizes v block e))

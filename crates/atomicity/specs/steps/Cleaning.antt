@@ -15,7 +15,7 @@ use Rattle.sizes.specs.declared.Block.{Block}
 use Rattle.sizes.specs.declared.Layout.the-variants.{FiveWords}
 use Rattle.sizes.specs.declared.Sizes.{Sizes}
 use Rattle.sizes.specs.Sizes.{listed}
-use Rattle.sizes.specs.Blocks.{blockAt}
+use Rattle.sizes.specs.Blocks.{NamedBlock, blockAt}
 use Rattle.sizes.specs.Lists.{list-facts}
 use Rattle.record.specs.declared.Record.{Record}
 use Rattle.record.specs.declared.Slot.the-variants.{Holds}
@@ -139,7 +139,7 @@ module _ (w S : ℕ) (st : ℕ → PageState) (f : Flash) (sized : SizedIn FiveW
 -- ---- a cleaning
 
 pub clean-spares :
-    (widths : Widths) (sizes : Sizes) (v : Volume) (block : ℕ)
+    (widths : Widths) (sizes : Sizes) (v : Volume) (block : NamedBlock)
     → Fits widths sizes v
     → cleanAnswer widths sizes v block ≡ 0
     → Spares twinned (sizes .width) (sizes .slots) (stateAt (v .state)) (v .flash) (cleanStages sizes v (blockAt (sizes .slots) block))

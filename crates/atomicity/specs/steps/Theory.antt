@@ -10,6 +10,7 @@ use Rattle.outcome.specs.Outcome.{settled}
 use Rattle.outcome.specs.OutcomeLaws.{settled-refused, settled-done}
 use Rattle.sizes.specs.declared.Layout.{Layout}
 use Rattle.sizes.specs.declared.Sizes.{Sizes}
+use Rattle.sizes.specs.Blocks.{NamedBlock}
 use Rattle.record.specs.declared.Record.{Record}
 use Rattle.record.specs.declared.Slot.{Slot}
 use Rattle.record.specs.declared.Slot.the-variants.{Holds}
@@ -121,12 +122,12 @@ pub record Theory (F : Family) : Type 1 where
       → FitsIn (F .layout) widths sizes v
       → eraseAnswer widths sizes v slots ≡ 0
       → Spares (record { layout = F .layout; Permitted = Permitted; Apart = Apart }) (sizes .width) (sizes .slots) (stateAt (v .state)) (v .flash) (eraseSteps slots ∷ [])
-  pub cleanAnswer : Widths → Sizes → Volume → (block : ℕ) → ℕ
+  pub cleanAnswer : Widths → Sizes → Volume → (block : NamedBlock) → ℕ
   pub clean-is :
-      (widths : Widths) (sizes : Sizes) (v : Volume) (block : ℕ)
+      (widths : Widths) (sizes : Sizes) (v : Volume) (block : NamedBlock)
       → F .clean widths sizes v block ≡ settled (cleanAnswer widths sizes v block) 0 0 (v .flash) (applyAllIn (F .layout) (sizes .width) (v .flash) (flatten (F .cleanStages sizes v block)))
   pub clean-spares :
-      (widths : Widths) (sizes : Sizes) (v : Volume) (block : ℕ)
+      (widths : Widths) (sizes : Sizes) (v : Volume) (block : NamedBlock)
       → FitsIn (F .layout) widths sizes v
       → cleanAnswer widths sizes v block ≡ 0
       → Spares (record { layout = F .layout; Permitted = Permitted; Apart = Apart }) (sizes .width) (sizes .slots) (stateAt (v .state)) (v .flash) (F .cleanStages sizes v block)
@@ -167,10 +168,10 @@ module _ {F : Family} (T : Theory F) (widths : Widths) (sizes : Sizes) (v : Volu
   pub erase-refused : (slots : List ℕ) → ¬ (T .eraseAnswer widths sizes v slots ≡ 0) → F .erase widths sizes v slots ≡ record { answer = T .eraseAnswer widths sizes v slots; second = 0; left = v .flash }
   erase-refused slots n = T .erase-is widths sizes v slots ∙ settled-refused (T .eraseAnswer widths sizes v slots) _ _ _ _ n
 
-  pub clean-done : (block : ℕ) → T .cleanAnswer widths sizes v block ≡ 0 → F .clean widths sizes v block ≡ record { answer = 0; second = 0; left = applyAllIn (F .layout) (sizes .width) (v .flash) (flatten (F .cleanStages sizes v block)) }
+  pub clean-done : (block : NamedBlock) → T .cleanAnswer widths sizes v block ≡ 0 → F .clean widths sizes v block ≡ record { answer = 0; second = 0; left = applyAllIn (F .layout) (sizes .width) (v .flash) (flatten (F .cleanStages sizes v block)) }
   clean-done block e = T .clean-is widths sizes v block ∙ settled-done (T .cleanAnswer widths sizes v block) _ _ _ _ e
 
-  pub clean-refused : (block : ℕ) → ¬ (T .cleanAnswer widths sizes v block ≡ 0) → F .clean widths sizes v block ≡ record { answer = T .cleanAnswer widths sizes v block; second = 0; left = v .flash }
+  pub clean-refused : (block : NamedBlock) → ¬ (T .cleanAnswer widths sizes v block ≡ 0) → F .clean widths sizes v block ≡ record { answer = T .cleanAnswer widths sizes v block; second = 0; left = v .flash }
   clean-refused block n = T .clean-is widths sizes v block ∙ settled-refused (T .cleanAnswer widths sizes v block) _ _ _ _ n
 
   -- what an accepted recover fills in

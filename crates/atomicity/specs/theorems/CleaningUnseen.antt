@@ -5,6 +5,7 @@ use mathlib.Core.List.{List}
 use Rattle.bounded.specs.Limits.{Widths}
 use Rattle.bounded.specs.Choice.{on-eq, never}
 use Rattle.sizes.specs.declared.Sizes.{Sizes}
+use Rattle.sizes.specs.Blocks.{NamedBlock}
 use Rattle.state.specs.State.{stateAt}
 use Rattle.rules.specs.Volume.{Volume}
 use Rattle.atomicity.specs.Family.{Family}
@@ -35,18 +36,18 @@ module _ {F : Family} (T : Theory F) (widths : Widths) (sizes : Sizes) (m : Mode
         same-contents = λ page out h o. rv .reads-kept page out h o ∙ sym (rw′ .reads-kept page out h o);
       }
 
-  cleaned-known : (v : Volume) (block : ℕ) → Known T widths sizes v m → Known T widths sizes (perform F widths sizes v (Call.Clean block) .left) m
+  cleaned-known : (v : Volume) (block : NamedBlock) → Known T widths sizes v m → Known T widths sizes (perform F widths sizes v (Call.Clean block) .left) m
   unfolding accept
   cleaned-known v block k =
       on-eq (answer-is T widths sizes v (Call.Clean block)) 0
       (λ e. accepted T widths sizes v m k (Call.Clean block) e)
       (λ n. subst (λ (x : Volume). Known T widths sizes x m) (sym (refused-leaves T widths sizes v (Call.Clean block) n)) k)
 
-  state-stays : (v : Volume) (block : ℕ) → perform F widths sizes v (Call.Clean block) .left .state ≡ v .state
+  state-stays : (v : Volume) (block : NamedBlock) → perform F widths sizes v (Call.Clean block) .left .state ≡ v .state
   unfolding perform withFlash
   state-stays v block = refl
 
-  pub clean-found : (v : Volume) (block : ℕ) → Known T widths sizes v m → SameFound F widths sizes v (perform F widths sizes v (Call.Clean block) .left)
+  pub clean-found : (v : Volume) (block : NamedBlock) → Known T widths sizes v m → SameFound F widths sizes v (perform F widths sizes v (Call.Clean block) .left)
   clean-found v block k = same-found v (perform F widths sizes v (Call.Clean block) .left) (state-stays v block) k (cleaned-known v block k)
 
 pub cleaning-unseen : {F : Family} (T : Theory F) → CleaningUnseen F

@@ -1,5 +1,5 @@
--- Document 02, wish 1, computed: twins in recover, erase and suggest, and cleaning, on volumes of 1 byte a slot. Small blocks are cleaned by their steps, and the
--- constant table's by the whole call.
+-- Document 02, wish 1, computed: twins in recover, erase and suggest, and cleaning, on volumes of 1 byte a slot: by its steps, and by the whole
+-- call on a block of all slots.
 use Prim.Native.Nat.{ℕ, zero, suc}
 use mathlib.Core.Path.{refl}
 use mathlib.Core.List.{List, [], _∷_, _++_, map}
@@ -12,6 +12,7 @@ use Rattle.outcome.specs.Row.{Row, row, RowsHold}
 use Rattle.sizes.specs.declared.Block.{Block}
 use Rattle.sizes.specs.declared.Sizes.{Sizes}
 use Rattle.sizes.specs.Sizes.{sizesOf}
+use Rattle.sizes.specs.Blocks.{named}
 use Rattle.record.specs.declared.Record.{Record}
 use Rattle.record.specs.Slot.{blankRecord}
 use Rattle.record.specs.Flash.{Flash, Step, applyAll}
@@ -123,9 +124,9 @@ noneFree =
 unfoldable pub refused : Volume → Block → ℕ
 refused v b = cond (tooFewBlank sizes8 v b) 1 0
 
--- the whole call, on a block of the constant table: block 0 has all 8 slots, and there is no other
-unfoldable pub cleanOn : Volume → ℕ → List ℕ
-cleanOn v block = let o = cleanOutcome byteWide sizes8 v block in o .answer ∷ o .second ∷ o .left .words ++ o .left .contents
+-- the whole call, on a block of a table
+unfoldable pub cleanOn : Volume → (starts : List ℕ) → (block : ℕ) → List ℕ
+cleanOn v starts block = let o = cleanOutcome byteWide sizes8 v (named starts block) in o .answer ∷ o .second ∷ o .left .words ++ o .left .contents
 
 -- every page committed above its records: all are obsolete
 unfoldable pub allObsolete : Volume
@@ -156,10 +157,9 @@ cleanRows =
     ∷ row 1 (cleanFrom sizes8 straddled (slotsFrom 2 4)) (2 ∷ [])
     -- of twins one blank slot outside is enough; of two other records it is not
     ∷ row 1 (refused oneFree (slotsFrom 0 7) ∷ refused noneFree (slotsFrom 0 7) ∷ []) (0 ∷ 1 ∷ [])
-    -- a block of all slots has none outside: refused, nothing is altered; where nothing is to be copied it is done. Blocks that start at or after S, or above 15
-    ∷ row 1 (cleanOn twin0 0) (15 ∷ 0 ∷ twin0 .flash .words ++ twin0 .flash .contents)
-    ∷ row 1 (cleanOn allObsolete 0) (0 ∷ 0 ∷ replicate 40 noNumber ++ replicate 8 255)
-    ∷ row 1 (cleanOutcome byteWide sizes8 allObsolete 1 .answer ∷ cleanOutcome byteWide sizes8 allObsolete 15 .answer ∷ cleanOutcome byteWide sizes8 allObsolete 16 .answer ∷ []) (6 ∷ 6 ∷ 6 ∷ [])
+    -- a block of all slots has none outside: refused, nothing is altered; where nothing is to be copied it is done
+    ∷ row 1 (cleanOn twin0 (0 ∷ []) 0) (15 ∷ 0 ∷ twin0 .flash .words ++ twin0 .flash .contents)
+    ∷ row 1 (cleanOn allObsolete (0 ∷ []) 0) (0 ∷ 0 ∷ replicate 40 noNumber ++ replicate 8 255)
     ∷ []
 
 pub clean-rows : RowsHold cleanRows

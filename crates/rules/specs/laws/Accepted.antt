@@ -13,7 +13,7 @@ use Rattle.bounded.specs.BelowLaws.{first-found, first-passes, first-none-befor
 use Rattle.outcome.specs.OutcomeLaws.{passed, held}
 use Rattle.sizes.specs.declared.Sizes.{Sizes}
 use Rattle.sizes.specs.Sizes.{sizesOk, stateFits, listOk}
-use Rattle.sizes.specs.Blocks.{blockOk, blockAt}
+use Rattle.sizes.specs.Blocks.{startsOk, NamedBlock, blockOk, blockAt}
 use Rattle.sizes.specs.SizesLaws.{state-fits-exactly}
 use Rattle.record.specs.declared.Slot.{Slot}
 use Rattle.record.specs.Slot.{slotAt, isBlank}
@@ -132,22 +132,24 @@ erase-tests widths sizes v list e =
     let f = held (mayEraseAll (sizes .slots) (slotAt (v .flash .words)) (stateAt (v .state)) (twins (sizes .width) (v .flash)) list) _ _ (d .1) in
     record { fits = fits-facts widths sizes v (a .0); listed = d .0; permitted = f .0 }
 
-pub record CleanTests (widths : Widths) (sizes : Sizes) (v : Volume) (block : ℕ) : Type 0 where
+pub record CleanTests (widths : Widths) (sizes : Sizes) (v : Volume) (block : NamedBlock) : Type 0 where
   pub fits : Fits widths sizes v
   pub table : tableSound (sizes .pages) (sizes .slots) (slotAt (v .flash .words)) ≡ true
   pub sound : stateSound (sizes .pages) (stateAt (v .state)) ≡ true
-  pub named : blockOk (sizes .slots) block ≡ true
+  pub starts-sound : startsOk (sizes .slots) (block .starts) ≡ true
+  pub named : blockOk block ≡ true
   pub room : length (cleanFrom sizes v (blockAt (sizes .slots) block)) ≤ length (cleanTo sizes v (blockAt (sizes .slots) block))
 
-pub clean-tests : (widths : Widths) (sizes : Sizes) (v : Volume) (block : ℕ) → cleanAnswer widths sizes v block ≡ 0 → CleanTests widths sizes v block
+pub clean-tests : (widths : Widths) (sizes : Sizes) (v : Volume) (block : NamedBlock) → cleanAnswer widths sizes v block ≡ 0 → CleanTests widths sizes v block
 unfolding cleanAnswer tooFewBlank
 clean-tests widths sizes v block e =
     let a = held (volumeFits widths sizes v) _ _ e in
-    let b = held (tableSound (sizes .pages) (sizes .slots) (slotAt (v .flash .words))) _ _ (a .1) in
+    let s = held (startsOk (sizes .slots) (block .starts)) _ _ (a .1) in
+    let b = held (tableSound (sizes .pages) (sizes .slots) (slotAt (v .flash .words))) _ _ (s .1) in
     let c = held (stateSound (sizes .pages) (stateAt (v .state))) _ _ (b .1) in
-    let d = held (blockOk (sizes .slots) block) _ _ (c .1) in
+    let d = held (blockOk block) _ _ (c .1) in
     let f = passed (tooFewBlank sizes v (blockAt (sizes .slots) block)) _ _ (d .1) in
-    record { fits = fits-facts widths sizes v (a .0); table = b .0; sound = c .0; named = d .0; room = ltb-false _ _ (f .0) }
+    record { fits = fits-facts widths sizes v (a .0); table = b .0; sound = c .0; starts-sound = s .0; named = d .0; room = ltb-false _ _ (f .0) }
 
 -- "the lowest": a slot that may be erased, and none below it may
 pub record Lowest (sizes : Sizes) (v : Volume) (slot : ℕ) : Type 0 where

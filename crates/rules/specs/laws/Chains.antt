@@ -12,12 +12,12 @@ use Rattle.bounded.specs.Choice.{both-left, both-right}
 use Rattle.bounded.specs.Below.{someBelow}
 use Rattle.outcome.specs.Outcome.{_⇒_otherwise_}
 use Rattle.outcome.specs.OutcomeLaws.{held}
-use Rattle.outcome.specs.Chain.{firstOf, first-refuses, first-passes, split-two, split-three}
+use Rattle.outcome.specs.Chain.{firstOf, first-refuses, first-passes, split-front, split-two, split-three}
 use Rattle.sizes.specs.declared.Layout.{Layout}
 use Rattle.sizes.specs.declared.Layout.the-variants.{FiveWords, FourWords}
 use Rattle.sizes.specs.declared.Sizes.{Sizes}
 use Rattle.sizes.specs.Sizes.{sizesOk, strideOf, stateFits, listOk}
-use Rattle.sizes.specs.Blocks.{blockOk, blockAt}
+use Rattle.sizes.specs.Blocks.{startsOk, NamedBlock, blockOk, blockAt}
 use Rattle.sizes.specs.SizesLaws.{SizesFacts, sizes-facts}
 use Rattle.record.specs.Slot.{slotIn, slotAt, isBlank}
 use Rattle.state.specs.declared.PageState.{PageState}
@@ -56,6 +56,16 @@ stateJudged widths sizes state =
     not (stateSound (sizes .pages) (stateAt state)) ⇒ 5 otherwise
     0
 
+-- 1, 17, 2, 5 and 6 of the calls on a block of a volume
+unfoldable pub blockJudged : Widths → Sizes → Volume → NamedBlock → ℕ
+blockJudged widths sizes v block =
+    not (volumeFits widths sizes v) ⇒ 1 otherwise
+    not (startsOk (sizes .slots) (block .starts)) ⇒ 17 otherwise
+    not (tableSound (sizes .pages) (sizes .slots) (slotAt (v .flash .words))) ⇒ 2 otherwise
+    not (stateSound (sizes .pages) (stateAt (v .state))) ⇒ 5 otherwise
+    not (blockOk block) ⇒ 6 otherwise
+    0
+
 -- what a volume has that is judged and passes
 pub record Judged (layout : Layout) (fits : Bool) (P S : ℕ) (words state : List ℕ) : Type 0 where
   pub fitting : fits ≡ true
@@ -69,6 +79,36 @@ judged-passed layout fits P S words state e =
     let b = held (tableSound P S (slotIn layout words)) _ _ (a .1) in
     let c = held (stateSound P (stateAt state)) _ _ (b .1) in
     record { fitting = a .0; table = b .0; sound = c .0 }
+
+-- … and a block of one
+pub record BlockJudged (widths : Widths) (sizes : Sizes) (v : Volume) (block : NamedBlock) : Type 0 where
+  pub fitting : volumeFits widths sizes v ≡ true
+  pub starts-sound : startsOk (sizes .slots) (block .starts) ≡ true
+  pub table : tableSound (sizes .pages) (sizes .slots) (slotAt (v .flash .words)) ≡ true
+  pub sound : stateSound (sizes .pages) (stateAt (v .state)) ≡ true
+  pub named : blockOk block ≡ true
+
+module _ (widths : Widths) (sizes : Sizes) (v : Volume) (block : NamedBlock) where
+  pub block-judged-passed : blockJudged widths sizes v block ≡ 0 → BlockJudged widths sizes v block
+  unfolding blockJudged
+  block-judged-passed e =
+      let a = held (volumeFits widths sizes v) _ _ e in
+      let s = held (startsOk (sizes .slots) (block .starts)) _ _ (a .1) in
+      let b = held (tableSound (sizes .pages) (sizes .slots) (slotAt (v .flash .words))) _ _ (s .1) in
+      let c = held (stateSound (sizes .pages) (stateAt (v .state))) _ _ (b .1) in
+      record { fitting = a .0; starts-sound = s .0; table = b .0; sound = c .0; named = held (blockOk block) _ _ (c .1) .0 }
+
+  -- 1 and 17 passed, 2 and 5 are what the calls on a volume share
+  module _ (fits : volumeFits widths sizes v ≡ true) (starts : startsOk (sizes .slots) (block .starts) ≡ true) {n : ℕ} (said : n ≡ judged true (sizes .pages) (sizes .slots) (v .flash .words) (v .state)) where
+    behind : blockJudged widths sizes v block ≡ firstOf (judged true (sizes .pages) (sizes .slots) (v .flash .words) (v .state)) (not (blockOk block) ⇒ 6 otherwise 0)
+    unfolding blockJudged judgedIn
+    behind = rw (blockJudged, fits, starts) (split-two (not (tableSound (sizes .pages) (sizes .slots) (slotAt (v .flash .words)))) (not (stateSound (sizes .pages) (stateAt (v .state)))) 1 4 _)
+
+    pub block-refuses : ¬ (n ≡ 0) → n ≡ blockJudged widths sizes v block
+    block-refuses h = first-refuses n _ said h ∙ sym behind
+
+    pub block-passes : n ≡ 0 → {m : ℕ} → m ≡ (not (blockOk block) ⇒ 6 otherwise 0) → m ≡ blockJudged widths sizes v block
+    block-passes z {m} e = first-passes n m said z e ∙ sym behind
 
 -- an answer in two parts, by what the shared one said; the code's test of lengths is `fits`, the definition's `test`
 module _ (layout : Layout) (answer own : ℕ) (fits test : Bool) (P S : ℕ) (words state : List ℕ) (chain : answer ≡ firstOf (judgedIn layout test P S words state) own) (same : fits ≡ test) (n : ℕ) (said : n ≡ judgedIn layout fits P S words state) where
@@ -213,17 +253,17 @@ unfolding suggestAnswer judgedIn suggestOwn
 suggest-chain widths sizes v =
     split-three (not (volumeFits widths sizes v)) (not (tableSound (sizes .pages) (sizes .slots) (slotAt (v .flash .words)))) (not (stateSound (sizes .pages) (stateAt (v .state)))) 0 1 4 _
 
--- clean: 6 and 15
-unfoldable pub cleanOwn : Sizes → Volume → (block : ℕ) → ℕ
-cleanOwn sizes v block =
-    not (blockOk (sizes .slots) block) ⇒ 6 otherwise
-    tooFewBlank sizes v (blockAt (sizes .slots) block) ⇒ 15 otherwise
-    0
+-- clean: 15
+unfoldable pub cleanOwn : Sizes → Volume → NamedBlock → ℕ
+cleanOwn sizes v block = tooFewBlank sizes v (blockAt (sizes .slots) block) ⇒ 15 otherwise 0
 
-pub clean-chain : (widths : Widths) (sizes : Sizes) (v : Volume) (block : ℕ) → cleanAnswer widths sizes v block ≡ firstOf (judged (volumeFits widths sizes v) (sizes .pages) (sizes .slots) (v .flash .words) (v .state)) (cleanOwn sizes v block)
-unfolding cleanAnswer judgedIn cleanOwn
+pub clean-chain : (widths : Widths) (sizes : Sizes) (v : Volume) (block : NamedBlock) → cleanAnswer widths sizes v block ≡ firstOf (blockJudged widths sizes v block) (cleanOwn sizes v block)
+unfolding cleanAnswer blockJudged cleanOwn
 clean-chain widths sizes v block =
-    split-three (not (volumeFits widths sizes v)) (not (tableSound (sizes .pages) (sizes .slots) (slotAt (v .flash .words)))) (not (stateSound (sizes .pages) (stateAt (v .state)))) 0 1 4 _
+    ap (λ (rest : ℕ). not (volumeFits widths sizes v) ⇒ 1 otherwise not (startsOk (sizes .slots) (block .starts)) ⇒ 17 otherwise rest)
+    (split-three (not (tableSound (sizes .pages) (sizes .slots) (slotAt (v .flash .words)))) (not (stateSound (sizes .pages) (stateAt (v .state)))) (not (blockOk block)) 1 4 5 _)
+    ∙ ap (λ (rest : ℕ). not (volumeFits widths sizes v) ⇒ 1 otherwise rest) (split-front (not (startsOk (sizes .slots) (block .starts))) 16 _ _)
+    ∙ split-front (not (volumeFits widths sizes v)) 0 _ _
 
 -- read: 6 and 14
 unfoldable pub readOwn : Layout → (P S : ℕ) (words state : List ℕ) (page : ℕ) → ℕ

@@ -307,7 +307,7 @@ room-enough sizes v block h =
 
 pub clean-accepted : CleanAccepted
 unfolding cleanAnswer
-clean-accepted widths sizes v block fits table sound named h = rw (cleanAnswer, fits, table, sound, named, room-enough sizes v (blockAt (sizes .slots) block) h)
+clean-accepted widths sizes v block fits starts table sound named h = rw (cleanAnswer, fits, starts, table, sound, named, room-enough sizes v (blockAt (sizes .slots) block) h)
 
 -- ---- a cleaning done again
 
@@ -320,13 +320,16 @@ nothing-copied sizes v block blank =
 
 pub cleaned-again : CleanedAgain
 unfolding cleanAnswer tooFewBlank cleanSteps cleanCopies cleanBlanks copySteps eraseSteps
-cleaned-again widths sizes v block e = clean-done widths sizes after block answer ∙ ap (λ (f : Flash). record { answer = 0; second = 0; left = f }) unaltered
+cleaned-again widths sizes v block again e starts named within = clean-done widths sizes after again answer ∙ ap (λ (f : Flash). record { answer = 0; second = 0; left = f }) unaltered
   where
     a : CleanTests widths sizes v block
     a = clean-tests widths sizes v block e
 
     b : Block
     b = blockAt (sizes .slots) block
+
+    b′ : Block
+    b′ = blockAt (sizes .slots) again
 
     size : SizedIn FiveWords (sizes .width) (sizes .slots) (v .flash)
     size = a .fits .flash-sized
@@ -341,14 +344,14 @@ cleaned-again widths sizes v block e = clean-done widths sizes after block answe
     after : Volume
     after = record { flash = g; state = v .state }
 
-    is-blank : (k : ℕ) → k < sizes .slots → inBlock b k ≡ true → Blanked FiveWords (sizes .width) g k
-    is-blank k h i = subst (λ (f : Flash). Blanked FiveWords (sizes .width) f k) (sym is-left) (left-inside sizes v b size (a .table) (a .room) k h i)
+    is-blank : (k : ℕ) → k < sizes .slots → inBlock b′ k ≡ true → Blanked FiveWords (sizes .width) g k
+    is-blank k h i = subst (λ (f : Flash). Blanked FiveWords (sizes .width) f k) (sym is-left) (left-inside sizes v b size (a .table) (a .room) k h (within k i))
 
     sized : SizedIn FiveWords (sizes .width) (sizes .slots) g
     sized = subst (SizedIn FiveWords (sizes .width) (sizes .slots)) (sym is-left) (left-sized sizes v b size (a .table) (a .room))
 
-    none : cleanFrom sizes after b ≡ []
-    none = nothing-copied sizes after b (λ k h i. is-blank k h i .slot-blank)
+    none : cleanFrom sizes after b′ ≡ []
+    none = nothing-copied sizes after b′ (λ k h i. is-blank k h i .slot-blank)
 
     fits : volumeFits widths sizes after ≡ true
     fits = fits-test widths sizes after (record { bounds = a .fits .bounds; allowed = a .fits .allowed; flash-sized = sized; state-sized = a .fits .state-sized })
@@ -357,11 +360,11 @@ cleaned-again widths sizes v block e = clean-done widths sizes after block answe
     sound = sound-slots (sizes .pages) (sizes .slots) (slotAt (g .words))
         (λ k r h f. let w = cleaned widths sizes v block e .none-new k r h f in sound-at (slotAt (v .flash .words)) (sizes .pages) (sizes .slots) (w .0) (a .table) (w .1) (w .2 .0))
 
-    answer : cleanAnswer widths sizes after block ≡ 0
-    answer = rw (cleanAnswer, tooFewBlank, fits, sound, a .sound, a .named, none, le-ltb (length (cleanTo sizes after b)) 0 (omega arith))
+    answer : cleanAnswer widths sizes after again ≡ 0
+    answer = rw (cleanAnswer, tooFewBlank, fits, starts, sound, a .sound, named, none, le-ltb (length (cleanTo sizes after b′)) 0 (omega arith))
 
-    unaltered : applyAll (sizes .width) g (cleanSteps sizes after b) ≡ g
+    unaltered : applyAll (sizes .width) g (cleanSteps sizes after b′) ≡ g
     unaltered =
-        ap (λ (l : List ℕ). applyAll (sizes .width) g (copySteps (sizes .width) g l (cleanTo sizes after b) ++ map Step.Blank (listBelow (sizes .slots) (inBlock b)))) none
-        ∙ blanks-again FiveWords (sizes .width) (sizes .slots) (listBelow (sizes .slots) (inBlock b)) g sized
-        (λ k m. let p = list-members (inBlock b) (sizes .slots) k .0 m in (p .0, is-blank k (p .0) (p .1)))
+        ap (λ (l : List ℕ). applyAll (sizes .width) g (copySteps (sizes .width) g l (cleanTo sizes after b′) ++ map Step.Blank (listBelow (sizes .slots) (inBlock b′)))) none
+        ∙ blanks-again FiveWords (sizes .width) (sizes .slots) (listBelow (sizes .slots) (inBlock b′)) g sized
+        (λ k m. let p = list-members (inBlock b′) (sizes .slots) k .0 m in (p .0, is-blank k (p .0) (p .1)))

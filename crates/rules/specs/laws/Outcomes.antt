@@ -6,7 +6,7 @@ use Rattle.bounded.specs.Limits.{noNumber, Widths}
 use Rattle.outcome.specs.OutcomeLaws.{settled-refused, settled-done}
 use Rattle.sizes.specs.declared.Layout.{Layout}
 use Rattle.sizes.specs.declared.Sizes.{Sizes}
-use Rattle.sizes.specs.Blocks.{blockAt}
+use Rattle.sizes.specs.Blocks.{NamedBlock, blockAt}
 use Rattle.record.specs.Slot.{bytesAt}
 use Rattle.record.specs.Flash.{applyAll}
 use Rattle.state.specs.State.{stateAt, stateWords}
@@ -84,7 +84,7 @@ module _ (widths : Widths) (sizes : Sizes) (v : Volume) where
   unfolding suggestOutcome
   suggest-done e = settled-done (suggestAnswer widths sizes v) noNumber (suggestedSlot sizes v) tt tt e
 
-module _ (widths : Widths) (sizes : Sizes) (v : Volume) (block : ℕ) where
+module _ (widths : Widths) (sizes : Sizes) (v : Volume) (block : NamedBlock) where
   pub clean-refused : ¬ (cleanAnswer widths sizes v block ≡ 0) → cleanOutcome widths sizes v block ≡ record { answer = cleanAnswer widths sizes v block; second = 0; left = v .flash }
   unfolding cleanOutcome
   clean-refused h = settled-refused (cleanAnswer widths sizes v block) 0 0 (v .flash) (applyAll (sizes .width) (v .flash) (cleanSteps sizes v (blockAt (sizes .slots) block))) h
