@@ -1,6 +1,7 @@
 /*
- * A small console over a simulated flash file, of a chip that programs a slot by itself and erases 64 together. It stores sets of
- * pistons, is killed at a random flash step, powers up again, and finds every set whole: all old or all new.
+ * A small console over a simulated flash file, of a chip that programs a slot by itself and erases blocks of slots, small ones at its
+ * front and larger ones behind. It stores sets of pistons, is killed at a random flash step, powers up again, and finds every set
+ * whole: all old or all new.
  *
  *   console FILE           powers up from FILE (made and formatted where it is missing) and lists the pistons
  *   console FILE N SEED    formats FILE and stores random sets, N times killed; after each kill powers up and compares
@@ -8,10 +9,10 @@
  * A piston has 32 bytes, 256 stops; with a last argument 64 it has 64 bytes, 512 stops. A FILE that is there and is no flash file
  * of this console and this width, by its length, is left as it is.
  *
- * The driver is what firmware has to supply: load the flash at power-up; program one slot at a time from the images in memory,
- * wholly or not at all, before the next call; and erase a block only when every copy out of it is programmed. A freshly formatted
- * file is moved into place in one piece: that stands for the marker that a chip's driver keeps (docs/INTEGRATION.md, "First boot").
- * POSIX for the processes; the use of the library is plain C99.
+ * The driver is what firmware has to supply: lend the table of the chip's blocks; load the flash at power-up; program one slot at a
+ * time from the images in memory, wholly or not at all, before the next call; and erase a block only when every copy out of it is
+ * programmed. A freshly formatted file is moved into place in one piece: that stands for the marker that a chip's driver keeps
+ * (docs/INTEGRATION.md, "First boot"). POSIX for the processes; the use of the library is plain C99.
  */
 #define _POSIX_C_SOURCE 200809L
 
@@ -27,11 +28,14 @@
 #include <sys/wait.h>
 #include <unistd.h>
 
-enum { PAGES = 8, BLOCKS = 3, SLOTS = BLOCKS * BPCC_BLOCK_SLOTS, WORD_BYTES = 4 * BPCC_SLOT_WORDS };
+enum { PAGES = 8, SLOTS = 192, BLOCKS = 6, LARGEST_BLOCK = 64, WORD_BYTES = 4 * BPCC_SLOT_WORDS };
 
-/* How many blank slots are kept in reserve for cleaning: as many as a block has slots. A block with n records has 64 - n of them at
- * most, so that n or more are outside it: enough to copy all its records, whatever they are. */
-enum { RESERVE = BPCC_BLOCK_SLOTS };
+/* The chip's blocks: of 8, 8, 16, 32, 64 and 64 slots. */
+static const uint32_t starts[BLOCKS] = {0, 8, 16, 32, 64, 128};
+
+/* How many blank slots are kept in reserve for cleaning: as many as the largest block has slots. A block of m slots with n records has
+ * m - n of them at most, so that n or more are outside it: enough to copy all its records, whatever they are. */
+enum { RESERVE = LARGEST_BLOCK };
 
 /* The bytes of a piston: the width of the volume. */
 static uint32_t width = BPCC_WIDTH_32;
@@ -45,6 +49,7 @@ static uint32_t state[BPCC_PAGE_WORDS * PAGES];
 #define WORDS words, BPCC_TABLE_WORDS(SLOTS)
 #define CONTENTS contents, BPCC_CONTENTS_BYTES(SLOTS, width)
 #define STATE state, BPCC_STATE_WORDS(PAGES)
+#define STARTS starts, BLOCKS
 
 /* The file that stands for the chip: for each slot its five words, its bytes, and bytes 255 to a multiple of 32. All bytes of an
  * erased slot are 255. */
@@ -116,11 +121,12 @@ static void program(uint32_t k) {
 
 /* Erases a block. Where the power fails, some of its slots are erased and the others as they were. */
 static void erase_block(uint32_t block) {
+    const uint32_t end = block + 1 < BLOCKS ? starts[block + 1] : SLOTS;
     uint8_t erased[SLOT_BYTES(BPCC_MAX_WIDTH)];
     int cut = power_fails();
     uint32_t k;
     memset(erased, 255, sizeof erased);
-    for (k = BPCC_BLOCK_SLOTS * block; k < BPCC_BLOCK_SLOTS * (block + 1); k++) {
+    for (k = starts[block]; k < end; k++) {
         if (!cut || rand() % 2 == 0) {
             put(k, erased);
         }
@@ -186,9 +192,20 @@ static int is_there(const char *path) {
     return 1;
 }
 
-/* Power-up: load the flash, then recover. Nothing else is called before recovery has answered 0. */
+/* Checks the table of blocks, before anything is erased by it. */
+static void check_blocks(void) {
+    done("check_blocks", bpcc_check_blocks(VOLUME, STARTS));
+}
+
+/* The block that is cleaned next. */
+static uint32_t next_block;
+
+/* Power-up: check the table of blocks, load the flash, then recover. Nothing else is called before recovery has answered 0. Which block
+ * is cleaned first is left to chance, so that the first ones do not wear faster where the power fails often. */
 static void power_up(const char *path) {
     uint32_t k;
+    check_blocks();
+    next_block = (uint32_t)rand() % BLOCKS;
     if (!is_there(path)) {
         make_flash(path);
         close(flash);
@@ -210,7 +227,7 @@ static int clean(uint32_t block) {
     for (k = 0; k < SLOTS; k++) {
         was_blank[k] = is_blank(k);
     }
-    reply = bpcc_clean(VOLUME, WORDS, CONTENTS, STATE, block);
+    reply = bpcc_clean(VOLUME, WORDS, CONTENTS, STATE, STARTS, block);
     if (bpcc_answer(reply) == BPCC_TOO_FEW_BLANK) {
         return 0;
     }
@@ -238,16 +255,15 @@ static uint32_t cleaned;
 /* Cleans blocks in turn, which wears them alike, until more slots are blank than the reserve. Copies that a power failure left beside
  * their originals may have used some of the reserve, so that a block has to wait; the one that was being cleaned never has to. */
 static void make_room(void) {
-    static uint32_t block;
     uint32_t refused = 0;
     while (blank_slots() <= RESERVE) {
-        if (clean(block)) {
+        if (clean(next_block)) {
             cleaned++;
             refused = 0;
         } else if (++refused == BLOCKS) {
             fail("no block can be cleaned");
         }
-        block = (block + 1) % BLOCKS;
+        next_block = (next_block + 1) % BLOCKS;
     }
 }
 
@@ -356,6 +372,7 @@ static struct note follow(int notes, uint32_t *kept, unsigned *sets) {
 static int trial(const char *path, unsigned kills, unsigned seed) {
     uint32_t kept[PAGES] = {0}, n = 1;
     unsigned i, sets = 0, blocks = 0;
+    check_blocks();
     is_there(path);
     make_flash(path);
     close(flash);

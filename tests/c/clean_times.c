@@ -17,7 +17,9 @@
 #include <string.h>
 #include <time.h>
 
-enum { SLOTS = BPCC_MAX_SLOTS, BLOCK = BPCC_BLOCK_SLOTS, ROUNDS = 101, MOST = 3 };
+enum { SLOTS = BPCC_MAX_SLOTS, BLOCK = 64, ROUNDS = 101, MOST = 3 };
+
+static const uint32_t starts[BPCC_MAX_BLOCKS] = BPCC_BLOCKS_OF_64;
 
 static struct volume {
     uint32_t pages;
@@ -34,6 +36,7 @@ static unsigned wrong;       /* answers not expected, of the kind at hand */
 #define WORDS v.words, BPCC_TABLE_WORDS(SLOTS)
 #define CONTENTS v.contents, BPCC_CONTENTS_BYTES(SLOTS, width)
 #define STATE v.state, BPCC_STATE_WORDS(v.pages)
+#define STARTS starts, BPCC_BLOCKS_OF_64_LENGTH(SLOTS)
 
 static void expect(uint64_t reply) {
     wrong += bpcc_answer(reply) != BPCC_DONE;
@@ -202,7 +205,7 @@ static double clean(const struct kind *kind) {
     uint64_t reply;
     v = cleaned;
     started = microseconds();
-    reply = bpcc_clean(VOLUME, WORDS, CONTENTS, STATE, kind->block);
+    reply = bpcc_clean(VOLUME, WORDS, CONTENTS, STATE, STARTS, kind->block);
     started = microseconds() - started;
     expect(reply);
     return started;

@@ -1,7 +1,7 @@
 /*
  * Document 01's sample sequence over include/bpcc.h at both widths, every answer and every buffer checked; a volume cleaned, and
- * twins such as a cut in that leaves; the links that recover follows and those of one that is refused; every call with NULL, 0 for
- * every choice of its buffers, and every call with widths that there are not. C99 and C++.
+ * twins such as a cut in that leaves; tables of blocks; the links that recover follows and those of one that is refused; every call
+ * with NULL, 0 for every choice of its buffers, and every call with widths that there are not. C99 and C++.
  * The last line of its output is 'N passed, M failed'.
  */
 #include "bpcc.h"
@@ -35,8 +35,13 @@ static uint64_t suggest(void) {
     return bpcc_suggest(PAGES, volume_slots, told, words, words_length, contents, contents_length, state, state_length);
 }
 
+static uint64_t check_blocks(void) {
+    return bpcc_check_blocks(PAGES, volume_slots, told, starts, starts_length);
+}
+
 static uint64_t clean(uint32_t block) {
-    return bpcc_clean(PAGES, volume_slots, told, words, words_length, contents, contents_length, state, state_length, block);
+    return bpcc_clean(PAGES, volume_slots, told, words, words_length, contents, contents_length, state, state_length, starts,
+                      starts_length, block);
 }
 
 static uint64_t recover(void) {
@@ -128,70 +133,7 @@ static void erasing(void) {
     expect_page(1, 3, 2, "page 1 stays");
 }
 
-/* The slots from `first` up to before `end` are blank, all bytes 255. */
-static void expect_blank(uint32_t first, uint32_t end, const char *name) {
-    int blank = 1;
-    size_t i;
-    for (i = BPCC_TABLE_WORDS(first); i < BPCC_TABLE_WORDS(end); i++) {
-        blank &= words[i] == BPCC_NONE;
-    }
-    for (i = BPCC_CONTENTS_BYTES(first, width); i < BPCC_CONTENTS_BYTES(end, width); i++) {
-        blank &= contents[i] == 255;
-    }
-    check(blank, name);
-}
-
-/* A set of both pages, stored; block 0 is cleaned, then the two slots behind it. */
-static void cleaning(void) {
-    const uint32_t both[] = {0, 1};
-    volume_slots = TWO_BLOCKS;
-    lend(0);
-    format(TWO_BLOCKS);
-    launch(both, 2);
-    write(0, 7, 3);
-    expect(write(1, 5, 1), BPCC_DONE, 1, "a set before a cleaning");
-    keep();
-    expect(clean(2), BPCC_WRONG_LIST, 0, "clean a block that starts behind S");
-    expect(clean(BPCC_MAX_BLOCKS), BPCC_WRONG_LIST, 0, "clean block 16");
-    expect_kept("refused cleanings leave every buffer");
-    expect(clean(0), BPCC_DONE, 0, "clean block 0");
-    expect_blank(0, BPCC_BLOCK_SLOTS, "block 0 is blank");
-    expect_slot(BPCC_BLOCK_SLOTS, 1, 1, 0, 0, 1, "the copy of slot 5");
-    expect_slot(BPCC_BLOCK_SLOTS + 1, 0, 1, 0, 1, 1, "the copy of slot 7");
-    check(memcmp(memory.state, before.state, sizeof memory.state) == 0, "a cleaning leaves the state");
-    crash();
-    expect(recover(), BPCC_DONE, 2 + 2, "recover a cleaned volume");
-    expect_page(0, 3, 2, "page 0 of a cleaned volume");
-    expect_page(1, 1, 1, "page 1 of a cleaned volume");
-    expect(clean(1), BPCC_DONE, 0, "clean block 1");
-    expect_slot(0, 1, 1, 0, 0, 1, "the copy of slot 64");
-    expect_blank(BPCC_BLOCK_SLOTS, TWO_BLOCKS, "block 1 is blank");
-}
-
-/* … and a slot of it copied by hand, as by a cut after a copy: recover takes twins, and one of them may go. */
-static void twins(void) {
-    const uint32_t two[] = {0, BPCC_BLOCK_SLOTS};
-    memcpy(words + BPCC_SLOT_WORDS * two[1], words, BPCC_SLOT_WORDS * sizeof *words);
-    memcpy(contents + width * two[1], contents, width);
-    crash();
-    expect(recover(), BPCC_DONE, 2 + 2, "recover twins");
-    expect(suggest(), BPCC_DONE, 0, "suggest the lower twin");
-    keep();
-    expect(erase(two, 2), BPCC_MAY_NOT_ERASE, 0, "erase both twins");
-    contents[width - 1] ^= 1;
-    crash();
-    expect(recover(), BPCC_RECORDS_CLASH, 0, "recover records that differ in a byte");
-    memory = before;
-    expect(erase(two, 1), BPCC_DONE, 0, "erase the lower twin");
-    expect_page(1, 1, 1, "the other twin is read");
-    launch(two, 1);
-    expect(write(0, BPCC_BLOCK_SLOTS + 1, 9), BPCC_DONE, 1, "no blank slot behind block 0");
-    launch(two, 1);
-    expect(write(0, 9, 9), BPCC_DONE, 1, "a committed record in block 0");
-    keep();
-    expect(clean(0), BPCC_TOO_FEW_BLANK, 0, "clean with no blank slot outside");
-    expect_kept("a cleaning with no blank slot outside leaves every buffer");
-}
+#include "sample_blocks.h"
 
 /* Recover refuses what is in the table now, has no links, and leaves every buffer. */
 static void expect_no_links(uint32_t answer, const char *name) {
@@ -228,7 +170,7 @@ static void links(void) {
     expect_no_links(BPCC_NO_COMMITTED_RECORD, "no links where a committed record is missing");
 }
 
-/* The ten calls, and the buffers that each takes. */
+/* The eleven calls, and the buffers that each takes. */
 static const struct taking calls[] = {
     {FORMAT, WORDS | CONTENTS | STATE, "format with NULL, 0 or another width"},
     {LAUNCH, STATE | LIST, "launch with NULL, 0 or another width"},
@@ -236,7 +178,8 @@ static const struct taking calls[] = {
     {WITHDRAW, STATE, "withdraw with NULL, 0 or another width"},
     {ERASE, WORDS | CONTENTS | STATE | LIST, "erase with NULL, 0 or another width"},
     {SUGGEST, WORDS | CONTENTS | STATE, "suggest with NULL, 0 or another width"},
-    {CLEAN, WORDS | CONTENTS | STATE, "clean with NULL, 0 or another width"},
+    {CHECK_BLOCKS, STARTS, "check_blocks with NULL, 0 or another width"},
+    {CLEAN, WORDS | CONTENTS | STATE | STARTS, "clean with NULL, 0 or another width"},
     {RECOVER, WORDS | CONTENTS | STATE, "recover with NULL, 0 or another width"},
     {COUNT, BYTES, "count with NULL, 0"},
     {READ, WORDS | CONTENTS | STATE | OUT, "read with NULL, 0 or another width"},
@@ -252,6 +195,7 @@ static uint64_t make(enum call call) {
     case WITHDRAW: return withdraw(1);
     case ERASE: return erase(list, list_length);
     case SUGGEST: return suggest();
+    case CHECK_BLOCKS: return check_blocks();
     case CLEAN: return clean(0);
     case RECOVER: return recover();
     case COUNT: return bpcc_count(bytes, bytes_length);
@@ -264,8 +208,7 @@ static uint64_t make(enum call call) {
  * has room behind it; it is copied. */
 static void ready(void) {
     const uint32_t one[] = {1};
-    volume_slots = TWO_BLOCKS;
-    lend(0);
+    lend_two_blocks();
     memset(out, 0xA5, sizeof memory.out);
     format(TWO_BLOCKS);
     launch(list, list_length);
@@ -287,7 +230,7 @@ static void counts(void) {
 
 /* Every answer, scc.h's 16 among them, has a text of its own, and no other number has one. */
 static void texts(void) {
-    const uint32_t last = 16, no_answer[] = {last + 1, BPCC_NONE};
+    const uint32_t last = BPCC_WRONG_BLOCKS, no_answer[] = {last + 1, BPCC_NONE};
     const char *none = bpcc_answer_text(BPCC_NONE);
     uint32_t answer, other;
     size_t i;
@@ -312,6 +255,7 @@ static void at_width(uint32_t w) {
     erasing();
     cleaning();
     twins();
+    blocks();
     links();
     for (i = 0; i < CALLS; i++) {
         nulls(&calls[i]);

@@ -1,7 +1,7 @@
 /*
- * What the samples of both families share: a volume of two pages and four slots, or of two slots more than a block has, with its
- * buffers, the checks of replies and buffers, and each call with NULL, 0 for every choice of its buffers and with widths that there
- * are not. A sample defines TABLE_WORDS, then reads this, and has a table `calls` with what each of its calls takes, `make` and
+ * What the samples of both families share: a volume of two pages and four slots, or of a block of eight slots and one of two, with
+ * its buffers, the checks of replies and buffers, and each call with NULL, 0 for every choice of its buffers and with widths that
+ * there are not. A sample defines TABLE_WORDS, then reads this, and has a table `calls` with what each of its calls takes, `make` and
  * `ready`. C99 and C++.
  */
 #ifndef SAMPLE_H
@@ -12,14 +12,14 @@
 #include <stdio.h>
 #include <string.h>
 
-enum { PAGES = 2, SLOTS = 4, TWO_BLOCKS = BPCC_BLOCK_SLOTS + 2 };
+enum { PAGES = 2, SLOTS = 4, BLOCK = 8, TWO_BLOCKS = BLOCK + 2 };
 
 /* The buffers that calls are lent, each a bit. */
-enum { WORDS = 1, CONTENTS = 2, STATE = 4, LIST = 8, BYTES = 16, OUT = 32 };
+enum { WORDS = 1, CONTENTS = 2, STATE = 4, LIST = 8, BYTES = 16, OUT = 32, STARTS = 64 };
 
 /* The memory of every buffer, and a copy. */
 static struct {
-    uint32_t words[BPCC_SLOT_WORDS * TWO_BLOCKS], state[BPCC_PAGE_WORDS * PAGES], list[1];
+    uint32_t words[BPCC_SLOT_WORDS * TWO_BLOCKS], state[BPCC_PAGE_WORDS * PAGES], list[1], starts[2];
     uint8_t contents[BPCC_MAX_WIDTH * TWO_BLOCKS], bytes[BPCC_MAX_WIDTH], out[BPCC_MAX_WIDTH + 1];
 } memory, before;
 
@@ -27,9 +27,9 @@ static struct {
 static uint32_t volume_slots = SLOTS, width, told;
 
 /* The buffers as they are lent. */
-static uint32_t *words, *state, *list;
+static uint32_t *words, *state, *list, *starts;
 static uint8_t *contents, *bytes, *out;
-static size_t words_length, state_length, list_length, contents_length, bytes_length, out_length;
+static size_t words_length, state_length, list_length, starts_length, contents_length, bytes_length, out_length;
 
 static unsigned passed, failed;
 
@@ -63,6 +63,8 @@ static void lend(unsigned absent) {
     bytes_length = absent & BYTES ? 0 : width;
     out = absent & OUT ? NULL : memory.out;
     out_length = absent & OUT ? 0 : width;
+    starts = absent & STARTS ? NULL : memory.starts;
+    starts_length = absent & STARTS ? 0 : 2;
 }
 
 /* Copies the memory. */
@@ -86,8 +88,8 @@ static void expect_state(uint32_t page, uint32_t committed, uint32_t used, uint3
     check(at[0] == committed && at[1] == used && at[2] == next && at[3] == written, name);
 }
 
-/* The calls of both families; suggest, clean and count are bpcc.h's alone. */
-enum call { FORMAT, LAUNCH, WRITE, WITHDRAW, ERASE, SUGGEST, CLEAN, RECOVER, COUNT, READ };
+/* The calls of both families; suggest, check_blocks, clean and count are bpcc.h's alone. */
+enum call { FORMAT, LAUNCH, WRITE, WITHDRAW, ERASE, SUGGEST, CHECK_BLOCKS, CLEAN, RECOVER, COUNT, READ };
 
 /* A call, and the buffers that it takes. */
 struct taking {
@@ -108,6 +110,11 @@ static void expect_refused(enum call call, uint32_t answer, const char *name) {
     expect_kept(name);
 }
 
+/* What a call says where these buffers are NULL, 0. */
+static uint32_t refusal(unsigned absent) {
+    return absent == LIST ? BPCC_WRONG_LIST : absent == STARTS ? BPCC_WRONG_BLOCKS : BPCC_WRONG_SIZE;
+}
+
 /* A call refuses NULL, 0 for every choice of the buffers that it takes, and is done where all are there. */
 static void nulls(const struct taking *t) {
     unsigned absent;
@@ -115,7 +122,7 @@ static void nulls(const struct taking *t) {
     for (absent = 1; absent <= t->buffers; absent++) {
         if ((absent & t->buffers) == absent) {
             lend(absent);
-            expect_refused(t->call, absent == LIST ? BPCC_WRONG_LIST : BPCC_WRONG_SIZE, t->name);
+            expect_refused(t->call, refusal(absent), t->name);
         }
     }
     lend(0);

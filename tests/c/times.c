@@ -1,10 +1,10 @@
 /*
  * The longest time of each call over S, the number of slots, at both widths. A call is made on kinds of volume that keep it busy,
  * at five sizes: a line for each kind says what it is and has its times, for recover also the links that it follows. Behind the
- * kinds of each width a table has the longest of each call of bpcc.h, in milliseconds, and one of its own the longest of those calls
- * of scc.h that a table's records keep busy: its other calls do what bpcc.h's do. No time is a failure; the last line is
- * 'N passed, M failed', and a kind at a size passes if it could be made and each call on it gave the answer, and recover the links,
- * expected.
+ * kinds of each width a table has the longest of each call of bpcc.h, in milliseconds, but for check_blocks, which takes less than
+ * the clock tells, and one of its own the longest of those calls of scc.h that a table's records keep busy: its other calls do what
+ * bpcc.h's do. No time is a failure; the last line is 'N passed, M failed', and a kind at a size passes if it could be made and each
+ * call on it gave the answer, and recover the links, expected.
  *
  * A time is the shortest of ROUNDS calls, each on the volume as it was made, less what reading the clock takes: what else the
  * machine does is left out. The calls themselves make the volumes, but for those made by hand, to which no list of calls leads:
@@ -26,10 +26,11 @@ static const char *const names[CALLS] = {"format",  "launch", "write", "withdraw
                                          "recover", "count",  "read",  "scc_write", "scc_erase", "scc_recover"};
 static const uint32_t sizes[SIZES] = {64, 128, 256, 512, 1024};
 
-/* A volume. Calls on it are given its last page, its last slot, its block 0, and the list of the `listed` pages or slots from
- * `first` up; `links` has how many recover follows, where it is the call timed. */
+/* A volume. Calls on it are given its last page, its last slot, its table of blocks and block 0 of it, and the list of the `listed`
+ * pages or slots from `first` up; `links` has how many recover follows, where it is the call timed. */
 static struct volume {
-    uint32_t pages, slots, first, listed, links;
+    uint32_t pages, slots, first, listed, links, blocks;
+    uint32_t starts[BPCC_MAX_BLOCKS];
     uint32_t words[BPCC_SLOT_WORDS * BPCC_MAX_SLOTS];
     uint8_t contents[BPCC_MAX_WIDTH * BPCC_MAX_SLOTS];
     uint32_t state[BPCC_PAGE_WORDS * BPCC_MAX_PAGES];
@@ -57,7 +58,7 @@ static uint64_t reply_of(enum call call) {
     case ERASE:
     case SCC_ERASE: return FAMILY(erase, VOLUME, WORDS, CONTENTS, STATE, list + v.first, v.listed);
     case SUGGEST: return bpcc_suggest(VOLUME, WORDS, CONTENTS, STATE);
-    case CLEAN: return bpcc_clean(VOLUME, WORDS, CONTENTS, STATE, 0);
+    case CLEAN: return bpcc_clean(VOLUME, WORDS, CONTENTS, STATE, v.starts, v.blocks, 0);
     case RECOVER: return bpcc_recover(VOLUME, WORDS, CONTENTS, STATE);
     case SCC_RECOVER: return scc_recover(VOLUME, WORDS, STATE);
     case COUNT: return bpcc_count(bytes, width);
@@ -70,9 +71,17 @@ static void expect(uint32_t answer, uint64_t reply) {
     wrong += bpcc_answer(reply) != answer;
 }
 
-/* A formatted volume of so many pages, at most 256. */
+/* Blocks of so many slots. */
+static void cut(uint32_t size) {
+    for (v.blocks = 0; v.blocks * size < v.slots; v.blocks++) {
+        v.starts[v.blocks] = v.blocks * size;
+    }
+}
+
+/* A formatted volume of so many pages, at most 256, and blocks of 64 slots. */
 static void format(uint32_t slots, uint32_t pages) {
     v.slots = slots;
+    cut(64);
     v.first = 0;
     v.pages = v.listed = pages < BPCC_MAX_PAGES ? pages : BPCC_MAX_PAGES;
     expect(BPCC_DONE, reply_of(FORMAT));
@@ -321,29 +330,51 @@ static void alike(uint32_t slots) {
     }
 }
 
-/* By hand: room for what is copied out of a block, the last 64 slots; a volume of one block has none. */
-static void room(uint32_t slots) {
-    if (slots > BPCC_BLOCK_SLOTS) {
-        memset(v.words + BPCC_SLOT_WORDS * (slots - BPCC_BLOCK_SLOTS), 0xFF, 4 * BPCC_SLOT_WORDS * BPCC_BLOCK_SLOTS);
+/* By hand: room for what is copied out of block 0, as many slots at the end; a volume of one block has none. Gives the slots of block
+ * 0. */
+static uint32_t room(void) {
+    const uint32_t size = v.blocks > 1 ? v.starts[1] : v.slots;
+    if (v.blocks > 1) {
+        memset(v.words + BPCC_SLOT_WORDS * (v.slots - size), 0xFF, 4 * BPCC_SLOT_WORDS * size);
     }
+    return size;
 }
 
 /* Formatted pages that fill a block, or half of the only one. */
 static void block_of_pages(uint32_t slots) {
-    format(slots, slots > BPCC_BLOCK_SLOTS ? BPCC_BLOCK_SLOTS : slots / 2);
+    format(slots, slots > 64 ? 64 : slots / 2);
 }
 
 /* By hand: a block of records alike, each to be copied, and as many more as leave room. */
 static void block_alike(uint32_t slots) {
     alike(slots);
-    room(slots);
+    room();
+}
+
+/* … a block of half of the slots, … */
+static void half_alike(uint32_t slots) {
+    alike(slots);
+    cut(slots / 2);
+    room();
+}
+
+/* … and one of all of them, which leaves no room. */
+static void all_alike(uint32_t slots) {
+    alike(slots);
+    cut(slots);
 }
 
 /* By hand: a block of needed records with their link at its end, each to be copied, and as many more as leave room. */
 static void block_needed(uint32_t slots) {
     chain_needed(slots);
-    room(slots);
-    set(BPCC_BLOCK_SLOTS - 1, 1, 1, 0, 0, 6);
+    set(room() - 1, 1, 1, 0, 0, 6);
+}
+
+/* … a block of half of the slots. */
+static void half_needed(uint32_t slots) {
+    chain_needed(slots);
+    cut(slots / 2);
+    set(room() - 1, 1, 1, 0, 0, 6);
 }
 
 /* Each call on its kinds of volume, and the answer expected. */
@@ -369,6 +400,9 @@ static const struct kind {
     {CLEAN, BPCC_DONE, block_of_pages, "P = 64, a record of each to copy"},
     {CLEAN, BPCC_DONE, block_alike, "P = 1, by hand, S-64 records alike but for their last bytes, 64 to copy"},
     {CLEAN, BPCC_DONE, block_needed, "P = S, by hand, S-65 needed records of one chain, 63 and their link to copy"},
+    {CLEAN, BPCC_DONE, half_alike, "P = 1, by hand, a block of S/2 records alike but for their last bytes, all to copy"},
+    {CLEAN, BPCC_DONE, half_needed, "P = S, by hand, a block of S/2-1 needed records of one chain and their link, all to copy"},
+    {CLEAN, BPCC_TOO_FEW_BLANK, all_alike, "P = 1, by hand, one block of S records alike but for their last bytes"},
     {RECOVER, BPCC_DONE, ring, "P = S/2, a ring of all, no slot blank"},
     {RECOVER, BPCC_DONE, one_ring, "P = S, by hand, a ring of all, no other record"},
     {RECOVER, BPCC_DONE, old_links, "P = S-2, links to older versions"},
@@ -425,8 +459,8 @@ static uint32_t followed(enum call recover) {
 }
 
 /* Whether a volume of one block is to be cleaned: its slots are judged, and there is none to copy to. */
-static int one_block(const struct kind *kind, uint32_t slots) {
-    return kind->call == CLEAN && slots <= BPCC_BLOCK_SLOTS;
+static int one_block(const struct kind *kind) {
+    return kind->call == CLEAN && made.blocks == 1;
 }
 
 /* Times a kind at each size, counts it, and raises the longest times of its call. */
@@ -440,7 +474,7 @@ static void measure(const struct kind *kind, double clock_time, double *longest)
         wrong = 0;
         kind->make(sizes[s]);
         made = v;
-        times[s] = shortest(kind->call, one_block(kind, sizes[s]) ? BPCC_TOO_FEW_BLANK : kind->answer) - clock_time;
+        times[s] = shortest(kind->call, one_block(kind) ? BPCC_TOO_FEW_BLANK : kind->answer) - clock_time;
         longest[s] = times[s] > longest[s] ? times[s] : longest[s];
         links[s] = recovers ? followed(kind->call) : 0;
         right += wrong == 0;

@@ -1,7 +1,7 @@
-//! Document 02's wish 1: twins, the permission of a list of slots, and what the cleaning of a block does. Of four-word records there are
-//! no twins.
+//! Document 02's wishes 1 and 8: twins, the permission of a list of slots, tables of blocks, and what the cleaning of a block does. Of
+//! four-word records there are no twins.
 
-use crate::interface::{Family, BLOCKS};
+use crate::interface::{Family, MOST_BLOCKS};
 use crate::rules::{old_rule, records, slot, slot_bytes, Record};
 use crate::volume::Layout;
 use std::ops::Range;
@@ -61,11 +61,22 @@ pub fn may_erase_alone(v: View, twins: Test, k: u32) -> bool {
     may_erase(v, twins, |l| l == k, k)
 }
 
-/// The slots of a block where blocks have so many: "numbered 0 to 15, its first slot taken from a constant table", "the last in use ends
-/// at S". None of "a block above 15, or one that starts at or after S".
-pub fn block(block_slots: u32, slots: u32, number: u32) -> Option<Range<u32>> {
-    let start = |number: u32| block_slots * number;
-    (number < BLOCKS && start(number) < slots).then(|| start(number)..slots.min(start(number + 1)))
+/// "A table that breaks these rules, its length included": not "1 to 16 starts: the first is 0, they rise strictly, all are below S".
+pub fn blocks_wrong(slots: u32, starts: &[u32]) -> bool {
+    let rises = starts.windows(2).all(|pair| pair[0] < pair[1]);
+    !(1..=MOST_BLOCKS).contains(&starts.len()) || starts[0] != 0 || !rises || starts.iter().any(|&start| start >= slots)
+}
+
+/// The slots of a block; the last block ends at S. "Block numbers then run below its length": no other number has any.
+pub fn block(slots: u32, starts: &[u32], number: u32) -> Option<Range<u32>> {
+    let start = |number: usize| starts.get(number).copied();
+    let number = number as usize;
+    start(number).map(|first| first..start(number + 1).unwrap_or(slots))
+}
+
+/// A table of blocks of one size, as many as it may have; the last has what is left of the slots.
+pub fn blocks_of(size: u32, slots: u32) -> Vec<u32> {
+    (0..slots).step_by(size as usize).take(MOST_BLOCKS).collect()
 }
 
 /// A step of cleaning: what a slot then holds, a record with its bytes, or nothing.

@@ -8,13 +8,15 @@ use crate::volume::{Call, Volume};
 pub type Stage = Vec<u32>;
 
 /// The stages of a call that is done, by what it made of the volume: a write stores its slot, an erase blanks the listed ones in any
-/// order. A cleaning stores its copies one after the other, rising, then blanks its block's slots in any order.
-pub fn stages(block_slots: u32, call: &Call, before: &Volume, after: &Volume) -> Vec<Stage> {
+/// order. A cleaning stores its copies one after the other, rising, then blanks its block's slots in any order; as the chip erases the
+/// block whole, the call must have left nothing in it.
+pub fn stages(call: &Call, before: &Volume, after: &Volume) -> Vec<Stage> {
     match *call {
         Call::Write { slot, .. } => vec![vec![slot]],
         Call::Erase(ref list) => vec![list.clone()],
-        Call::Clean(number) => {
-            let block = block(block_slots, before.sizes.slots, number).expect("a cleaning that is done has a block");
+        Call::Clean { ref starts, block: number } => {
+            let block = block(before.sizes.slots, starts, number).expect("a cleaning that is done has a block");
+            assert!(block.clone().all(|k| after.slot(k).is_none()), "a cleaned block holds a record: {:?}", after.words);
             let (blanked, copies): (Stage, Stage) = before.altered(after).into_iter().partition(|k| block.contains(k));
             copies.into_iter().map(|k| vec![k]).chain([blanked]).collect()
         }

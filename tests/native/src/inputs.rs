@@ -1,13 +1,14 @@
 //! Volumes, states and arguments for the calls: reachable, sound, with twins, damaged and sheer garbage.
 
 pub mod arguments;
+pub mod blocks;
 
 use crate::implementations::reference::Reference;
-use crate::interface::{Family, BLOCK_SLOTS, NONE, WIDTHS};
+use crate::interface::{Family, NONE, WIDTHS};
 use crate::random::Random;
 use crate::rules::{set_entry, slot_bytes, slot_words, state_sound, Entry, Record, LAST_VERSION};
 use crate::volume::{Call, Layout, Sizes, Volume};
-pub use arguments::{block_to_clean, page_and_slot_to_write, page_to_take, pages_to_launch, slots_to_erase};
+pub use arguments::{blocks_to_clean, page_and_slot_to_write, page_to_take, pages_to_launch, slots_to_erase};
 
 /// Widths that no volume has.
 pub const WRONG_WIDTHS: [u32; 7] = [0, 31, 33, 63, 65, 96, NONE];
@@ -42,14 +43,14 @@ pub fn boundary(random: &mut Random, sizes: Sizes) -> u32 {
 }
 
 /// A volume of a layout, and its state, for one round of calls: most often small, now and then the largest, and where volumes are
-/// cleaned one in forty of two or three blocks.
+/// cleaned one in forty of more than 64 slots.
 pub fn volume(random: &mut Random, layout: Layout) -> Volume {
     match random.below(2000) {
         0 => {
             let sizes = layout.sizes(random.pick(&[255, 256]), 1024 - random.below(2));
             volume_of(random, sizes)
         }
-        1..=50 if layout.family == Family::Bpcc => blocks_volume(random, layout),
+        1..=50 if layout.family == Family::Bpcc => longer_volume(random, layout),
         _ => {
             let pages = pages(random);
             let sizes = layout.sizes(pages, pages + random.below(9));
@@ -58,9 +59,9 @@ pub fn volume(random: &mut Random, layout: Layout) -> Volume {
     }
 }
 
-/// One of two or three blocks, the last of which has few slots or is whole.
-pub fn blocks_volume(random: &mut Random, layout: Layout) -> Volume {
-    let slots = if random.one_in(3) { 2 * BLOCK_SLOTS + random.below(4) } else { BLOCK_SLOTS + 1 + random.below(9) };
+/// One of more slots than 64, or than 127.
+pub fn longer_volume(random: &mut Random, layout: Layout) -> Volume {
+    let slots = if random.one_in(3) { 128 + random.below(4) } else { 65 + random.below(9) };
     let sizes = layout.sizes(pages(random), slots);
     volume_of(random, sizes)
 }
@@ -100,7 +101,10 @@ fn reached(random: &mut Random, sizes: Sizes) -> Volume {
                 let (page, slot) = page_and_slot_to_write(random, &v);
                 Call::Write { page, slot, bytes: random.bytes(sizes.width) }
             }
-            6 if sizes.family == Family::Bpcc && sizes.slots > BLOCK_SLOTS && random.one_in(2) => Call::Clean(block_to_clean(random, &v)),
+            6 if sizes.family == Family::Bpcc && random.one_in(2) => {
+                let (starts, block) = blocks_to_clean(random, &v);
+                Call::Clean { starts, block }
+            }
             6 if random.one_in(4) => Call::Withdraw(random.below(sizes.pages)),
             6 if random.one_in(4) => Call::Recover,
             _ => Call::Erase(slots_to_erase(random, &v)),

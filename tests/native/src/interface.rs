@@ -36,41 +36,39 @@ impl Family {
 
     /// The calls of the family.
     pub fn calls(self) -> impl Iterator<Item = Name> + Clone {
-        ROWS.iter().filter(move |(family, _)| *family == self).map(|&(_, name)| name)
+        ROWS.iter().filter(move |(family, ..)| *family == self).map(|&(_, name, _)| name)
     }
 }
 
 /// Words of a page in the state (document 01: sheet).
 pub const PAGE_WORDS: usize = 4;
 
-/// The slots that the chip erases together, as the calls take it; the last block of a volume may have fewer.
-pub const BLOCK_SLOTS: u32 = 64;
-
-/// The most blocks of a volume.
-pub const BLOCKS: u32 = 16;
+/// The most blocks of a table.
+pub const MOST_BLOCKS: usize = 16;
 
 /// Hands the calls to a macro, a row for each: its family, its name, its name in C, and what it takes in the order of the header. A
 /// name in brackets is a buffer, in C a pointer and then a length.
 macro_rules! calls {
     ($to:ident) => {
         $to! {
-            Bpcc Format   bpcc_format   (pages, slots, width, [words], [contents], [state])
-            Bpcc Launch   bpcc_launch   (pages, slots, width, [state], [list])
-            Bpcc Write    bpcc_write    (pages, slots, width, [words], [contents], [state], page, slot, [bytes])
-            Bpcc Withdraw bpcc_withdraw (pages, slots, width, [state], page)
-            Bpcc Erase    bpcc_erase    (pages, slots, width, [words], [contents], [state], [list])
-            Bpcc Suggest  bpcc_suggest  (pages, slots, width, [words], [contents], [state])
-            Bpcc Clean    bpcc_clean    (pages, slots, width, [words], [contents], [state], block)
-            Bpcc Recover  bpcc_recover  (pages, slots, width, [words], [contents], [state])
-            Bpcc Count    bpcc_count    ([bytes])
-            Bpcc Read     bpcc_read     (pages, slots, width, [words], [contents], [state], page, [out])
-            Scc  Format   scc_format    (pages, slots, width, [words], [contents], [state])
-            Scc  Launch   scc_launch    (pages, slots, width, [state], [list])
-            Scc  Write    scc_write     (pages, slots, width, [words], [contents], [state], page, slot, [bytes])
-            Scc  Withdraw scc_withdraw  (pages, slots, width, [state], page)
-            Scc  Erase    scc_erase     (pages, slots, width, [words], [contents], [state], [list])
-            Scc  Recover  scc_recover   (pages, slots, width, [words], [state])
-            Scc  Read     scc_read      (pages, slots, width, [words], [contents], [state], page, [out])
+            Bpcc Format      bpcc_format       (pages, slots, width, [words], [contents], [state])
+            Bpcc Launch      bpcc_launch       (pages, slots, width, [state], [list])
+            Bpcc Write       bpcc_write        (pages, slots, width, [words], [contents], [state], page, slot, [bytes])
+            Bpcc Withdraw    bpcc_withdraw     (pages, slots, width, [state], page)
+            Bpcc Erase       bpcc_erase        (pages, slots, width, [words], [contents], [state], [list])
+            Bpcc Suggest     bpcc_suggest      (pages, slots, width, [words], [contents], [state])
+            Bpcc CheckBlocks bpcc_check_blocks (pages, slots, width, [starts])
+            Bpcc Clean       bpcc_clean        (pages, slots, width, [words], [contents], [state], [starts], block)
+            Bpcc Recover     bpcc_recover      (pages, slots, width, [words], [contents], [state])
+            Bpcc Count       bpcc_count        ([bytes])
+            Bpcc Read        bpcc_read         (pages, slots, width, [words], [contents], [state], page, [out])
+            Scc  Format      scc_format        (pages, slots, width, [words], [contents], [state])
+            Scc  Launch      scc_launch        (pages, slots, width, [state], [list])
+            Scc  Write       scc_write         (pages, slots, width, [words], [contents], [state], page, slot, [bytes])
+            Scc  Withdraw    scc_withdraw      (pages, slots, width, [state], page)
+            Scc  Erase       scc_erase         (pages, slots, width, [words], [contents], [state], [list])
+            Scc  Recover     scc_recover       (pages, slots, width, [words], [state])
+            Scc  Read        scc_read          (pages, slots, width, [words], [contents], [state], page, [out])
         }
     };
 }
@@ -91,6 +89,7 @@ pub struct Arguments<'a> {
     pub page: u32,
     pub slot: u32,
     pub list: &'a [u32],
+    pub starts: &'a [u32],
     pub block: u32,
     pub bytes: &'a [u8],
     pub out: &'a mut [u8],
@@ -105,6 +104,7 @@ pub enum Name {
     Withdraw,
     Erase,
     Suggest,
+    CheckBlocks,
     Clean,
     Recover,
     Count,
@@ -114,14 +114,15 @@ pub enum Name {
 /// As in C, without the family's prefix.
 impl fmt::Display for Name {
     fn fmt(&self, f: &mut fmt::Formatter) -> fmt::Result {
-        f.write_str(&format!("{self:?}").to_lowercase())
+        let row = ROWS.iter().find(|(_, name, _)| name == self);
+        f.write_str(row.and_then(|(_, _, c)| c.split_once('_')).expect("every call has a row").1)
     }
 }
 
 macro_rules! rows {
     ($($family:ident $name:ident $c:ident $takes:tt)*) => {
-        /// Every call with its family.
-        const ROWS: &[(Family, Name)] = &[$((Family::$family, Name::$name),)*];
+        /// Every call with its family and its name in C.
+        const ROWS: &[(Family, Name, &str)] = &[$((Family::$family, Name::$name, stringify!($c)),)*];
     };
 }
 
@@ -157,13 +158,8 @@ impl Reply {
 pub trait Calls {
     fn call(&self, name: Name, arguments: &mut Arguments) -> Reply;
 
-    /// The slots of a block.
-    fn block_slots(&self) -> u32 {
-        BLOCK_SLOTS
-    }
-
     /// The slots that the driver alters for a call that is done, in stages.
     fn stages(&self, call: &Call, before: &Volume, after: &Volume) -> Vec<Stage> {
-        stages(self.block_slots(), call, before, after)
+        stages(call, before, after)
     }
 }

@@ -38,6 +38,16 @@ impl Sizes {
     pub fn layout(self) -> Layout {
         Layout { family: self.family, width: self.width }
     }
+
+    /// The sizes as a call takes them, all else left out.
+    fn arguments<'a>(self) -> Arguments<'a> {
+        let Sizes { family, pages, slots, width } = self;
+        Arguments { family, pages, slots, width, ..Arguments::default() }
+    }
+
+    pub fn check_blocks(self, calls: &dyn Calls, starts: &[u32]) -> Reply {
+        calls.call(Name::CheckBlocks, &mut Arguments { starts, ..self.arguments() })
+    }
 }
 
 impl Arguments<'_> {
@@ -62,7 +72,7 @@ pub enum Call {
     Write { page: u32, slot: u32, bytes: Vec<u8> },
     Withdraw(u32),
     Erase(Vec<u32>),
-    Clean(u32),
+    Clean { starts: Vec<u32>, block: u32 },
     Recover,
 }
 
@@ -128,8 +138,8 @@ impl Volume {
 
     /// The volume lent to a call, the call's own arguments left out.
     pub fn arguments(&mut self) -> Arguments<'_> {
-        let Volume { sizes: Sizes { family, pages, slots, width }, words, contents, state } = self;
-        Arguments { family: *family, pages: *pages, slots: *slots, width: *width, words, contents, state, ..Arguments::default() }
+        let Volume { sizes, words, contents, state } = self;
+        Arguments { words, contents, state, ..sizes.arguments() }
     }
 
     pub fn call(&mut self, calls: &dyn Calls, call: &Call) -> Reply {
@@ -139,7 +149,7 @@ impl Volume {
             Call::Write { page, slot, ref bytes } => calls.call(Name::Write, &mut Arguments { page, slot, bytes, ..volume }),
             Call::Withdraw(page) => calls.call(Name::Withdraw, &mut Arguments { page, ..volume }),
             Call::Erase(ref list) => calls.call(Name::Erase, &mut Arguments { list, ..volume }),
-            Call::Clean(block) => calls.call(Name::Clean, &mut Arguments { block, ..volume }),
+            Call::Clean { ref starts, block } => calls.call(Name::Clean, &mut Arguments { starts, block, ..volume }),
             Call::Recover => calls.call(Name::Recover, &mut { volume }),
         }
     }

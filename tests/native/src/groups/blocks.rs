@@ -1,77 +1,111 @@
-//! Promise 3 where blocks are small: volumes whose every state is walked, and runs. The second implementation cleans blocks of a few
-//! slots as the calls clean those of 64.
+//! Promise 3 where blocks are small, even and uneven, and where every call is lent another table of them: volumes whose every state is
+//! walked, and runs.
 
 pub mod model;
 pub mod walk;
 
+use super::runs::run::Cleaning;
 use super::runs::{small_runs, told};
-use crate::crash::{stages, Stage};
+use crate::cleaning::blocks_of;
 use crate::harness::{caught, Group};
-use crate::implementations::reference::{OnTerms, Terms, RIGHT};
-use crate::interface::{Arguments, Calls, Name, Reply, WIDTHS};
-use crate::volume::{Call, Layout, Volume};
+use crate::implementations::compared::Compared;
+use crate::implementations::impostors::{Fault, Impostor};
+use crate::implementations::TESTED;
+use crate::inputs::blocks::every;
+use crate::interface::{Name, WIDTHS};
+use crate::volume::{Call, Layout};
 use model::Model;
+use std::fmt;
 use walk::{walk, Walk};
 
-/// The second implementation where a block has so many slots.
-const fn blocks_of(block_slots: u32) -> OnTerms {
-    OnTerms(Terms { block_slots, ..RIGHT })
+/// The tables of blocks that cleanings are lent.
+#[derive(Clone, Copy)]
+enum Lent {
+    OfTwo,
+    /// A block of one slot, one of two, and one of all others.
+    Uneven,
+    /// Another at each call, of up to three blocks: each block of any table is in one of them.
+    Any,
 }
 
-const OF_TWO: OnTerms = blocks_of(2);
-
-/// Blocks of two slots by calls to which equal records are no twins.
-const TWINS_CLASH: OnTerms = OnTerms(Terms { twins: |_, _, _| false, block_slots: 2 });
-
-/// Blocks of two slots by a driver that blanks them before it stores the copies.
-struct BlanksFirst;
-
-impl Calls for BlanksFirst {
-    fn call(&self, name: Name, arguments: &mut Arguments) -> Reply {
-        OF_TWO.call(name, arguments)
-    }
-
-    fn block_slots(&self) -> u32 {
-        OF_TWO.block_slots()
-    }
-
-    fn stages(&self, call: &Call, before: &Volume, after: &Volume) -> Vec<Stage> {
-        stages(self.block_slots(), call, before, after).into_iter().rev().collect()
+impl fmt::Display for Lent {
+    fn fmt(&self, f: &mut fmt::Formatter) -> fmt::Result {
+        f.write_str(match self {
+            Lent::OfTwo => "blocks of two",
+            Lent::Uneven => "blocks of one, of two and of the rest",
+            Lent::Any => "any block at each call",
+        })
     }
 }
 
-/// Models: pages, slots, the highest version launched, the fillings that a write may have, and how many states they have.
-const SMALL: [(u32, u32, u32, u8, usize); 6] =
-    [(1, 4, 4, 2, 11_431), (1, 6, 3, 1, 4_175), (2, 4, 2, 1, 14_811), (2, 5, 1, 2, 14_288), (2, 6, 1, 1, 20_100), (3, 5, 1, 1, 67_248)];
+impl Lent {
+    fn tables(self, slots: u32) -> Vec<Vec<u32>> {
+        match self {
+            Lent::OfTwo => vec![blocks_of(2, slots)],
+            Lent::Uneven => vec![vec![0, 1, 3]],
+            Lent::Any => every(slots).into_iter().filter(|starts| starts.len() <= 3).collect(),
+        }
+    }
+}
 
-/// Models of two pages behind case 6: slots, the highest version launched from there on, and how many states they have.
-const BEHIND_CASE_6: [(u32, u32, usize); 2] = [(6, 1, 7_731), (6, 2, 35_736)];
+/// Models: the tables lent, pages, slots, the highest version launched, the fillings that a write may have, and how many states they have.
+const SMALL: [(Lent, u32, u32, u32, u8, usize); 10] = [
+    (Lent::OfTwo, 1, 4, 4, 2, 11_431),
+    (Lent::OfTwo, 1, 6, 3, 1, 4_175),
+    (Lent::OfTwo, 2, 4, 2, 1, 14_811),
+    (Lent::Uneven, 2, 4, 2, 1, 24_812),
+    (Lent::Any, 1, 4, 4, 2, 21_067),
+    (Lent::Any, 2, 4, 2, 1, 28_418),
+    (Lent::Any, 2, 5, 1, 1, 9_024),
+    (Lent::OfTwo, 2, 5, 1, 2, 14_288),
+    (Lent::OfTwo, 2, 6, 1, 1, 20_100),
+    (Lent::OfTwo, 3, 5, 1, 1, 67_248),
+];
+
+/// How many of them are walked where slots are wider: the bytes of a slot are all one.
+const WIDE: usize = 6;
+
+/// Models of two pages and six slots behind case 6: the tables lent, the highest version launched from there on, and how many states
+/// they have.
+const BEHIND_CASE_6: [(Lent, u32, usize); 3] = [(Lent::OfTwo, 1, 7_731), (Lent::Any, 1, 15_964), (Lent::OfTwo, 2, 35_736)];
+
+/// What loses a page, and the tables by which it does. Only where there are several has a block twins within it.
+const WRONG: [(Fault, Lent); 3] = [
+    (Fault::DriverBlanksBeforeItCopies, Lent::OfTwo),
+    (Fault::IgnoresTwins(Name::Recover), Lent::OfTwo),
+    (Fault::CleanJudgesOneByOne, Lent::Any),
+];
 
 pub fn tests(group: &mut Group, layout: Layout) {
-    // The bytes of a slot are all one here, so that the wider ones need not be walked as far.
     let wide = layout.width > WIDTHS[0];
-    for (pages, slots, versions, fills, states) in SMALL.into_iter().take(if wide { 3 } else { SMALL.len() }) {
-        group.test(&format!("all states of P = {pages}, S = {slots}, versions up to {versions}, {fills} fillings of a write"), || {
-            told_walk(walk(&Model { calls: &OF_TWO, versions, fills }, layout.sizes(pages, slots), &[]), states)
+    for (lent, pages, slots, versions, fills, states) in SMALL.into_iter().take(if wide { WIDE } else { SMALL.len() }) {
+        let name = format!("all states of P = {pages}, S = {slots}, versions up to {versions}, {fills} fillings of a write, {lent}");
+        group.test(&name, || {
+            let tables = lent.tables(slots);
+            told_walk(walk(&Model { calls: TESTED, tables, versions, fills }, layout.sizes(pages, slots), &[]), states)
         });
     }
-    for (slots, versions, states) in BEHIND_CASE_6.into_iter().take(if wide { 1 } else { BEHIND_CASE_6.len() }) {
-        group.test(&format!("all states behind case 6, S = {slots}, launched versions up to {versions}"), || {
-            told_walk(walk(&Model { calls: &OF_TWO, versions, fills: 1 }, layout.sizes(2, slots), &case_6(layout)), states)
+    for (lent, versions, states) in BEHIND_CASE_6.into_iter().take(if wide { 1 } else { BEHIND_CASE_6.len() }) {
+        group.test(&format!("all states behind case 6, S = 6, launched versions up to {versions}, {lent}"), || {
+            let tables = lent.tables(6);
+            told_walk(walk(&Model { calls: TESTED, tables, versions, fills: 1 }, layout.sizes(2, 6), &case_6(layout)), states)
         });
     }
-    let wrong: [(&str, &dyn Calls); 2] =
-        [("a driver that blanks before it copies", &BlanksFirst), ("twins taken for a clash", &TWINS_CLASH)];
-    for (name, calls) in wrong {
-        group.test(&format!("{name}: P = 1, S = 4 meets it"), || {
+    group.test(&format!("all states of P = 2, S = 4, versions up to 1, {}, every call compared", Lent::Any), || {
+        let model = Model { calls: &Compared::new(TESTED), tables: Lent::Any.tables(4), versions: 1, fills: 1 };
+        told_walk(walk(&model, layout.sizes(2, 4), &[]), 1_740)
+    });
+    for (fault, lent) in WRONG {
+        group.test(&format!("{fault:?}: P = 1, S = 4, {lent} meets it"), || {
             caught(|| {
-                walk(&Model { calls, versions: 1, fills: 1 }, layout.sizes(1, 4), &[]);
+                let tables = lent.tables(4);
+                walk(&Model { calls: &Impostor(fault), tables, versions: 1, fills: 1 }, layout.sizes(1, 4), &[]);
             })
         });
     }
-    for block_slots in [1, 2, 3, 5] {
-        group.test(&format!("100 runs of 400 calls and crashes, P = 3, S up to 24, blocks of {block_slots}"), || {
-            told(small_runs(&blocks_of(block_slots), layout, 3, 100, 400))
+    for size in [1, 2, 3, 5] {
+        group.test(&format!("100 runs of 400 calls and crashes, P = 3, S up to 24, blocks of {size}"), || {
+            told(small_runs(TESTED, layout, Cleaning::BlocksOf(size), 3, 100, 400))
         });
     }
 }

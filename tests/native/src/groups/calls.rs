@@ -1,13 +1,16 @@
 //! The calls against the second implementation.
 
+pub mod block_tables;
 pub mod cleanings;
 pub mod exhaustive;
 pub mod lengths;
 pub mod volumes;
 
+use crate::cleaning::blocks_of;
 use crate::harness::Group;
 use crate::implementations::compared::Compared;
 use crate::implementations::TESTED;
+use crate::inputs::blocks::every;
 use crate::interface::{Family, Name};
 use crate::volume::Layout;
 
@@ -32,14 +35,7 @@ pub fn tests(group: &mut Group, layout: Layout) {
     if layout.family == Family::Bpcc {
         group.plain("count of every bit and every byte", || lengths::compare_counts(&compared, layout));
         group.plain("count of every length", || lengths::compare_counted_lengths(&compared));
-        group.test("each block of 10,000 volumes cleaned, every kind of cleaning met at least 100 times", || {
-            cleanings::compare(&compared, layout, 10_000)
-        });
-        for (pages, highest) in [(1, 2), (2, 1)] {
-            group.test(&format!("every table of four slots at a block's end, P = {pages}, versions up to {highest}, cleaned"), || {
-                format!("{} tables", exhaustive::boundary_tables(&compared, layout, pages, highest))
-            });
-        }
+        blocks(group, &compared, layout);
     }
     group.plain("the largest volume, one transaction over all pages", || volumes::compare_largest(&compared, layout));
     group.plain("lists of 100,001 entries", || volumes::compare_long_lists(&compared, layout));
@@ -50,3 +46,44 @@ pub fn tests(group: &mut Group, layout: Layout) {
     }
     group.test("every state of two pages, words of five values", || format!("{} states", exhaustive::states(&compared, layout)));
 }
+
+/// Tables of blocks, and what is cleaned by them.
+fn blocks(group: &mut Group, compared: &Compared, layout: Layout) {
+    group.plain("tables of blocks broken in each way, beside each other refusal", || block_tables::compare_broken(compared, layout));
+    group.plain("tables of blocks of every length", || block_tables::compare_lengths(compared, layout));
+    for slots in [3, 4] {
+        group.test(&format!("every list of up to four numbers as a table of blocks, S = {slots}"), || {
+            let (lists, tables) = block_tables::every_small(compared, layout.sizes(1, slots));
+            assert_eq!(tables, 1 << (slots - 1), "tables");
+            format!("{lists} lists, {tables} of them tables")
+        });
+    }
+    for (slots, length, expected) in RISING {
+        group.test(&format!("every rising list of {length} numbers as a table of blocks, S = {slots}"), || {
+            let tables = block_tables::every_rising(compared, layout.sizes(2, slots), length);
+            assert_eq!(tables, expected, "tables");
+            format!("{tables} tables")
+        });
+    }
+    group.plain("lists that differ in one number from tables of 16 blocks, S = 1,024", || {
+        for starts in [blocks_of(1, 1024), blocks_of(64, 1024), [&[0][..], &(1009..1024).collect::<Vec<u32>>()].concat()] {
+            block_tables::compare_near(compared, layout.sizes(256, 1024), &starts);
+        }
+    });
+    group.test("each block of 10,000 volumes cleaned, every kind of cleaning met at least 100 times", || {
+        cleanings::compare(compared, layout, 10_000)
+    });
+    for (pages, highest) in [(1, 2), (2, 1)] {
+        let kinds = [(66, [0, 63, 64, 65], vec![vec![0, 64]], "at a block's end"), (4, [0, 1, 2, 3], every(4), "by every table of blocks")];
+        for (slots, places, blocks, how) in kinds {
+            group.test(&format!("every table of four slots, P = {pages}, S = {slots}, versions up to {highest}, cleaned {how}"), || {
+                let sizes = layout.sizes(pages, slots);
+                format!("{} tables", exhaustive::cleaned_tables(compared, sizes, places, highest, &blocks))
+            });
+        }
+    }
+}
+
+/// Slots, starts of a table, and how many sound ones there are: the first is 0, and the others are any of the slots behind it.
+const RISING: [(u32, usize, u64); 9] =
+    [(16, 15, 15), (16, 16, 1), (16, 17, 0), (17, 15, 120), (17, 16, 16), (17, 17, 0), (20, 15, 11_628), (20, 16, 3_876), (20, 17, 0)];

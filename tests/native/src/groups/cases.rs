@@ -1,6 +1,7 @@
-//! Document 01's table of cases, document 02's sentences on twins and cleaning, and its four-word records, by the implementation under
-//! test and by the second one.
+//! Document 01's table of cases, document 02's sentences on twins, cleaning and tables of blocks, and its four-word records, by the
+//! implementation under test and by the second one.
 
+pub mod blocks;
 pub mod cleaning;
 pub mod five_words;
 pub mod four_words;
@@ -26,9 +27,13 @@ const FIVE_WORDS: &[Case] = &[
     ("cleaning: what stays is copied, rising, to the lowest blank slots outside", cleaning::copies),
     ("cleaning: of twins only the lowest, and none with a twin outside", cleaning::twins),
     ("cleaning: 15 where fewer slots are blank than are copied", cleaning::limit),
-    ("cleaning: which blocks there are, and what is refused first", cleaning::blocks),
+    ("cleaning: which blocks there are", cleaning::blocks),
     ("cleaning: a needed straddler stays with the record that needs it", cleaning::straddlers),
     ("cleaning: twins after a crash between the copies", cleaning::crashes),
+    ("blocks: which tables there are", blocks::tables),
+    ("blocks: what cleaning refuses, in this order", blocks::order),
+    ("blocks: small ones at the front, each cleaned", blocks::small_first),
+    ("blocks: one volume, other tables", blocks::two_tables),
 ];
 
 const FOUR_WORDS: &[Case] = &[

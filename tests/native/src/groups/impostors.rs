@@ -1,7 +1,8 @@
 //! Implementations that are wrong in one way are told from a right one.
 
 use super::calls::volumes;
-use super::runs::{block_runs, small_runs};
+use super::runs::run::Cleaning;
+use super::runs::{long_runs, small_runs};
 use crate::harness::{caught, Group};
 use crate::implementations::compared::Compared;
 use crate::implementations::impostors::faults::{faults, losing, losing_in_blocks};
@@ -16,7 +17,7 @@ pub fn tests(group: &mut Group, layout: Layout) {
         group.test(&format!("{fault:?} loses a page in runs with crashes"), || {
             caught(|| {
                 for pages in (1..=6).rev() {
-                    small_runs(&Impostor(fault), layout, pages, 100, 400);
+                    small_runs(&Impostor(fault), layout, Cleaning::Never, pages, 100, 400);
                 }
             })
         });
@@ -25,7 +26,7 @@ pub fn tests(group: &mut Group, layout: Layout) {
         group.test(&format!("{fault:?} loses a page in runs with cleanings and crashes"), || {
             caught(|| {
                 for pages in [6, 3, 1] {
-                    block_runs(&Impostor(fault), layout, pages, 100, 400);
+                    long_runs(&Impostor(fault), layout, pages, 100, 400);
                 }
             })
         });

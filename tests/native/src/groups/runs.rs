@@ -8,65 +8,72 @@ use crate::implementations::compared::Compared;
 use crate::implementations::TESTED;
 use crate::interface::{Calls, Family};
 use crate::volume::Layout;
-use run::{run, Tally};
+use run::{run, Cleaning, Tally};
 
 pub fn tests(group: &mut Group, layout: Layout) {
     for pages in 1..=6 {
         group.test(&format!("400 runs of 400 calls and crashes, P = {pages}, S up to 24"), || {
-            told(small_runs(TESTED, layout, pages, 400, 400))
+            told(small_runs(TESTED, layout, Cleaning::Never, pages, 400, 400))
         });
     }
     group.test("4 runs of 20,000 calls and crashes, P = 6, S = 24", || {
         let mut all = Tally::default();
-        (1..=4).for_each(|seed| all.add(run(TESTED, layout.sizes(6, 24), 20_000, 1, seed)));
+        (1..=4).for_each(|seed| all.add(run(TESTED, layout.sizes(6, 24), Cleaning::Never, 20_000, 1, seed)));
         told(all)
     });
+    let (large, cleaning) = match layout.family {
+        Family::Bpcc => ("P = 256, S = 1,024, cleaned by any tables", Cleaning::AnyBlocks),
+        Family::Scc => ("P = 256, S = 1,024", Cleaning::Never),
+    };
     for seed in 1..=3 {
-        group.test(&format!("3,000 calls and crashes, P = 256, S = 1,024, seed {seed}"), || {
-            told(run(TESTED, layout.sizes(256, 1024), 3000, 100, seed))
+        group.test(&format!("3,000 calls and crashes, {large}, seed {seed}"), || {
+            told(run(TESTED, layout.sizes(256, 1024), cleaning, 3000, 100, seed))
         });
     }
     group.test("50 runs of 400 calls and crashes, P = 3, every call compared", || {
-        told(small_runs(&Compared::new(TESTED), layout, 3, 50, 400))
+        told(small_runs(&Compared::new(TESTED), layout, Cleaning::Never, 3, 50, 400))
     });
-    group.test("a volume with no slot to spare", || told(run(TESTED, layout.sizes(4, 4), 2000, 1, 1)));
+    group.test("a volume with no slot to spare", || told(run(TESTED, layout.sizes(4, 4), Cleaning::Never, 2000, 1, 1)));
     if layout.family == Family::Bpcc {
-        several_blocks(group, layout);
+        cleaned(group, layout);
     }
 }
 
-/// Volumes of two blocks or more, which are cleaned.
-fn several_blocks(group: &mut Group, layout: Layout) {
+/// Volumes that are cleaned, with another table of blocks at each call.
+fn cleaned(group: &mut Group, layout: Layout) {
     for pages in [1, 2, 3, 6] {
-        group.test(&format!("60 runs of 400 calls and crashes, P = {pages}, S from 65 to 200, cleaned"), || {
-            told(block_runs(TESTED, layout, pages, 60, 400))
+        group.test(&format!("100 runs of 400 calls and crashes, P = {pages}, S up to 24, cleaned by any tables"), || {
+            told(small_runs(TESTED, layout, Cleaning::AnyBlocks, pages, 100, 400))
+        });
+        group.test(&format!("60 runs of 400 calls and crashes, P = {pages}, S from 65 to 200, cleaned by any tables"), || {
+            told(long_runs(TESTED, layout, pages, 60, 400))
         });
     }
     for slots in [130, 200] {
-        group.test(&format!("2,000 calls and crashes, P = 60, S = {slots}, cleaned"), || {
-            told(run(TESTED, layout.sizes(60, slots), 2000, 10, 1))
+        group.test(&format!("2,000 calls and crashes, P = 60, S = {slots}, cleaned by any tables"), || {
+            told(run(TESTED, layout.sizes(60, slots), Cleaning::AnyBlocks, 2000, 10, 1))
         });
     }
-    group.test("10 runs of 400 calls and crashes, P = 3, S from 65 to 200, cleaned, every call compared", || {
-        told(block_runs(&Compared::new(TESTED), layout, 3, 10, 400))
+    group.test("10 runs of 400 calls and crashes, P = 3, S from 65 to 200, cleaned by any tables, every call compared", || {
+        told(long_runs(&Compared::new(TESTED), layout, 3, 10, 400))
     });
 }
 
-/// Runs with crashes over volumes of two to four blocks, the last of one slot, of some, or whole.
-pub fn block_runs(calls: &dyn Calls, layout: Layout, pages: u32, seeds: u64, events: u32) -> Tally {
+/// Runs with crashes over volumes of more than 64 slots, cleaned with any tables of blocks.
+pub fn long_runs(calls: &dyn Calls, layout: Layout, pages: u32, seeds: u64, events: u32) -> Tally {
     let mut all = Tally::default();
     for (seed, slots) in (0..seeds).zip([65, 200, 66, 129, 70, 150, 80, 192, 100, 128].into_iter().cycle()) {
-        all.add(run(calls, layout.sizes(pages, slots), events, 1, seed * 1000 + u64::from(pages)));
+        all.add(run(calls, layout.sizes(pages, slots), Cleaning::AnyBlocks, events, 1, seed * 1000 + u64::from(pages)));
     }
     all
 }
 
 /// Many runs with crashes over small volumes.
-pub fn small_runs(calls: &dyn Calls, layout: Layout, pages: u32, seeds: u64, events: u32) -> Tally {
+pub fn small_runs(calls: &dyn Calls, layout: Layout, cleaning: Cleaning, pages: u32, seeds: u64, events: u32) -> Tally {
     let mut all = Tally::default();
     for seed in 0..seeds {
         let slots = pages + 1 + (seed as u32 * 7) % (24 - pages);
-        all.add(run(calls, layout.sizes(pages, slots), events, 1, seed * 1000 + u64::from(pages)));
+        all.add(run(calls, layout.sizes(pages, slots), cleaning, events, 1, seed * 1000 + u64::from(pages)));
     }
     all
 }

@@ -52,6 +52,7 @@ struct Copies {
     contents: Guarded<u8>,
     state: Guarded<u32>,
     list: Guarded<u32>,
+    starts: Guarded<u32>,
     bytes: Guarded<u8>,
     out: Guarded<u8>,
 }
@@ -63,6 +64,7 @@ impl Copies {
             contents: Guarded::new(a.contents),
             state: Guarded::new(a.state),
             list: Guarded::new(a.list),
+            starts: Guarded::new(a.starts),
             bytes: Guarded::new(a.bytes),
             out: Guarded::new(a.out),
         }
@@ -83,6 +85,7 @@ impl Copies {
             contents: self.contents.lent(),
             state: self.state.lent(),
             list: self.list.lent(),
+            starts: self.starts.lent(),
             bytes: self.bytes.lent(),
             out: self.out.lent(),
         }
@@ -94,6 +97,7 @@ impl Copies {
         self.contents.assert_is(a.contents, call, "contents");
         self.state.assert_is(a.state, call, "state");
         self.list.assert_is(a.list, call, "list");
+        self.starts.assert_is(a.starts, call, "starts");
         self.bytes.assert_is(a.bytes, call, "bytes");
         self.out.assert_is(a.out, call, "out");
     }

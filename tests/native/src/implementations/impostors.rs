@@ -1,11 +1,12 @@
 //! Implementations that are wrong in one way each, as documents 01 and 02 name them: the tests must tell every one from a right one.
 
+mod blocks;
 mod cleaning;
 pub mod faults;
 mod judging;
 mod recovering;
 
-use super::reference::{on, refusal, store, Reference, RIGHT};
+use super::reference::{refusal, store, with, Reference};
 use crate::cleaning::{may_erase_alone, twins};
 use crate::crash::{stages, Stage};
 use crate::interface::{Arguments, Calls, Name, Reply, NONE, WIDTHS};
@@ -20,12 +21,13 @@ impl Calls for Impostor {
     fn call(&self, name: Name, a: &mut Arguments) -> Reply {
         let width = if name == Name::Count { a.bytes.len() as u32 } else { a.width };
         match self.0 {
-            Fault::TakesAnyWidth(of) if of == name => return on(RIGHT, name, a),
+            Fault::TakesAnyWidth(of) if of == name => return with(twins, name, a),
             Fault::Refuses64(of) if of == name && width == 64 => return refusal(name, 1),
             _ => {}
         }
-        match self.terms(name) {
-            Some(terms) if WIDTHS.contains(&width) => return on(terms, name, a),
+        match self.twins(name) {
+            Some(twins) if WIDTHS.contains(&width) => return with(twins, name, a),
+            _ if name == Name::CheckBlocks => return self.check_blocks(a),
             _ if name == Name::Clean => return self.clean(a),
             _ => {}
         }
@@ -41,7 +43,7 @@ impl Calls for Impostor {
     }
 
     fn stages(&self, call: &Call, before: &Volume, after: &Volume) -> Vec<Stage> {
-        let mut stages = stages(self.block_slots(), call, before, after);
+        let mut stages = stages(call, before, after);
         if self.0 == Fault::DriverBlanksBeforeItCopies {
             stages.reverse();
         }

@@ -1,7 +1,7 @@
 //! The second implementation of the calls, written from documents 01 and 02 for clarity and not for speed.
 
-use crate::cleaning::{blank_outside, block, clash, copied, may_erase_all, may_erase_alone, steps, twins, Step, Test};
-use crate::interface::{Arguments, Calls, Family, Name, Reply, BLOCK_SLOTS, NONE, WIDTHS};
+use crate::cleaning::{blank_outside, block, blocks_wrong, clash, copied, may_erase_all, may_erase_alone, steps, twins, Step, Test};
+use crate::interface::{Arguments, Calls, Family, Name, Reply, NONE, WIDTHS};
 use crate::rules::{
     committed_before, contents_fit, cycle, entry, follow, highest_records, list_wrong, lowest_slot, planned, records, set_entry, set_slot,
     sizes_fit, slot, slot_bytes, state_fits, state_sound, table_sound, used_version, words_fit, would_bury, End, Entry, Record, Walk,
@@ -17,45 +17,23 @@ impl Calls for Reference {
         if name != Name::Count && !WIDTHS.contains(&arguments.width) {
             refusal(name, 1)
         } else {
-            on(RIGHT, name, arguments)
+            with(twins, name, arguments)
         }
     }
 }
 
-/// What the calls rest on: which slots are twins, and how many a block has.
-#[derive(Clone, Copy)]
-pub struct Terms {
-    pub twins: Test,
-    pub block_slots: u32,
-}
-
-/// The terms of the library.
-pub const RIGHT: Terms = Terms { twins, block_slots: BLOCK_SLOTS };
-
-/// The second implementation on other terms; the width is any.
-pub struct OnTerms(pub Terms);
-
-impl Calls for OnTerms {
-    fn call(&self, name: Name, arguments: &mut Arguments) -> Reply {
-        on(self.0, name, arguments)
-    }
-
-    fn block_slots(&self) -> u32 {
-        self.0.block_slots
-    }
-}
-
-/// A call on such terms, at any width.
-pub fn on(terms: Terms, name: Name, a: &mut Arguments) -> Reply {
+/// A call with such a test for twins, at any width.
+pub fn with(twins: Test, name: Name, a: &mut Arguments) -> Reply {
     let outcome = match name {
         Name::Format => format(a),
         Name::Launch => launch(a),
         Name::Write => write(a),
         Name::Withdraw => withdraw(a),
-        Name::Erase => erase(a, terms.twins),
-        Name::Suggest => suggest(a, terms.twins),
-        Name::Clean => clean(a, terms),
-        Name::Recover => recover(a, terms.twins),
+        Name::Erase => erase(a, twins),
+        Name::Suggest => suggest(a, twins),
+        Name::CheckBlocks => check_blocks(a),
+        Name::Clean => clean(a, twins),
+        Name::Recover => recover(a, twins),
         Name::Count => count(a),
         Name::Read => read(a),
     };
@@ -93,12 +71,12 @@ fn table_misfits(a: &Arguments) -> bool {
 }
 
 /// … and of one that takes the contents too.
-fn volume_misfits(a: &Arguments) -> bool {
+pub fn volume_misfits(a: &Arguments) -> bool {
     table_misfits(a) || !contents_fit(a.slots, a.width, a.contents)
 }
 
 /// "A slot neither blank nor sound."
-fn slot_unsound(a: &Arguments) -> bool {
+pub fn slot_unsound(a: &Arguments) -> bool {
     !table_sound(a.family, a.pages, a.words)
 }
 
@@ -189,13 +167,21 @@ fn suggest(a: &mut Arguments, twins: Test) -> Outcome {
     (0..a.slots).find(|&k| may_erase_alone(a.view(), twins, k)).ok_or(13)
 }
 
-/// Copies what may not be erased of a block, and blanks it.
-fn clean(a: &mut Arguments, terms: Terms) -> Outcome {
+/// "Takes P, S and the table and refuses by 1 and 17."
+fn check_blocks(a: &mut Arguments) -> Outcome {
+    refuse(1, !sizes_fit(a.pages, a.slots))?;
+    refuse(17, blocks_wrong(a.slots, a.starts))?;
+    Ok(0)
+}
+
+/// Copies what may not be erased of a block, and blanks it. 17 comes "after 1".
+fn clean(a: &mut Arguments, twins: Test) -> Outcome {
     refuse(1, volume_misfits(a))?;
+    refuse(17, blocks_wrong(a.slots, a.starts))?;
     refuse(2, slot_unsound(a))?;
     refuse(5, !state_sound(a.pages, a.state))?;
-    let block = block(terms.block_slots, a.slots, a.block).ok_or(6u32)?;
-    let (from, to) = (copied(a.view(), terms.twins, block.clone()), blank_outside(a.view(), block.clone()));
+    let block = block(a.slots, a.starts, a.block).ok_or(6u32)?;
+    let (from, to) = (copied(a.view(), twins, block.clone()), blank_outside(a.view(), block.clone()));
     refuse(15, from.len() > to.len())?;
     let steps = steps(a.view(), &from, &to, block);
     take(a, &steps);

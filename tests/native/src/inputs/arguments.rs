@@ -1,8 +1,8 @@
 //! Arguments for the calls on a volume: most fit it.
 
-use super::boundary;
+use super::{blocks, boundary};
 use crate::cleaning::twins;
-use crate::interface::{BLOCKS, BLOCK_SLOTS, NONE};
+use crate::interface::NONE;
 use crate::random::Random;
 use crate::rules::{entry, table_sound};
 use crate::volume::{Sizes, Volume};
@@ -80,12 +80,14 @@ fn twins_of(random: &mut Random, v: &Volume) -> Vec<u32> {
     list
 }
 
-/// A block of the volume, or now and then a number that is none.
-pub fn block_to_clean(random: &mut Random, v: &Volume) -> u32 {
-    let blocks = v.sizes.slots.div_ceil(BLOCK_SLOTS);
-    match random.below(24) {
+/// A table of blocks, now and then a broken one, and a block of it, or now and then a number that is none.
+pub fn blocks_to_clean(random: &mut Random, v: &Volume) -> (Vec<u32>, u32) {
+    let starts = blocks::any(random, v.sizes.slots);
+    let blocks = starts.len() as u32;
+    let block = match random.below(24) {
         0 => boundary(random, v.sizes),
-        1 => random.pick(&[blocks, BLOCKS - 1, BLOCKS, BLOCKS + 1, 1 << 26, (1 << 26) + 1, NONE]),
+        1 => random.pick(&[blocks, blocks + 1, 15, 16, 17, 1 << 30, (1 << 30) + 1, NONE]),
         _ => random.below(blocks),
-    }
+    };
+    (starts, block)
 }

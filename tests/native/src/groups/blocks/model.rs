@@ -4,15 +4,18 @@ use super::walk::Walk;
 use crate::cleaning::twins;
 use crate::groups::models::actions::subsets;
 use crate::groups::models::walk::arrangements;
+use crate::inputs::blocks::each_cleaned;
 use crate::interface::{Calls, NONE};
 use crate::ledger::Ledger;
 use crate::rules::{cycle, entry, lowest_slot, slot_bytes};
 use crate::volume::{Call, Sizes, Volume};
 use std::collections::HashSet;
 
-/// What is walked: the calls, the highest version that is launched, and how many fillings a write of a page at a version may have.
+/// What is walked: the calls, the tables of blocks that cleanings are lent, the highest version that is launched, and how many fillings a
+/// write of a page at a version may have.
 pub struct Model<'a> {
     pub calls: &'a dyn Calls,
+    pub tables: Vec<Vec<u32>>,
     pub versions: u32,
     pub fills: u8,
 }
@@ -41,10 +44,12 @@ impl State {
 
 impl Model<'_> {
     /// Recovery answers 0, finds the committed versions, and each page reads as the ledger says; what is open is the same in both, and
-    /// no block has twins within it.
+    /// where one table is lent no block has twins within it.
     pub fn check(&self, s: &State) {
-        let block = |k: u32| k / self.calls.block_slots();
-        assert!(s.pairs().iter().all(|&(k, l)| block(k) != block(l)), "twins within a block of {:?}", s.volume);
+        if let [starts] = &self.tables[..] {
+            let block = |k: u32| starts.partition_point(|&start| start <= k);
+            assert!(s.pairs().iter().all(|&(k, l)| block(k) != block(l)), "twins within a block of {:?}", s.volume);
+        }
         let Sizes { family, pages, width, .. } = s.volume.sizes;
         let found = self.crashed(s, s.volume.clone(), None);
         let mut out = vec![0; width as usize];
@@ -76,7 +81,7 @@ impl Model<'_> {
         let mut t = s.clone();
         let answer = t.volume.call(self.calls, call).answer;
         assert!(answer == 0 || t.volume == s.volume, "a refused call altered {:?}", s.volume);
-        assert!(matches!((call, answer), (_, 0) | (Call::Erase(_), 12) | (Call::Clean(_), 15)), "{call:?} answers {answer}");
+        assert!(matches!((call, answer), (_, 0) | (Call::Erase(_), 12) | (Call::Clean { .. }, 15)), "{call:?} answers {answer}");
         t.ledger.called(call, answer);
         (answer == 0).then_some(t)
     }
@@ -139,10 +144,9 @@ impl Model<'_> {
         }
     }
 
-    /// Each block cleaned, with every crash: between the copies, and with any part of the block blanked.
+    /// Each block of each table cleaned, with every crash: between the copies, and with any part of the block blanked.
     fn cleanings(&self, s: &State, next: &mut Vec<State>, found: &mut Walk) {
-        for block in 0..s.volume.sizes.slots.div_ceil(self.calls.block_slots()) {
-            let clean = Call::Clean(block);
+        for clean in each_cleaned(&self.tables) {
             let Some(done) = self.done(s, &clean) else {
                 found.too_few += 1;
                 continue;

@@ -1,10 +1,9 @@
-//! Cleaning compared on volumes of several blocks, each block of each, and every kind of cleaning met often.
+//! Cleaning compared on volumes with tables of blocks, each block of each, and every kind of cleaning met often.
 
 use super::volumes::SEEN;
 use crate::cleaning::{blank_outside, block, copied, twins};
 use crate::implementations::compared::Compared;
 use crate::inputs;
-use crate::interface::BLOCK_SLOTS;
 use crate::random::Random;
 use crate::rules::{is_exposed, old_rule};
 use crate::volume::{Call, Layout, Volume};
@@ -29,10 +28,11 @@ pub fn compare(compared: &Compared, layout: Layout, volumes: u32) -> String {
     let mut random = Random::new(u64::from(layout.width));
     let mut met: BTreeMap<&str, u64> = BTreeMap::new();
     for _ in 0..volumes {
-        let v = inputs::blocks_volume(&mut random, layout);
-        for number in 0..=v.sizes.slots.div_ceil(BLOCK_SLOTS) {
-            let answer = v.clone().call(compared, &Call::Clean(number)).answer;
-            if let (0 | 15, Some(block)) = (answer, block(BLOCK_SLOTS, v.sizes.slots, number)) {
+        let v = inputs::longer_volume(&mut random, layout);
+        let starts = inputs::blocks::sound(&mut random, v.sizes.slots);
+        for number in 0..=starts.len() as u32 {
+            let answer = v.clone().call(compared, &Call::Clean { starts: starts.clone(), block: number }).answer;
+            if let (0 | 15, Some(block)) = (answer, block(v.sizes.slots, &starts, number)) {
                 kinds(&v, block).into_iter().for_each(|kind| *met.entry(kind).or_default() += 1);
             }
         }

@@ -2,7 +2,8 @@
 
 use crate::implementations::compared::Compared;
 use crate::implementations::reference::Reference;
-use crate::interface::{Family, BLOCK_SLOTS, NONE, PAGE_WORDS};
+use crate::inputs::blocks::each_cleaned;
+use crate::interface::{Family, NONE, PAGE_WORDS};
 use crate::rules::{slot_words, Record};
 use crate::volume::{Call, Layout, Sizes, Volume};
 
@@ -53,28 +54,26 @@ fn equal_bytes(mut v: Volume) -> Volume {
     v
 }
 
-/// Recovery of every table of sound records and blank slots in four slots, two at either end of block 0 and two behind it, all with
-/// equal bytes; where it answers 0, suggest, the erasure of each and of each two, and the cleaning of both blocks. Gives the number of
-/// tables.
-pub fn boundary_tables(compared: &Compared, layout: Layout, pages: u32, highest: u32) -> u64 {
-    const PLACES: [u32; 4] = [0, BLOCK_SLOTS - 1, BLOCK_SLOTS, BLOCK_SLOTS + 1];
-    let mut held = sound_records(layout.family, pages, highest);
+/// Recovery of every table of sound records and blank slots in four slots, all with equal bytes; where it answers 0, suggest, the erasure
+/// of each and of each two, and the cleaning of each block of each of these tables of blocks. Gives the number of tables.
+pub fn cleaned_tables(compared: &Compared, sizes: Sizes, places: [u32; 4], highest: u32, blocks: &[Vec<u32>]) -> u64 {
+    let mut held = sound_records(sizes.family, sizes.pages, highest);
     held.push(Record::BLANK);
-    let blank = equal_bytes(Volume::with_records(layout.sizes(pages, BLOCK_SLOTS + 2), &[Record::BLANK]));
-    let number = held.len().pow(PLACES.len() as u32);
+    let blank = equal_bytes(Volume::with_records(sizes, &[Record::BLANK]));
+    let number = held.len().pow(places.len() as u32);
     for i in 0..number {
         let (mut v, mut rest) = (blank.clone(), i);
-        for k in PLACES {
-            v.words[slot_words(layout.family, k)].copy_from_slice(&held[rest % held.len()].words(layout.family));
+        for k in places {
+            v.words[slot_words(sizes.family, k)].copy_from_slice(&held[rest % held.len()].words(sizes.family));
             rest /= held.len();
         }
         if v.call(compared, &Call::Recover).answer == 0 {
             v.suggest(compared);
-            for (&k, &l) in PLACES.iter().flat_map(|k| PLACES.iter().map(move |l| (k, l))) {
+            for (k, l) in places.into_iter().flat_map(|k| places.map(|l| (k, l))) {
                 v.clone().call(compared, &Call::Erase(if k == l { vec![k] } else { vec![k, l] }));
             }
-            for block in [0, 1] {
-                v.clone().call(compared, &Call::Clean(block));
+            for clean in each_cleaned(blocks) {
+                v.clone().call(compared, &clean);
             }
         }
     }

@@ -3,13 +3,13 @@
 use crate::implementations::compared::Compared;
 use crate::implementations::reference::{refusal, Reference};
 use crate::inputs::{is_short, WRONG_WIDTHS};
-use crate::interface::{other_width, Arguments, Calls, Family, Name, Reply, BLOCK_SLOTS, WIDTHS};
+use crate::interface::{other_width, Arguments, Calls, Family, Name, Reply, WIDTHS};
 use crate::volume::{Call, Layout, Volume};
 
 /// A volume on which every call of `reply` is done: page 1 is in flight, page 0 is not, slot 3 is blank, slot 0 may be erased, and the
 /// two slots behind block 0 take what stays of it.
 fn ready(layout: Layout) -> Volume {
-    let mut v = Volume::formatted(&Reference, layout.sizes(2, BLOCK_SLOTS + 2));
+    let mut v = Volume::formatted(&Reference, layout.sizes(2, 6));
     let bytes = vec![3; layout.width as usize];
     for call in [Call::Launch(vec![0]), Call::Write { page: 0, slot: 2, bytes }, Call::Launch(vec![1])] {
         assert_eq!(v.call(&Reference, &call).answer, 0);
@@ -21,7 +21,8 @@ fn ready(layout: Layout) -> Volume {
 fn reply(compared: &Compared, call: Name, volume: &Volume, length: usize) -> Reply {
     let (bytes, before) = (vec![9; length], vec![5; length]);
     let (mut v, mut out) = (volume.clone(), before.clone());
-    let reply = compared.call(call, &mut Arguments { page: 1, slot: 3, list: &[0], bytes: &bytes, out: &mut out, ..v.arguments() });
+    let own = Arguments { page: 1, slot: 3, list: &[0], starts: &[0, 4], bytes: &bytes, out: &mut out, ..v.arguments() };
+    let reply = compared.call(call, &mut { own });
     assert!(reply.answer == 0 || (v == *volume && out == before), "a refused {call} altered a buffer");
     reply
 }

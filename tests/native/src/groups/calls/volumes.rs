@@ -1,14 +1,15 @@
 //! The calls, the implementation under test against the second one, on many inputs.
 
+use crate::cleaning::blocks_of;
 use crate::harness::said;
 use crate::implementations::compared::Compared;
 use crate::inputs;
-use crate::interface::{Arguments, Calls, Family, Name, Reply, BLOCKS, WIDTHS};
+use crate::interface::{Arguments, Calls, Family, Name, Reply, WIDTHS};
 use crate::random::Random;
 use crate::volume::{Call, Layout, Volume};
 use std::panic::{catch_unwind, AssertUnwindSafe};
 
-/// Document 01's table of which call gives which number, and document 02's 15 and 16.
+/// Document 01's table of which call gives which number, and document 02's 15, 16 and 17.
 pub fn answers(family: Family, call: Name) -> &'static [u32] {
     match call {
         Name::Write if family == Family::Scc => &[0, 1, 2, 5, 6, 9, 10, 11, 16],
@@ -18,7 +19,8 @@ pub fn answers(family: Family, call: Name) -> &'static [u32] {
         Name::Withdraw => &[0, 1, 5, 6, 9],
         Name::Erase => &[0, 1, 2, 5, 6, 12],
         Name::Suggest => &[0, 1, 2, 5, 13],
-        Name::Clean => &[0, 1, 2, 5, 6, 15],
+        Name::CheckBlocks => &[0, 1, 17],
+        Name::Clean => &[0, 1, 2, 5, 6, 15, 17],
         Name::Recover => &[0, 1, 2, 3, 4, 14],
         Name::Count => &[0, 1],
         Name::Read => &[0, 1, 2, 5, 6, 14],
@@ -67,7 +69,7 @@ struct Choices {
     launch: Vec<u32>,
     erase: Vec<u32>,
     write: (u32, u32),
-    clean: u32,
+    clean: (Vec<u32>, u32),
     withdraw: u32,
     read: u32,
     bytes: Vec<u8>,
@@ -89,7 +91,7 @@ impl Choices {
             launch: inputs::pages_to_launch(random, v),
             erase: inputs::slots_to_erase(random, v),
             write: inputs::page_and_slot_to_write(random, v),
-            clean: inputs::block_to_clean(random, v),
+            clean: inputs::blocks_to_clean(random, v),
             withdraw: inputs::page_to_take(random, v),
             read: inputs::page_to_take(random, v),
             bytes: random.bytes(bytes),
@@ -104,7 +106,8 @@ impl Choices {
         }
     }
 
-    /// The page, the slot and the list for a call: 0, 0 and none where it takes no such thing. Only one takes a block.
+    /// The page, the slot and the list for a call: 0, 0 and none where it takes no such thing. The table of blocks
+    /// and the block are the same for all.
     fn of(&self, call: Name) -> (u32, u32, &[u32]) {
         match call {
             Name::Launch => (0, 0, &self.launch),
@@ -112,7 +115,7 @@ impl Choices {
             Name::Withdraw => (self.withdraw, 0, &[]),
             Name::Erase => (0, 0, &self.erase),
             Name::Read => (self.read, 0, &[]),
-            Name::Format | Name::Suggest | Name::Clean | Name::Recover | Name::Count => (0, 0, &[]),
+            Name::Format | Name::Suggest | Name::CheckBlocks | Name::Clean | Name::Recover | Name::Count => (0, 0, &[]),
         }
     }
 }
@@ -122,8 +125,9 @@ fn one_round(compared: &Compared, volume: &Volume, choices: &Choices) {
     for call in volume.sizes.family.calls() {
         let (mut v, mut out) = (volume.clone(), choices.out.clone());
         let (page, slot, list) = choices.of(call);
-        let (block, bytes) = (choices.clean, &choices.bytes);
-        let reply = compared.call(call, &mut Arguments { page, slot, list, block, bytes, out: &mut out, ..v.arguments() });
+        let ((starts, block), bytes) = (&choices.clean, &choices.bytes);
+        let own = Arguments { page, slot, list, starts, block: *block, bytes, out: &mut out, ..v.arguments() };
+        let reply = compared.call(call, &mut { own });
         let same = v == *volume && out == choices.out;
         assert!(reply.answer == 0 || same, "a refused call altered a buffer");
     }
@@ -160,7 +164,10 @@ pub fn compare_largest(compared: &Compared, layout: Layout) {
     let all: Vec<u32> = (0..slots).collect();
     assert_eq!(v.call(compared, &Call::Erase(all)).answer, 12);
     if layout.family == Family::Bpcc {
-        (0..BLOCKS).for_each(|block| assert_eq!(v.call(compared, &Call::Clean(block)).answer, 0));
+        let starts = blocks_of(64, slots);
+        for block in 0..16 {
+            assert_eq!(v.call(compared, &Call::Clean { starts: starts.clone(), block }).answer, 0);
+        }
     }
     let mut out = vec![0; width as usize];
     assert_eq!(v.read(compared, 255, &mut out).answer, 0);

@@ -1,12 +1,14 @@
-//! Document 02's sentences on cleaning.
+//! Document 02's sentences on cleaning, with blocks of 64 slots.
 
 use super::answer;
+use crate::cleaning::blocks_of;
 use crate::interface::{Calls, Reply, NONE};
 use crate::rules::{entry, slot_bytes};
 use crate::volume::{Call, Layout, Volume};
+use std::ops::Range;
 
 /// Stores a page alone.
-fn store(calls: &dyn Calls, v: &mut Volume, page: u32, slot: u32) {
+pub(super) fn store(calls: &dyn Calls, v: &mut Volume, page: u32, slot: u32) {
     assert_eq!(answer(calls, v, Call::Launch(vec![page])), 0);
     assert_eq!(v.call(calls, &write(v, page, slot)), Reply::done(1));
 }
@@ -16,23 +18,39 @@ fn write(v: &Volume, page: u32, slot: u32) -> Call {
     Call::Write { page, slot, bytes: vec![slot as u8; v.sizes.width as usize] }
 }
 
-/// Cleaning is done and makes these copies, each (from, to), blanks its block, and alters nothing else.
-fn assert_cleans(calls: &dyn Calls, v: &mut Volume, block: u32, copies: &[(u32, u32)], name: &str) {
+/// The cleaning of a block of a table.
+pub(super) fn clean(starts: &[u32], block: u32) -> Call {
+    Call::Clean { starts: starts.to_vec(), block }
+}
+
+/// Cleaning is done and makes these copies, each (from, to), blanks its block, these slots, and alters nothing else.
+pub(super) fn assert_done(calls: &dyn Calls, v: &mut Volume, clean: &Call, slots: Range<u32>, copies: &[(u32, u32)], name: &str) {
     let mut expected = v.clone();
     copies.iter().for_each(|&(from, to)| expected.copy_within(from, to));
-    for k in (0..v.sizes.slots).filter(|k| k / 64 == block) {
+    for k in slots {
         expected.words[5 * k as usize..][..5].fill(NONE);
         expected.contents[slot_bytes(v.sizes.width, k)].fill(255);
     }
-    assert_eq!(v.call(calls, &Call::Clean(block)), Reply::done(0), "{name}");
+    assert_eq!(v.call(calls, clean), Reply::done(0), "{name}");
     assert!(*v == expected, "{name}: {:?}", v.records());
 }
 
 /// Cleaning is refused and alters nothing.
-fn assert_refused(calls: &dyn Calls, v: &Volume, block: u32, expected: u32, name: &str) {
+pub(super) fn assert_not_done(calls: &dyn Calls, v: &Volume, clean: &Call, expected: u32, name: &str) {
     let mut after = v.clone();
-    assert_eq!(after.call(calls, &Call::Clean(block)), Reply::refused(expected), "{name}");
+    assert_eq!(after.call(calls, clean), Reply::refused(expected), "{name}");
     assert!(after == *v, "{name}: altered");
+}
+
+/// The cleaning of a block of 64 slots is done, …
+fn assert_cleans(calls: &dyn Calls, v: &mut Volume, block: u32, copies: &[(u32, u32)], name: &str) {
+    let slots = v.sizes.slots;
+    assert_done(calls, v, &clean(&blocks_of(64, slots), block), 64 * block..slots.min(64 * block + 64), copies, name);
+}
+
+/// … or refused.
+fn assert_refused(calls: &dyn Calls, v: &Volume, block: u32, expected: u32, name: &str) {
+    assert_not_done(calls, v, &clean(&blocks_of(64, v.sizes.slots), block), expected, name);
 }
 
 /// What may not be erased is copied with its contents, rising, to the lowest blank slots outside, and the set in flight goes on.
@@ -101,11 +119,11 @@ pub fn limit(calls: &dyn Calls, layout: Layout) {
     assert_cleans(calls, &mut v, 0, &[(0, 64), (1, 65)], "four records, two without their twins");
 }
 
-/// "A block above 15, or one that starts at or after S, is 6; 1, 2 and 5 as for erase", 6 before 15.
+/// "Block numbers then run below its length; others are 6."
 pub fn blocks(calls: &dyn Calls, layout: Layout) {
     for slots in [1, 63, 64, 65, 128, 129, 960, 961, 1023, 1024] {
         let v = Volume::formatted(calls, layout.sizes(1, slots));
-        for block in [0, 1, 2, 14, 15, 16, 17, 255, 1 << 25, 1 << 26, (1 << 26) + 1, 1 << 31, NONE - 1, NONE] {
+        for block in [0, 1, 2, 14, 15, 16, 17, 255, 1 << 25, 1 << 26, (1 << 26) + 1, 1 << 30, 1 << 31, NONE - 1, NONE] {
             match (block, slots) {
                 (0, 1..=64) => assert_refused(calls, &v, block, 15, "the only block"),
                 (0, _) => assert_cleans(calls, &mut v.clone(), block, &[(0, 64)], "block 0"),
@@ -117,15 +135,6 @@ pub fn blocks(calls: &dyn Calls, layout: Layout) {
     let mut v = Volume::formatted(calls, layout.sizes(1, 961));
     store(calls, &mut v, 0, 960);
     assert_cleans(calls, &mut v, 15, &[(960, 1)], "block 15 has one slot");
-    for block in [0, 16] {
-        let mut v = Volume::formatted(calls, layout.sizes(2, 64));
-        v.state[0] = NONE;
-        assert_refused(calls, &v, block, 5, "a lost state");
-        v.words[3] = 2;
-        assert_refused(calls, &v, block, 2, "an unsound slot");
-        v.contents.pop();
-        assert_refused(calls, &v, block, 1, "a byte too few");
-    }
 }
 
 /// Case 6's needed straddler is copied even where the exposed record that needs it leaves in the same cleaning; when that is gone, the

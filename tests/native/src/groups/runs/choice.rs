@@ -1,7 +1,8 @@
 //! The calls that a run makes.
 
-use super::run::Run;
-use crate::cleaning::twins;
+use super::run::{Cleaning, Run};
+use crate::cleaning::{blocks_of, twins};
+use crate::inputs::blocks;
 use crate::interface::{other_width, Family, NONE};
 use crate::random::Random;
 use crate::rules::{entry, would_bury};
@@ -58,7 +59,11 @@ impl Run<'_> {
                 let may = self.old_or_exposed().into_iter().filter(|&k| self.volume.may_erase(k)).collect();
                 some_of(&mut self.random, may, if few { 2 } else { u32::MAX }).map(Call::Erase)
             }
-            4 => Some(Call::Clean(self.random.below(v.sizes.slots.div_ceil(self.calls.block_slots())))),
+            4 => {
+                let starts = self.blocks(blocks::sound);
+                let block = self.random.below(starts.len() as u32);
+                Some(Call::Clean { starts, block })
+            }
             _ => Some(Call::Recover),
         }
     }
@@ -87,8 +92,21 @@ impl Run<'_> {
                 }
                 Call::Erase(list)
             }
-            4 => Call::Clean(self.any_below(self.volume.sizes.slots.div_ceil(self.calls.block_slots()))),
+            4 => {
+                let starts = self.blocks(blocks::any);
+                let block = self.any_below(starts.len() as u32);
+                Call::Clean { starts, block }
+            }
             _ => Call::Recover,
+        }
+    }
+
+    /// The run's table of blocks, or one that is drawn.
+    fn blocks(&mut self, draw: fn(&mut Random, u32) -> Vec<u32>) -> Vec<u32> {
+        let slots = self.volume.sizes.slots;
+        match self.cleaning {
+            Cleaning::BlocksOf(size) => blocks_of(size, slots),
+            Cleaning::Never | Cleaning::AnyBlocks => draw(&mut self.random, slots),
         }
     }
 

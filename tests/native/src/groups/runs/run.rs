@@ -3,7 +3,7 @@
 
 use crate::crash::Stage;
 use crate::harness::said;
-use crate::interface::{Calls, Family, NONE};
+use crate::interface::{Calls, NONE};
 use crate::ledger::Ledger;
 use crate::random::Random;
 use crate::volume::{Call, Sizes, Volume};
@@ -38,9 +38,20 @@ impl Tally {
     }
 }
 
+/// Whether a run cleans, and with which tables of blocks.
+#[derive(Clone, Copy)]
+pub enum Cleaning {
+    Never,
+    /// With another table at each call, now and then a broken one.
+    AnyBlocks,
+    /// With blocks of so many slots.
+    BlocksOf(u32),
+}
+
 /// A run, and what has become of its volume and its ledger.
 pub struct Run<'a> {
-    pub calls: &'a dyn Calls,
+    calls: &'a dyn Calls,
+    pub cleaning: Cleaning,
     pub random: Random,
     pub volume: Volume,
     ledger: Ledger,
@@ -54,13 +65,14 @@ pub struct Run<'a> {
 }
 
 /// Runs a list of `events` calls and crashes, and checks one prefix in `every`.
-pub fn run(calls: &dyn Calls, sizes: Sizes, events: u32, every: u32, seed: u64) -> Tally {
+pub fn run(calls: &dyn Calls, sizes: Sizes, cleaning: Cleaning, events: u32, every: u32, seed: u64) -> Tally {
     let volume = Volume::formatted(calls, sizes);
     let mut random = Random::new(seed);
     let calm = random.pick(&[6, 25, 100]);
-    let cleanings = if sizes.family == Family::Bpcc && sizes.slots > calls.block_slots() { 2 } else { 0 };
+    let cleanings = if matches!(cleaning, Cleaning::Never) { 0 } else { 2 };
     let weights = [8, 24, 6, 2, cleanings, 1].map(|w| w * random.pick(&[1, 2, 4]));
-    let mut run = Run { calls, random, volume, ledger: Ledger::new(sizes), lost: false, calm, weights, tally: Tally::default() };
+    let ledger = Ledger::new(sizes);
+    let mut run = Run { calls, cleaning, random, volume, ledger, lost: false, calm, weights, tally: Tally::default() };
     for i in 0..events {
         let check = i % every == 0 || i + 1 == events;
         let event = AssertUnwindSafe(|| {
@@ -107,7 +119,7 @@ impl Run<'_> {
         if reply.answer == 0 {
             self.tally.accepted += 1;
             self.tally.completed += u64::from(matches!(call, Call::Write { .. }) && reply.second == 1);
-            if let Call::Clean(_) = call {
+            if let Call::Clean { .. } = call {
                 self.tally.cleaned += 1;
                 self.tally.copies += self.calls.stages(call, &before, &self.volume).len() as u64 - 1;
             }

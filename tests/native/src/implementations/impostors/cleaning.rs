@@ -1,11 +1,11 @@
 //! Faulty twins and faulty cleaning.
 
 use super::{Fault, Impostor};
-use crate::cleaning::{blank_outside, block, copied, may_erase_alone, steps, twins, Step, View};
-use crate::implementations::reference::{take, Reference, Terms, RIGHT};
-use crate::interface::{Arguments, Name, Reply, BLOCK_SLOTS};
+use crate::cleaning::{blank_outside, copied, may_erase_alone, steps, twins, Step, Test, View};
+use crate::implementations::reference::take;
+use crate::interface::{Arguments, Name, Reply};
 use crate::rules::{is_exposed, set_slot, slot_bytes};
-use crate::volume::{Call, Volume};
+use crate::volume::Volume;
 use std::ops::Range;
 
 /// Equal in page and version.
@@ -30,26 +30,24 @@ fn without_exposed(before: &Volume, block: Range<u32>) -> Volume {
 }
 
 impl Impostor {
-    /// The faulty terms of a call, if it has them.
-    pub(super) fn terms(&self, name: Name) -> Option<Terms> {
-        let (of, twins): (Name, fn(View, u32, u32) -> bool) = match self.0 {
+    /// The faulty test for twins of a call, if it has one.
+    pub(super) fn twins(&self, name: Name) -> Option<Test> {
+        let (of, twins): (Name, Test) = match self.0 {
             Fault::IgnoresTwins(of) => (of, |_, _, _| false),
             Fault::TakesEqualVersionsForTwins(of) => (of, equal_versions),
             Fault::ComparesNoBytesOfTwins(of) => (of, equal_words),
             _ => return None,
         };
-        (of == name).then_some(Terms { twins, ..RIGHT })
+        (of == name).then_some(twins)
     }
 
-    /// Cleans, where a right cleaning does not say 1, 2 or 5.
+    /// Cleans, where there is a block to clean.
     pub(super) fn clean(&self, a: &mut Arguments) -> Reply {
-        let before = Volume::copied(a);
-        let right = before.clone().call(&Reference, &Call::Clean(a.block));
-        let block = match (right.answer, self.block(a)) {
-            (2 | 5, None) if self.0 == Fault::CleanLooksAtTheBlockFirst => return Reply::refused(6),
-            (0 | 6 | 15, Some(block)) => block,
-            _ => return right,
+        let block = match self.block_to_clean(a) {
+            Ok(block) => block,
+            Err(answer) => return Reply::refused(answer),
         };
+        let before = Volume::copied(a);
         let (from, to) = (self.copied(&before, block.clone()), self.targets(before.view(), block.clone()));
         if self.counted(&before, block.clone(), from.len()) > to.len() {
             return Reply::refused(15);
@@ -65,13 +63,6 @@ impl Impostor {
         }
         self.put_back_behind_32(Name::Clean, &before, &[], a);
         Reply::done(0)
-    }
-
-    /// The block's slots, by a start that 32 bits may not hold.
-    fn block(&self, a: &Arguments) -> Option<Range<u32>> {
-        let start = BLOCK_SLOTS.wrapping_mul(a.block);
-        let number = if self.0 == Fault::CleanWrapsTheBlock { start / BLOCK_SLOTS } else { a.block };
-        block(BLOCK_SLOTS, a.slots, number)
     }
 
     /// The slots that are copied, in the order in which they are.

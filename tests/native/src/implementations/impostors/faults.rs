@@ -14,6 +14,12 @@ macro_rules! faults {
             IgnoresTwins(Name),
             TakesEqualVersionsForTwins(Name),
             ComparesNoBytesOfTwins(Name),
+            TakesNoStarts(Name),
+            Takes17Starts(Name),
+            TakesAnyFirstStart(Name),
+            TakesEqualStarts(Name),
+            TakesAStartAtS(Name),
+            LooksAtTheTableFirst(Name),
             DriverBlanksBeforeItCopies,
         }
 
@@ -67,7 +73,13 @@ faults! {
     CleanCountsEveryTwin Bpcc,
     CleanNeedsASlotToSpare Bpcc,
     CleanWrapsTheBlock Bpcc,
-    CleanLooksAtTheBlockFirst Bpcc,
+    CleanTakesABlockPastTheTable Bpcc,
+    CleanEndsTheLastBlockEarly Bpcc,
+    CleanTakesBlocksOf64 Bpcc,
+    CleanLooksAtSlotsBeforeTheTable Bpcc,
+    CleanLooksAtTheStateBeforeTheTable Bpcc,
+    CleanLooksAtTheBlockBeforeTheTable Bpcc,
+    CleanLooksAtTheBlockBeforeSlots Bpcc,
     SuggestSaysNothingToErase Bpcc,
     SuggestNamesABlankSlot Bpcc,
     SuggestNamesTheHighestSlot Bpcc,
@@ -101,13 +113,29 @@ faults! {
 /// The calls that look for twins.
 const OF_TWINS: [Name; 4] = [Name::Erase, Name::Suggest, Name::Clean, Name::Recover];
 
+/// The calls that take a table of blocks.
+const OF_BLOCKS: [Name; 2] = [Name::CheckBlocks, Name::Clean];
+
 /// Every fault of a family's calls; those of a call for each of its calls that may have them.
 pub fn faults(family: Family) -> Vec<Fault> {
     let plain = PLAIN.iter().filter(|(_, of)| of.is_empty() || of.contains(&family)).map(|&(fault, _)| fault);
     let takes_any_width = family.calls().filter(|&name| name != Name::Count).map(Fault::TakesAnyWidth);
     let of_twins = |name: Name| [Fault::IgnoresTwins(name), Fault::TakesEqualVersionsForTwins(name), Fault::ComparesNoBytesOfTwins(name)];
-    let of_twins = OF_TWINS.into_iter().filter(|_| family == Family::Bpcc).flat_map(of_twins);
-    plain.chain(takes_any_width).chain(family.calls().map(Fault::Refuses64)).chain(of_twins).collect()
+    let of_blocks = |name: Name| {
+        [
+            Fault::TakesNoStarts(name),
+            Fault::Takes17Starts(name),
+            Fault::TakesAnyFirstStart(name),
+            Fault::TakesEqualStarts(name),
+            Fault::TakesAStartAtS(name),
+            Fault::LooksAtTheTableFirst(name),
+        ]
+    };
+    let of_both = plain.chain(takes_any_width).chain(family.calls().map(Fault::Refuses64));
+    match family {
+        Family::Bpcc => of_both.chain(OF_TWINS.into_iter().flat_map(of_twins)).chain(OF_BLOCKS.into_iter().flat_map(of_blocks)).collect(),
+        Family::Scc => of_both.collect(),
+    }
 }
 
 /// The faults of a family that lose a completed page at a width, so that runs with crashes find them without a second implementation.
@@ -126,8 +154,8 @@ pub fn losing(family: Family, width: u32) -> Vec<Fault> {
     [&LOSING, own, wide].concat()
 }
 
-/// The faults that lose a completed page, or the whole volume, where a volume of several blocks is cleaned. Cleaning makes no twins
-/// within a block, so that a fault in what it does to these is not among them.
+/// The faults that lose a completed page, or the whole volume, where a volume is cleaned. As its calls are lent other tables of blocks, a
+/// block may have twins within it.
 pub fn losing_in_blocks(family: Family, width: u32) -> Vec<Fault> {
     match (family, width) {
         (Family::Scc, _) => Vec::new(),
@@ -149,12 +177,15 @@ const LOSING: [Fault; 8] = [
 
 const LOSING_64: [Fault; 3] = [Fault::WriteCopies32Bytes, Fault::ReadCopies32Bytes, Fault::ReadTakesSlotsFor32Bytes];
 
-const LOSING_IN_BLOCKS: [Fault; 7] = [
+const LOSING_IN_BLOCKS: [Fault; 10] = [
     Fault::EraseTakesAllTwins,
     Fault::CleanCopiesIntoTheBlock,
     Fault::CleanForgetsTheContents,
+    Fault::CleanJudgesOneByOne,
     Fault::CleanJudgesAfterBlanking,
     Fault::CleanBlanksBeforeItCopies,
+    Fault::CleanEndsTheLastBlockEarly,
+    Fault::CleanTakesBlocksOf64,
     Fault::DriverBlanksBeforeItCopies,
     Fault::IgnoresTwins(Name::Recover),
 ];
