@@ -3,8 +3,6 @@ use Prim.Native.Nat.{ℕ}
 use mathlib.Core.Path.{refl}
 use mathlib.Core.List.{List, [], _∷_, _++_, map}
 use lib.ListN.{replicate}
-use Rattle.bounded.specs.Below.{listBelow}
-use mathlib.Core.Bool.{true}
 use Rattle.bounded.specs.Limits.{noNumber}
 use Rattle.outcome.specs.Row.{Row, row, RowsHold}
 use Rattle.sizes.specs.Sizes.{sizesOf}
@@ -22,9 +20,9 @@ use Rattle.rules.specs.cases.Clean.{byteWide, sizes8, volume8, fresh, wi
 unfoldable pub checked : (S : ℕ) → List ℕ → ℕ
 checked S starts = checkBlocksOutcome byteWide (sizesOf 2 S 1) starts .answer
 
--- 0, 1, to before n
-unfoldable pub upTo : ℕ → List ℕ
-upTo n = listBelow n (λ k. true)
+-- blocks of one slot, as many as there may be
+unfoldable pub sixteen : List ℕ
+sixteen = 0 ∷ 1 ∷ 2 ∷ 3 ∷ 4 ∷ 5 ∷ 6 ∷ 7 ∷ 8 ∷ 9 ∷ 10 ∷ 11 ∷ 12 ∷ 13 ∷ 14 ∷ 15 ∷ []
 
 -- a volume with a slot that is neither blank nor sound, and one with a state that is not sound
 unfoldable pub slotUnsound : Volume
@@ -39,7 +37,7 @@ cleanAnswers v starts block = cleanOutcome byteWide sizes8 v (named starts block
 unfoldable pub blockRows : List Row
 blockRows =
     -- "1 to 16 starts": none; one; sixteen; seventeen
-    row 8 (checked 8 [] ∷ checked 8 (0 ∷ []) ∷ checked 17 (upTo 16) ∷ checked 17 (upTo 17) ∷ []) (17 ∷ 0 ∷ 0 ∷ 17 ∷ [])
+    row 8 (checked 8 [] ∷ checked 8 (0 ∷ []) ∷ checked 17 sixteen ∷ checked 17 (sixteen ++ (16 ∷ [])) ∷ []) (17 ∷ 0 ∷ 0 ∷ 17 ∷ [])
     -- "the first is 0"
     ∷ row 8 (checked 8 (1 ∷ []) ∷ checked 8 (1 ∷ 4 ∷ []) ∷ []) (17 ∷ 17 ∷ [])
     -- "they rise strictly": equal neighbours, in front and behind; falling
@@ -62,5 +60,5 @@ blockRows =
     ∷ []
 
 pub block-rows : RowsHold blockRows
-unfolding blockRows checked upTo slotUnsound stateUnsound cleanAnswers byteWide volume8 fresh withThird twin0 pair cleanOn allObsolete computing
+unfolding blockRows checked sixteen slotUnsound stateUnsound cleanAnswers byteWide volume8 fresh withThird twin0 pair cleanOn allObsolete computing
 block-rows = refl
