@@ -42,7 +42,7 @@ extern "C" {
 /* The interface's version: the major number rises where a caller must change, the minor where something is added, made
  * stricter, or costs otherwise (docs/CHANGES.md). */
 #define BPCC_VERSION_MAJOR 4
-#define BPCC_VERSION_MINOR 0
+#define BPCC_VERSION_MINOR 1
 
 /* The two widths: bytes of contents for each slot, and the length of what is written and read. */
 #define BPCC_WIDTH_32 32
@@ -219,6 +219,23 @@ uint64_t bpcc_clean(uint32_t pages, uint32_t slots, uint32_t width,
                     const uint32_t *state, size_t state_length,
                     const uint32_t *starts, size_t starts_length,
                     uint32_t block);
+
+/*
+ * Sweeps the volume: three erasures in a row. First every exposed record goes (v above its page's committed version), other than one
+ * whose page is in flight with v = used; then every obsolete one (v below it) that may then be erased, judged as one list; then of
+ * twins all but the lowest. The state stays. Of a volume that these calls made exactly one record for each page is left, and one
+ * more for each written page in flight.
+ *
+ * The call alters the images alone. The driver then blanks the slots on the chip, erasure by erasure, each finished before the next
+ * begins; within one in any order. Which one a slot belongs to that was a record and is blank now is told by its old record, which
+ * the chip still has, and the state: the first, if v is above its page's committed version and the page is not in flight with
+ * v = used; the second, if v is below; else the third. After a cut anywhere in this bpcc_recover finds every page as before.
+ * Refuses: 1, 2, 5. Uses less than 9 KiB of stack.
+ */
+uint64_t bpcc_sweep(uint32_t pages, uint32_t slots, uint32_t width,
+                    uint32_t *words, size_t words_length,
+                    uint8_t *contents, size_t contents_length,
+                    const uint32_t *state, size_t state_length);
 
 /*
  * Fills the state from the slot table, and from the contents, by which twins are told; the old state may hold anything. Each page

@@ -13,7 +13,8 @@ use Rattle.record.specs.SlotLaws.{sound-facts}
 use Rattle.record.specs.Flash.{Step, applyAllIn}
 use Rattle.rules.specs.Volume.{Volume}
 use Rattle.rules.specs.Write.{planOf, writeAnswer, writeStep, writeChange, writeOutcome}
-use Rattle.rules.specs.Erase.{eraseAnswer, eraseOutcome}
+use Rattle.rules.specs.Erase.{eraseSteps, eraseAnswer, eraseOutcome}
+use Rattle.rules.specs.Sweep.{sweepSteps, sweepAnswer, sweepOutcome}
 use Rattle.rules.specs.Clean.{cleanCopies, cleanBlanks, cleanSteps, cleanStages, cleanAnswer, cleanOutcome}
 use Rattle.rules.specs.Recover.{linksOf, recovered, recoverAnswer, recoverOutcome}
 use Rattle.rules.specs.laws.Accepted.{write-tests}
@@ -30,11 +31,11 @@ use Rattle.protocol.specs.Recovers.{committed-found}
 use Rattle.protocol.specs.RecoverAnswers.{recover-accepts}
 use Rattle.atomicity.specs.Family.{backPointer}
 use Rattle.atomicity.specs.steps.Sparing.{Pairs, ErasedBy}
-use Rattle.atomicity.specs.steps.Cleaning.{erase-spares, clean-spares}
+use Rattle.atomicity.specs.steps.Cleaning.{erase-spares, clean-spares, sweep-spares}
 use Rattle.atomicity.specs.steps.Theory.{Theory}
 
 -- nothing is exposed where every version is 0
-at-start : (R : Pairs) (P : ℕ) (kept : ℕ → List ℕ) → SharedCore recordView R (λ p. 0) P kept → ((r : Record) (b : List ℕ) → R r b → (r .v ≡ 0) × (r .nv ≡ 0)) → Core R (λ p. 0) P kept
+pub at-start : (R : Pairs) (P : ℕ) (kept : ℕ → List ℕ) → SharedCore recordView R (λ p. 0) P kept → ((r : Record) (b : List ℕ) → R r b → (r .v ≡ 0) × (r .nv ≡ 0)) → Core R (λ p. 0) P kept
 at-start R P kept shared zero =
     record {
       shared = shared;
@@ -45,11 +46,11 @@ at-start R P kept shared zero =
       };
     }
 
-erased-of : {R R′ : Pairs} {st : ℕ → _} → ErasedBy Permitted R R′ st → Erased R R′ st
+pub erased-of : {R R′ : Pairs} {st : ℕ → _} → ErasedBy Permitted R R′ st → Erased R R′ st
 erased-of e = record { fewer = e .fewer; finds-before = e .finds-before; finds = e .finds; stays-or-permitted = e .stays-or-permitted }
 
 -- the stages of a cleaning are its steps
-steps-in-stages : (sizes : Sizes) (v : Volume) (block : Block) → cleanSteps sizes v block ≡ flatten (cleanStages sizes v block)
+pub steps-in-stages : (sizes : Sizes) (v : Volume) (block : Block) → cleanSteps sizes v block ≡ flatten (cleanStages sizes v block)
 unfolding cleanSteps cleanStages flatten
 steps-in-stages sizes v block = by (cleanCopies sizes v block)
   where
@@ -57,8 +58,8 @@ steps-in-stages sizes v block = by (cleanCopies sizes v block)
     by [] = sym (append-nil (cleanBlanks sizes v block))
     by (s ∷ copies) = ap (λ (l : List Step). s ∷ l) (by copies)
 
-pub back-pointer : Theory backPointer
-unfolding planOf writeOutcome writeChange writeStep eraseOutcome cleanOutcome recoverOutcome recovered
+unfoldable pub back-pointer : Theory backPointer
+unfolding planOf writeOutcome writeChange writeStep eraseOutcome cleanOutcome sweepOutcome sweepSteps recoverOutcome recovered flatten
 back-pointer =
     record {
       back = λ u c. c;
@@ -84,12 +85,17 @@ back-pointer =
       Permitted = Permitted;
       fewer = λ P R R′ st kept e core. core-fewer (erased-of e) core;
       live-fewer = λ P R R′ st kept Entered e core state live. live-erased (erased-of e) core state live;
-      eraseAnswer = eraseAnswer;
-      erase-is = λ widths sizes v slots. refl;
-      erase-spares = erase-spares;
-      cleanAnswer = cleanAnswer;
-      clean-is = λ widths sizes v block. ap (λ (l : List Step). settled (cleanAnswer widths sizes v block) 0 0 (v .flash) (applyAllIn FiveWords (sizes .width) (v .flash) l)) (steps-in-stages sizes v (blockAt (sizes .slots) block));
-      clean-spares = clean-spares;
+      erases = λ slots. record {
+        answer = λ widths sizes v. eraseAnswer widths sizes v slots;
+        outcome-is = λ widths sizes v. ap (λ (l : List Step). settled (eraseAnswer widths sizes v slots) 0 0 (v .flash) (applyAllIn FiveWords (sizes .width) (v .flash) l)) (sym (append-nil (eraseSteps slots)));
+        spares = λ widths sizes v. erase-spares widths sizes v slots;
+      };
+      cleans = λ block. record {
+        answer = λ widths sizes v. cleanAnswer widths sizes v block;
+        outcome-is = λ widths sizes v. ap (λ (l : List Step). settled (cleanAnswer widths sizes v block) 0 0 (v .flash) (applyAllIn FiveWords (sizes .width) (v .flash) l)) (steps-in-stages sizes v (blockAt (sizes .slots) block));
+        spares = λ widths sizes v. clean-spares widths sizes v block;
+      };
+      sweeps = record { answer = sweepAnswer; outcome-is = λ widths sizes v. refl; spares = sweep-spares };
       recoverAnswer = recoverAnswer;
       links = linksOf;
       recover-is = λ widths sizes v. refl;

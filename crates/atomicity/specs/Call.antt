@@ -15,7 +15,8 @@ use Rattle.rules.specs.Withdraw.{withdrawOutcome}
 use Rattle.rules.specs.Erase.{eraseSteps}
 use Rattle.atomicity.specs.Family.{Family}
 
--- "It holds launch, write, withdraw, erase and recover, with any pages, slots, lists and bytes"; document 02: "Cleaning joins the calls of promise 3", each by a table of its own: "another at each call included".
+-- "It holds launch, write, withdraw, erase and recover, with any pages, slots, lists and bytes"; document 02: "Cleaning joins the calls of promise 3", each by a table of its own: "another at each call included"; and
+-- of a sweep: "it joins the calls of promise 3".
 pub data Call : Type 0 where
   Launch : (pages : List ℕ) → Call
   Write : (page slot : ℕ) (bytes : List ℕ) → Call
@@ -23,6 +24,7 @@ pub data Call : Type 0 where
   Erase : (slots : List ℕ) → Call
   Recover : Call
   Clean : (block : NamedBlock) → Call
+  Sweep : Call
 
 -- the volume's outcome where a call alters the state alone; and where it alters the flash alone
 unfoldable pub withState : Volume → Outcome (List ℕ) → Outcome Volume
@@ -39,10 +41,11 @@ perform F widths sizes v (Withdraw page) = withState v (withdrawOutcome widths s
 perform F widths sizes v (Erase slots) = withFlash v (F .erase widths sizes v slots)
 perform F widths sizes v Recover = withState v (F .recover widths sizes v)
 perform F widths sizes v (Clean block) = withFlash v (F .clean widths sizes v block)
+perform F widths sizes v Sweep = withFlash v (F .sweep widths sizes v)
 
 -- What the call does to the flash, were it accepted: stages, one after the other, each of single steps. They are fixed before the call.
 -- A write is one stage with its one step, an erase one stage with a step for each listed slot; of a cleaning each copy is a stage by itself, and the blankings of its block
--- are the last; every other call alters no flash.
+-- are the last; a sweep has three, its erasures; every other call alters no flash.
 unfoldable pub plannedStages : Family → Sizes → Volume → Call → List (List Step)
 plannedStages F sizes v (Launch pages) = []
 plannedStages F sizes v (Write page slot bytes) = (Step.Store slot (F .plan (stateAt (v .state)) page) bytes ∷ []) ∷ []
@@ -50,6 +53,7 @@ plannedStages F sizes v (Withdraw page) = []
 plannedStages F sizes v (Erase slots) = eraseSteps slots ∷ []
 plannedStages F sizes v Recover = []
 plannedStages F sizes v (Clean block) = F .cleanStages sizes v block
+plannedStages F sizes v Sweep = F .sweepStages sizes v
 
 -- the stages that the call does: none where it is refused
 unfoldable pub flashStages : Family → Widths → Sizes → Volume → Call → List (List Step)

@@ -1,24 +1,27 @@
--- Promise 3's companions, stated: the paper's invariants, that the premises are met, what ties a call's stages to what it leaves and to a crash in it, and that recovery finds the same
--- committed versions and contents before and after a cleaning.
-use Prim.Native.Nat.{ℕ, suc, _*_, _≤_, _<_}
+-- Promise 3's companions, stated: the paper's invariants, that the premises are met, what ties a call's stages to what it leaves and to a crash in it, that recovery finds the same
+-- committed versions and contents before and after a cleaning and a sweep, and after a crash in a sweep, and how many records a sweep leaves.
+use Prim.Native.Nat.{ℕ, suc, _+_, _*_, _≤_, _<_}
 use mathlib.Core.Path.{_≡_}
 use mathlib.Core.List.{List, [], _∷_, _++_, map, flatten}
-use mathlib.Core.Bool.{Bool, true, false}
+use mathlib.Core.Bool.{Bool, true, false, not, _&&_}
 use lib.ListN.{length}
 use Rattle.bounded.specs.Limits.{Widths}
+use Rattle.bounded.specs.Below.{listBelow}
 use Rattle.sizes.specs.declared.Sizes.{Sizes}
 use Rattle.sizes.specs.Blocks.{NamedBlock}
+use Rattle.record.specs.declared.Slot.{Slot}
 use Rattle.record.specs.declared.Slot.the-variants.{Holds}
-use Rattle.record.specs.Slot.{slotIn}
+use Rattle.record.specs.Slot.{slotIn, slotAt, isBlank}
 use Rattle.record.specs.Flash.{Step, applyAllIn}
-use Rattle.state.specs.State.{stateAt, inFlight}
+use Rattle.state.specs.declared.PageState.{PageState}
+use Rattle.state.specs.State.{stateAt, inFlight, isWritten}
 use Rattle.table.specs.Table.{mentioned, usedOf}
 use Rattle.rules.specs.Volume.{Volume}
 use Rattle.rules.specs.laws.Volume.{FitsIn}
 use Rattle.rules.specs.Read.{readOutcomeIn}
-use Rattle.atomicity.specs.Family.{Family}
+use Rattle.atomicity.specs.Family.{Family, backPointer}
 use Rattle.atomicity.specs.Call.{Call, perform, flashStages}
-use Rattle.atomicity.specs.Run.{Event, doneOf, cutShort, wasDone, started, after}
+use Rattle.atomicity.specs.Run.{Event, doneOf, cutShort, wasDone, happens, started, after}
 use Rattle.atomicity.specs.Promise.{Premises}
 
 -- ---- the paper's InvComm and InvUsed
@@ -105,3 +108,35 @@ CleaningUnseen F =
     → StateKnown F widths sizes v events
     → (block : NamedBlock)
     → SameFound F widths sizes (after F widths sizes (started F widths sizes v) events .volume) (perform F widths sizes (after F widths sizes (started F widths sizes v) events .volume) (Call.Clean block) .left)
+
+-- ---- sweeping
+
+-- how many slots hold a record
+unfoldable pub recordsIn : (S : ℕ) → (ℕ → Slot) → ℕ
+recordsIn S t = length (listBelow S (λ k. not (isBlank (t k))))
+
+-- how many are "the written pages in flight"
+unfoldable pub writtenPages : (P : ℕ) → (ℕ → PageState) → ℕ
+writtenPages P st = length (listBelow P (λ p. inFlight (st p) && isWritten (st p)))
+
+-- A sweep of this volume:
+pub record Sweeps (widths : Widths) (sizes : Sizes) (v : Volume) : Type 0 where
+  -- it is done
+  pub answers : perform backPointer widths sizes v Call.Sweep .answer ≡ 0
+  -- "the number of records left is exactly P plus the written pages in flight"
+  pub records-left : recordsIn (sizes .slots) (slotAt (perform backPointer widths sizes v Call.Sweep .left .flash .words)) ≡ sizes .pages + writtenPages (sizes .pages) (stateAt (v .state))
+  -- "recovery straight before and after gives the same contents for all pages"
+  pub unseen : SameFound backPointer widths sizes v (perform backPointer widths sizes v Call.Sweep .left)
+  -- "The contents come back the same after a cut during the sweep too", whatever the state then holds
+  pub unseen-cut :
+      (stage : ℕ) (done : ℕ → Bool) (state : List ℕ)
+      → length state ≡ 4 * sizes .pages
+      → SameFound backPointer widths sizes v (happens backPointer widths sizes (record { volume = v; lost = false }) (Event.CrashIn Call.Sweep stage done state) .volume)
+
+-- "For any volume and sheet that promise 3's lists reach under its premises, recovery having answered 0 after each cut": after every list under the premises that leaves the state known
+abbrev pub Sweeping : Type 0
+Sweeping =
+    (widths : Widths) (sizes : Sizes) (v : Volume) (events : List Event)
+    → Premises backPointer widths sizes v events
+    → StateKnown backPointer widths sizes v events
+    → Sweeps widths sizes (after backPointer widths sizes (started backPointer widths sizes v) events .volume)

@@ -17,6 +17,7 @@ use Rattle.rules.specs.Volume.{Volume}
 use Rattle.rules.specs.Write.{planOf, writeOutcome}
 use Rattle.rules.specs.Erase.{eraseOutcome}
 use Rattle.rules.specs.Clean.{cleanStages, cleanOutcome}
+use Rattle.rules.specs.Sweep.{sweepStages, sweepOutcome}
 use Rattle.rules.specs.Recover.{committedOf, recoverOutcome}
 use Rattle.rules.specs.Simple.{committedSlotOf}
 use Rattle.rules.specs.SimpleCalls.{simplePlanOf, simpleWriteOutcome, simpleEraseOutcome, simpleRecoverOutcome}
@@ -31,8 +32,10 @@ pub record Family : Type 0 where
   pub erase : Widths → Sizes → Volume → (slots : List ℕ) → Outcome Flash
   pub recover : Widths → Sizes → Volume → Outcome (List ℕ)
   pub clean : Widths → Sizes → Volume → (block : NamedBlock) → Outcome Flash
-  -- what an accepted cleaning does to the flash: its stages, one after the other, each of single steps
+  pub sweep : Widths → Sizes → Volume → Outcome Flash
+  -- what an accepted cleaning, and an accepted sweep, do to the flash: their stages, one after the other, each of single steps
   pub cleanStages : Sizes → Volume → (block : NamedBlock) → List (List Step)
+  pub sweepStages : Sizes → Volume → List (List Step)
 
 -- document 01's records, with a back pointer
 abbrev pub backPointer : Family
@@ -45,12 +48,14 @@ backPointer =
       erase = eraseOutcome;
       recover = recoverOutcome;
       clean = cleanOutcome;
+      sweep = sweepOutcome;
       cleanStages = λ sizes v block. cleanStages sizes v (blockAt (sizes .slots) block);
+      sweepStages = sweepStages;
     }
 
--- "These volumes are not cleaned": there is no such call, and in a run one refuses by 6 whatever it names
-unfoldable pub notCleaned : Volume → Outcome Flash
-notCleaned v = record { answer = 6; second = 0; left = v .flash }
+-- "These volumes are not cleaned", nor swept: there are no such calls, and in a run they refuse by 6 whatever they name
+unfoldable pub noSuchCall : Volume → Outcome Flash
+noSuchCall v = record { answer = 6; second = 0; left = v .flash }
 
 -- document 02's, wish 5, without: "p, v, np, nv and no back pointer"
 abbrev pub simple : Family
@@ -62,6 +67,8 @@ simple =
       write = simpleWriteOutcome;
       erase = simpleEraseOutcome;
       recover = λ widths sizes v. simpleRecoverOutcome widths sizes (v .flash .words) (v .state);
-      clean = λ widths sizes v block. notCleaned v;
+      clean = λ widths sizes v block. noSuchCall v;
+      sweep = λ widths sizes v. noSuchCall v;
       cleanStages = λ sizes v block. [];
+      sweepStages = λ sizes v. [];
     }

@@ -96,6 +96,7 @@ accept m (Call.Erase slots) = m
 accept m Call.Recover = closeAll m
 -- "any other: nothing"
 accept m (Call.Clean block) = m
+accept m Call.Sweep = m
 
 unfoldable pub learns : Model → Told → Model
 -- "Any refused call …: nothing."

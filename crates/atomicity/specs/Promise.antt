@@ -24,6 +24,7 @@ toldOfCrash (Call.Withdraw page) answer stage done = Told.Crashed
 toldOfCrash (Call.Erase slots) answer stage done = Told.Crashed
 toldOfCrash Call.Recover answer stage done = Told.Crashed
 toldOfCrash (Call.Clean block) answer stage done = Told.Crashed
+toldOfCrash Call.Sweep answer stage done = Told.Crashed
 
 -- what the model is told of an event
 unfoldable pub told : Family → Widths → Sizes → World → Event → Told

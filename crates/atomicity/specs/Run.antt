@@ -46,6 +46,7 @@ isRecover (Call.Withdraw page) = false
 isRecover (Call.Erase slots) = false
 isRecover Call.Recover = true
 isRecover (Call.Clean block) = false
+isRecover Call.Sweep = false
 
 -- a recover that answers 0 finds a lost state again
 unfoldable pub stillLost : Bool → Call → ℕ → Bool
@@ -54,7 +55,8 @@ stillLost lost call answer = lost && not (isRecover call && eqb answer 0)
 -- One event. A crash has one clause for the flash, whatever the call: its stages, cut short. "A cut write leaves its slot as it was, or stored
 -- whole, words and bytes. A cut erasure leaves each listed slot as it was or blanked, in any mixture. A cut launch, withdrawal or recovery, or a
 -- cut call that would be refused, leaves the flash as it was. No other slot changes." Document 02, of a cleaning: "A cut leaves the flash as it was or as after any of these
--- steps, or, once all copies stand, with any part of the block blanked."
+-- steps, or, once all copies stand, with any part of the block blanked." Of a sweep: its erasings "follow in that order, each finished before the next begins, and a cut may leave any part of the one it
+-- meets done."
 unfoldable pub happens : Family → Widths → Sizes → World → Event → World
 happens F widths sizes x (Event.Returns call) =
     let o = perform F widths sizes (x .volume) call in

@@ -1,5 +1,5 @@
 -- Runs that meet the premises, computed: three end in contents that are not the formatted zeros; in the fourth a ring that a recover closed stays closed; in the fifth a block is
--- cleaned, with a crash, by small blocks of two tables; a sixth, of records without a back pointer, has a write that is refused by 16.
+-- cleaned, with a crash, by small blocks of two tables; in the sixth the volume is swept, with a crash behind the first erasure; a seventh, of records without a back pointer, has a write that is refused by 16.
 use Prim.Native.Nat.{ℕ}
 use mathlib.Core.Path.{_≡_}
 use mathlib.Core.List.{List, [], _∷_}
@@ -113,6 +113,30 @@ runCleaned =
     ∷ Event.Returns (Call.Clean (named (0 ∷ 1 ∷ 2 ∷ 3 ∷ 4 ∷ []) 1))
     ∷ []
 
+-- a ring of two is withdrawn behind its first write, whose record stays exposed, and page 1 is stored; a sweep crashes when that record is blanked and nothing else
+unfoldable pub runSweeping : List Event
+runSweeping =
+    Event.Returns (Call.Launch (0 ∷ 1 ∷ []))
+    ∷ Event.Returns (Call.Write 0 2 (5 ∷ []))
+    ∷ Event.Returns (Call.Withdraw 0)
+    ∷ Event.Returns (Call.Launch (1 ∷ []))
+    ∷ Event.Returns (Call.Write 1 3 (6 ∷ []))
+    ∷ Event.CrashIn Call.Sweep 1 none lostState
+    ∷ []
+
+-- … then it is recovered and swept
+unfoldable pub runSwept : List Event
+runSwept =
+    Event.Returns (Call.Launch (0 ∷ 1 ∷ []))
+    ∷ Event.Returns (Call.Write 0 2 (5 ∷ []))
+    ∷ Event.Returns (Call.Withdraw 0)
+    ∷ Event.Returns (Call.Launch (1 ∷ []))
+    ∷ Event.Returns (Call.Write 1 3 (6 ∷ []))
+    ∷ Event.CrashIn Call.Sweep 1 none lostState
+    ∷ Event.Returns Call.Recover
+    ∷ Event.Returns Call.Sweep
+    ∷ []
+
 -- the first write of a ring of two, then a crash: its record stays exposed; the page is launched in another ring
 unfoldable pub runExposed : List Event
 runExposed =
@@ -159,6 +183,10 @@ pub record RunsComputed : Type 0 where
   pub cleaned-meets : Premises backPointer oneByte sizes2 blankBuffers runCleaned
   pub cleaned-keeps : keptAfter backPointer blankBuffers runCleaned ≡ (5 ∷ []) ∷ (0 ∷ []) ∷ []
   pub cleaned-leaves : wordsAfter backPointer blankBuffers runCleaned ≡ tableOf 5 (blankRecord ∷ blankRecord ∷ given 0 1 0 0 1 ∷ given 1 0 0 1 0 ∷ [])
+  pub sweeping-leaves : wordsAfter backPointer blankBuffers runSweeping ≡ tableOf 5 (given 0 0 0 0 0 ∷ given 1 0 0 1 0 ∷ blankRecord ∷ given 1 2 0 1 2 ∷ [])
+  pub swept-meets : Premises backPointer oneByte sizes2 blankBuffers runSwept
+  pub swept-keeps : keptAfter backPointer blankBuffers runSwept ≡ (0 ∷ []) ∷ (6 ∷ []) ∷ []
+  pub swept-leaves : wordsAfter backPointer blankBuffers runSwept ≡ tableOf 5 (given 0 0 0 0 0 ∷ blankRecord ∷ blankRecord ∷ given 1 2 0 1 2 ∷ [])
 
 -- The same of records without a back pointer; and a ring's first record, buried by none.
 pub record SimpleRunsComputed : Type 0 where

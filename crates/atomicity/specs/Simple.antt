@@ -3,13 +3,14 @@ use Prim.Native.Nat.{ℕ, _<_}
 use native.Mathlib.Omega.{arith}
 use mathlib.Core.Path.{_≡_, refl, sym, ap, _∙_}
 use mathlib.Core.Logic.{inr}
-use mathlib.Core.List.{List, [], _∷_, flatten}
+use mathlib.Core.List.{List, [], _∷_, append-nil, flatten}
 use lib.ListN.{getD}
 use Rattle.bounded.specs.Limits.{Widths}
 use Rattle.bounded.specs.Choice.{on-eq}
 use Rattle.bounded.specs.Parts.{update}
 use Rattle.bounded.specs.PartsLaws.{update-same, update-other}
 use Rattle.bounded.specs.Members.{member-at}
+use Rattle.outcome.specs.Outcome.{settled}
 use Rattle.outcome.specs.OutcomeLaws.{settled-refused}
 use Rattle.sizes.specs.declared.Layout.the-variants.{FourWords}
 use Rattle.sizes.specs.declared.Sizes.{Sizes}
@@ -20,7 +21,7 @@ use Rattle.record.specs.declared.Slot.{Slot}
 use Rattle.record.specs.declared.Slot.the-variants.{Holds}
 use Rattle.record.specs.Slot.{slotIn}
 use Rattle.record.specs.SlotLaws.{sound-facts, holds-one}
-use Rattle.record.specs.Flash.{applyAllIn}
+use Rattle.record.specs.Flash.{Step, applyAllIn}
 use Rattle.record.specs.FlashLaws.{members-below}
 use Rattle.state.specs.State.{stateAt}
 use Rattle.rules.specs.Volume.{Volume}
@@ -39,7 +40,7 @@ use Rattle.protocol.specs.simple.Write.{NotBuried, simple-planned-sound, not-bu
 use Rattle.protocol.specs.simple.Erase.{SimplePermitted, SimpleErased, simple-may-erase-permitted, simple-fewer, simple-live-erased}
 use Rattle.protocol.specs.simple.Recovers.{simple-walks-end, simple-has-committed, simple-version-found}
 use Rattle.bounded.specs.BelowLaws.{all-of}
-use Rattle.atomicity.specs.Family.{notCleaned, simple}
+use Rattle.atomicity.specs.Family.{noSuchCall, simple}
 use Rattle.atomicity.specs.steps.Sparing.{Pairs, ErasedBy, Spares, blanking-spares}
 use Rattle.atomicity.specs.steps.Theory.{Theory}
 
@@ -92,7 +93,7 @@ simple-erase-spares widths sizes v slots fits e =
     })
 
 unfoldable pub simple-theory : Theory simple
-unfolding flatten notCleaned simplePlanOf simpleWriteOutcome simpleWriteChange simpleEraseOutcome simpleRecoverAnswer simpleRecoverOutcome simpleRecovered
+unfolding flatten noSuchCall simplePlanOf simpleWriteOutcome simpleWriteChange simpleEraseOutcome simpleRecoverAnswer simpleRecoverOutcome simpleRecovered
 simple-theory =
     record {
       back = λ u c. 0;
@@ -118,12 +119,13 @@ simple-theory =
       Permitted = λ R st r. SimplePermitted st r;
       fewer = λ P R R′ st kept e core. simple-fewer (erased-of e) core;
       live-fewer = λ P R R′ st kept Entered e core state live. simple-live-erased (erased-of e) state live;
-      eraseAnswer = simpleEraseAnswer;
-      erase-is = λ widths sizes v slots. refl;
-      erase-spares = simple-erase-spares;
-      cleanAnswer = λ widths sizes v block. 6;
-      clean-is = λ widths sizes v block. sym (settled-refused 6 0 0 (v .flash) (applyAllIn FourWords (sizes .width) (v .flash) []) (λ e. omega arith));
-      clean-spares = λ widths sizes v block fits e. absurd (omega arith);
+      erases = λ slots. record {
+        answer = λ widths sizes v. simpleEraseAnswer widths sizes v slots;
+        outcome-is = λ widths sizes v. ap (λ (l : List Step). settled (simpleEraseAnswer widths sizes v slots) 0 0 (v .flash) (applyAllIn FourWords (sizes .width) (v .flash) l)) (sym (append-nil (eraseSteps slots)));
+        spares = λ widths sizes v. simple-erase-spares widths sizes v slots;
+      };
+      cleans = λ block. record { answer = λ widths sizes v. 6; outcome-is = λ widths sizes v. sym (settled-refused 6 0 0 (v .flash) (applyAllIn FourWords (sizes .width) (v .flash) []) (λ e. omega arith)); spares = λ widths sizes v fits e. absurd (omega arith) };
+      sweeps = record { answer = λ widths sizes v. 6; outcome-is = λ widths sizes v. sym (settled-refused 6 0 0 (v .flash) (applyAllIn FourWords (sizes .width) (v .flash) []) (λ e. omega arith)); spares = λ widths sizes v fits e. absurd (omega arith) };
       recoverAnswer = λ widths sizes v. simpleRecoverAnswer widths sizes (v .flash .words) (v .state);
       links = simpleLinksOf;
       recover-is = λ widths sizes v. refl;

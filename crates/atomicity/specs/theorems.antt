@@ -6,3 +6,5 @@ pub mod StagesInOrder
 pub mod RunsComputed
 pub mod Unburied
 pub mod CleaningUnseen
+pub mod Bare
+pub mod Sweeping

@@ -1,7 +1,7 @@
 -- The members of a list of numbers: whether one is, where it stands, how many there are; and lists that rise, so that none stands twice.
 use Prim.Native.Nat.{ℕ, zero, suc, _+_, _≤_, _<_}
 use native.Mathlib.Omega.{arith}
-use mathlib.Core.Path.{_≡_, refl, sym}
+use mathlib.Core.Path.{_≡_, refl, sym, ap, _∙_}
 use mathlib.Core.Logic.{_↔_, _⊎_, inl, inr, ⊎-elim}
 use mathlib.Core.List.{List, [], _∷_, _++_, List·Memᴰ, List·Memᴰ·head, List·Memᴰ·tail, List·Memᴰ·not-nil, List·Memᴰ·cases-cons}
 use mathlib.Core.Bool.{Bool, true, false, not, _&&_}
@@ -111,3 +111,32 @@ pub list-rises : (f : ℕ → Bool) (n : ℕ) → Rises 0 n (listBelow n f)
 unfolding Rises listBelow
 list-rises f zero = omega arith
 list-rises f (suc n) = on-test (f n) (λ e. rw (listBelow, e) (rises-on 0 n (listBelow n f) (list-rises f n))) (λ e. rw (listBelow, e) (rises-wider 0 n (listBelow n f) (list-rises f n)))
+
+-- so that no entry stands twice
+pub rises-apart : (b n : ℕ) (l : List ℕ) → Rises b n l → (i j : ℕ) → i < length l → j < length l → getD l i 0 ≡ getD l j 0 → i ≡ j
+unfolding Rises
+rises-apart b n [] r i j h k e = absurd (omega arith)
+rises-apart b n (x ∷ l) r zero zero h k e = refl
+rises-apart b n (x ∷ l) r zero (suc j) h k e = absurd (let w = rises-member (suc x) n l (r .2) (getD l j 0) (entry-member l j (getD l j 0) (omega arith) refl) in let a = w .0 in omega arith)
+rises-apart b n (x ∷ l) r (suc i) zero h k e = absurd (let w = rises-member (suc x) n l (r .2) (getD l i 0) (entry-member l i (getD l i 0) (omega arith) refl) in let a = w .0 in omega arith)
+rises-apart b n (x ∷ l) r (suc i) (suc j) h k e = let q = rises-apart (suc x) n l (r .2) i j (omega arith) (omega arith) e in omega arith
+
+-- ---- how many pass
+
+-- one, where just one does
+pub count-one : (f : ℕ → Bool) (n k : ℕ) → k < n → f k ≡ true → ((j : ℕ) → j < n → f j ≡ true → j ≡ k) → length (listBelow n f) ≡ 1
+count-one f zero k h e one = absurd (omega arith)
+count-one f (suc n) k h e one =
+    on-eq n k
+    (λ q. let c = count-more f n (ap f q ∙ e) in
+    let none = list-none f n (λ j l. on-test (f j) (λ t. absurd (let s = one j (omega arith) t in omega arith)) (λ t. t)) in
+    let z = ap length none in omega arith)
+    (λ d. let c = count-stays f n (on-test (f n) (λ t. absurd (d (one n (omega arith) t))) (λ t. t)) in
+    let rest = count-one f n k (omega arith) e (λ j l t. one j (omega arith) t) in omega arith)
+
+-- as many, where the same do
+pub count-same : (f g : ℕ → Bool) (n : ℕ) → ((k : ℕ) → k < n → f k ≡ g k) → length (listBelow n f) ≡ length (listBelow n g)
+count-same f g n same =
+    let a = count-most f g n (λ k h e. sym (same k h) ∙ e) in
+    let b = count-most g f n (λ k h e. same k h ∙ e) in
+    omega arith

@@ -1,4 +1,4 @@
-// The C interface: every call, exported. The functions `star_cases`, `exposed_found`, `promise_3`, `cleaning`, `two_widths` and `slowest_start` pin theorems in their contracts.
+// The C interface: every call, exported. The functions `star_cases`, `exposed_found`, `promise_3`, `cleaning`, `sweeping`, `two_widths` and `slowest_start` pin theorems in their contracts.
 
 pub mod scc; // scc.rt: the second family
 
@@ -24,6 +24,7 @@ ghost use Rattle.rules.specs.Erase.{eraseOutcome};
 ghost use Rattle.rules.specs.Suggest.{suggestOutcome};
 ghost use Rattle.rules.specs.CheckBlocks.{checkBlocksOutcome};
 ghost use Rattle.rules.specs.Clean.{cleanOutcome};
+ghost use Rattle.rules.specs.Sweep.{sweepOutcome};
 ghost use Rattle.rules.specs.Recover.{recoverOutcome};
 ghost use Rattle.rules.specs.Links.{backPointing, LinksAtMost, OneRingReaches, LinksAreSteps, LinksApart};
 ghost use Rattle.rules.specs.cases.Star.{starTable};
@@ -32,11 +33,13 @@ ghost use Rattle.rules.specs.cases.Links.{linkRows};
 ghost use Rattle.rules.specs.cases.Width.{widthRows};
 ghost use Rattle.rules.specs.cases.Clean.{cleanRows};
 ghost use Rattle.rules.specs.cases.Blocks.{blockRows};
+ghost use Rattle.rules.specs.cases.Sweep.{sweepRows};
 ghost use Rattle.rules.specs.Cleaned.{Cleaned, CleanedAgain, CleanAccepted};
+ghost use Rattle.rules.specs.Swept.{SweepErases, SweptBare};
 ghost use Rattle.rules.specs.laws.Found.{FoundExactly, JudgedByFound};
 ghost use Rattle.atomicity.specs.Family.{backPointer};
 ghost use Rattle.atomicity.specs.Promise.{PromiseAt, Promise3, OwnState};
-ghost use Rattle.atomicity.specs.Companions.{StatesAgree, PremisesMet, StagesInOrder, CleaningUnseen};
+ghost use Rattle.atomicity.specs.Companions.{StatesAgree, PremisesMet, StagesInOrder, CleaningUnseen, Sweeping};
 ghost use Rattle.atomicity.specs.Runs.{RunsComputed};
 use sizes::Layout;
 use sizes::Sizes;
@@ -240,6 +243,31 @@ pub extern "C" fn bpcc_clean(
     )
 }
 
+// A full sweep.
+#[no_mangle]
+pub extern "C" fn bpcc_sweep(
+    pages: u32,
+    slots: u32,
+    width: u32,
+    words: &mut [u32],
+    contents: &mut [u8],
+    state: &[u32],
+) -> u64
+    ensures { λ r. ⌜ returned r (flash (now (words .exit)) (now (contents .exit)))
+        ≡ sweepOutcome twoWidths (sizesOf pages slots width) (volume (now (words .entry)) (now (contents .entry)) (now (state .entry))) ⌝ }
+{
+    sweep::sweep(
+        Sizes {
+            pages,
+            slots,
+            width,
+        },
+        words,
+        contents,
+        state,
+    )
+}
+
 // Recover the state from the slot table, with the contents to tell twins, and count the links followed.
 #[no_mangle]
 pub extern "C" fn bpcc_recover(
@@ -309,7 +337,7 @@ pub fn exposed_found()
 {}
 
 // Promise 3, whole: one theorem over all lists of calls and crashes, for any widths; that it holds of the volume's own state; the paper's two invariants; that its
-// premises are met by every volume that formats, and what may follow a list; what ties a call's stages to what it leaves and to a crash in it; and five
+// premises are met by every volume that formats, and what may follow a list; what ties a call's stages to what it leaves and to a crash in it; and six
 // runs, computed.
 pub fn promise_3()
     ensures whole { λ _. ⌜ Promise3 ⌝ }
@@ -329,6 +357,15 @@ pub fn cleaning()
     ensures unseen { λ _. ⌜ CleaningUnseen backPointer ⌝ }
     ensures cleaned { λ _. ⌜ RowsHold cleanRows ⌝ }
     ensures blocks { λ _. ⌜ RowsHold blockRows ⌝ }
+{}
+
+// Document 02, wish 7: each erasure of a sweep is empty or one that erase accepts; straight after a sweep no slot may be erased; on volumes that runs reach, how many records it leaves, and that
+// recovery finds the same before it, after it and after a crash in it; and sweeps, computed.
+pub fn sweeping()
+    ensures erases { λ _. ⌜ SweepErases ⌝ }
+    ensures bare { λ _. ⌜ SweptBare ⌝ }
+    ensures left { λ _. ⌜ Sweeping ⌝ }
+    ensures swept { λ _. ⌜ RowsHold sweepRows ⌝ }
 {}
 
 // Document 02, wish 10: promise 3, shown once for any width, used at the two that the calls take; and what the calls answer at these and at others, and

@@ -1,14 +1,14 @@
--- A block's slots: which they are, their marks, and their blanking one by one.
+-- A block's slots: their marks, and their blanking one by one.
 use Prim.Native.Nat.{ℕ, _+_, _≤_, _<_}
 use native.Mathlib.Omega.{arith}
 use mathlib.Core.Path.{_≡_, refl, sym, ap, _∙_, fun-ext}
 use mathlib.Core.List.{List, [], _∷_, map-append}
-use mathlib.Core.Bool.{Bool, true, false, _&&_, _||_}
+use mathlib.Core.Bool.{Bool, true, _&&_, _||_}
 use lib.Dec.{ltb, leb, eqb}
 use lib.ListN.{length, set, replicate}
-use borrow.Author.Tests.{eq-eqb, ne-eqb, lt-ltb, le-ltb, ltb-true, le-leb, lt-leb, leb-true}
+use borrow.Author.Tests.{eq-eqb, ne-eqb, lt-ltb, le-ltb, le-leb, lt-leb}
 use Rattle.bounded.specs.Limits.{maxSlots}
-use Rattle.bounded.specs.Choice.{on-lt, on-eq, both, both-left, both-right}
+use Rattle.bounded.specs.Choice.{on-lt, on-eq}
 use Rattle.bounded.specs.Below.{listBelow}
 use Rattle.bounded.specs.Passing.{list-more}
 use Rattle.bounded.specs.Members.{list-none}
@@ -21,28 +21,7 @@ use Rattle.record.specs.Flash.{Flash, Step, apply, applyAllIn, applyAll}
 use Rattle.record.specs.FlashLaws.{apply-append}
 use Rattle.rules.specs.Erase.{eraseSteps}
 use Rattle.judge.specs.Marked.{marked, no-marks, marked-more}
-
--- ---- its slots
-
-module _ (block : Block) (k : ℕ) where
-  pub inside-block : block .first ≤ k → k < block .end → inBlock block k ≡ true
-  unfolding inBlock
-  inside-block h l = both (le-leb (block .first) k h) (lt-ltb k (block .end) l)
-
-  pub before-block : k < block .first → inBlock block k ≡ false
-  unfolding inBlock
-  before-block h = rw (lt-leb (block .first) k h)
-
-  pub behind-start : block .first ≤ k → inBlock block k ≡ ltb k (block .end)
-  unfolding inBlock
-  behind-start h = rw (le-leb (block .first) k h)
-
-  pub behind-block : block .first ≤ block .end → block .end ≤ k → inBlock block k ≡ false
-  behind-block o h = behind-start (omega arith) ∙ le-ltb k (block .end) h
-
-  pub block-facts : inBlock block k ≡ true → (block .first ≤ k) × (k < block .end)
-  unfolding inBlock
-  block-facts e = (leb-true (block .first) k (both-left (leb (block .first) k) (ltb k (block .end)) e), ltb-true k (block .end) (both-right (leb (block .first) k) (ltb k (block .end)) e))
+use Rattle.judge.specs.BlockTwins.{before-block, behind-block}
 
 -- ---- marked one by one
 

@@ -2,7 +2,7 @@
 use Prim.Native.Nat.{ℕ, _*_, _≤_, _<_}
 use mathlib.Core.Path.{_≡_, refl, sym, ap, ap₂, _∙_, subst}
 use mathlib.Core.List.{List}
-use mathlib.Core.Bool.{true, false, not}
+use mathlib.Core.Bool.{true, false}
 use lib.ListN.{length}
 use borrow.Author.Tests.{ltb-true}
 use Rattle.bounded.specs.Limits.{Widths, twoWidths}
@@ -13,18 +13,15 @@ use Rattle.sizes.specs.declared.Layout.the-variants.{FiveWords}
 use Rattle.sizes.specs.declared.Sizes.{Sizes}
 use Rattle.sizes.specs.Blocks.{NamedBlock, blockOk, blockAt, inBlock}
 use Rattle.sizes.specs.BlocksLaws.{BlockIn, named-inside}
-use Rattle.sizes.specs.SizesLaws.{width-most}
 use Rattle.record.specs.Flash.{Flash, flash, applyAll}
-use Rattle.record.specs.FlashLaws.{SizedIn, apply-append}
-use Rattle.chain.specs.Chain.{Linkable}
+use Rattle.record.specs.FlashLaws.{apply-append}
 use Rattle.rules.specs.Volume.{Volume, volume}
 use Rattle.rules.specs.Erase.{eraseSteps}
 use Rattle.rules.specs.Clean.{copySteps, cleanFrom, cleanTo, cleanCopies, cleanBlanks, cleanSteps, cleanAnswer, tooFewBlank}
-use Rattle.rules.specs.laws.Volume.{fits-facts}
 use Rattle.rules.specs.laws.Chains.{blockJudged, block-judged-passed, volume-spans, cleanOwn, clean-chain}
 use Rattle.rules.specs.laws.Copies.{Ready}
 use Rattle.rules.specs.laws.Clean.{ready}
-use Rattle.permit.specs.Prepared.{judged-linkable}
+use Rattle.judge.specs.Judgeable.{SoundFlash, sound-flash}
 use Rattle.clean.specs.Copying.{Copying, copying-begins}
 
 -- ---- a volume and a block of it
@@ -32,10 +29,8 @@ use Rattle.clean.specs.Copying.{Copying, copying-begins}
 module _ (sizes : Sizes) (words contents state : List ℕ) (block : Block) where
   -- the volume fits and is sound, and the block is one of its
   pub record Cleanable : Type 0 where
-    pub linkable : Linkable (sizes .pages) (sizes .slots) words
-    pub flash-sized : SizedIn FiveWords (sizes .width) (sizes .slots) (flash words contents)
+    pub flash-sound : SoundFlash sizes words contents
     pub pages-in : 4 * sizes .pages ≤ length state
-    pub width-few : sizes .width ≤ 64
     pub block-in : BlockIn (sizes .slots) block
 
   abbrev v : Volume
@@ -45,12 +40,12 @@ module _ (sizes : Sizes) (words contents state : List ℕ) (block : Block) where
     -- the copies may be done
     pub copies-begin : Cleanable → length from ≤ length to → Copying (sizes .width) (sizes .slots) (flash words contents) from to (flash words contents) 0
     copies-begin c room =
-        copying-begins (sizes .width) (sizes .slots) (flash words contents) from to (c .flash-sized)
-        (subst (λ (l : List ℕ). Ready′ c l to) (sym is-from) (subst (Ready′ c (cleanFrom sizes v block)) (sym is-to) (ready sizes v block (c .flash-sized) (c .linkable .sound))))
+        copying-begins (sizes .width) (sizes .slots) (flash words contents) from to (c .flash-sound .flash-sized)
+        (subst (λ (l : List ℕ). Ready′ c l to) (sym is-from) (subst (Ready′ c (cleanFrom sizes v block)) (sym is-to) (ready sizes v block (c .flash-sound .flash-sized) (c .flash-sound .linkable .sound))))
         room
       where
         Ready′ : Cleanable → List ℕ → List ℕ → Type 0
-        Ready′ c l m = Ready (sizes .width) (sizes .slots) (flash words contents) (c .flash-sized) (flash words contents) 0 l m
+        Ready′ c l m = Ready (sizes .width) (sizes .slots) (flash words contents) (c .flash-sound .flash-sized) (flash words contents) 0 l m
 
     -- and, behind them, the blankings: these are the steps
     pub steps-done :
@@ -98,12 +93,8 @@ pub cleanable :
     → Cleanable sizes words contents state slots
 cleanable sizes words contents state block none e =
     let t = block-judged-passed twoWidths sizes (volume words contents state) block none in
-    let f = fits-facts twoWidths sizes (volume words contents state) (t .fitting) in
-    let s = volume-spans FiveWords twoWidths sizes (volume words contents state) (t .fitting) in
     record {
-      linkable = judged-linkable (sizes .pages) (sizes .slots) words state s (t .table);
-      flash-sized = f .flash-sized;
-      pages-in = s .pages-in;
-      width-few = width-most (sizes .width) (f .allowed);
+      flash-sound = sound-flash sizes words contents state (t .fitting) (t .table);
+      pages-in = volume-spans FiveWords twoWidths sizes (volume words contents state) (t .fitting) .pages-in;
       block-in = subst (BlockIn (sizes .slots)) (sym e) (named-inside (sizes .slots) block (t .starts-sound) (t .named));
     }

@@ -1,13 +1,13 @@
 // The choice, made on the table before the first step: the slots whose records are copied, and the blank slots to copy to.
 
 use super::blocks;
+use judge::choose;
 use sizes::Block;
 use sizes::Sizes;
 ghost use mathlib.Core.Path.{_≡_};
-ghost use mathlib.Core.Bool.{Bool, true, false, not, _&&_};
-ghost use Prim.Native.Nat.{ℕ, _+_, _*_, _≤_, _<_};
+ghost use mathlib.Core.Bool.{true, false, not, _&&_};
+ghost use Prim.Native.Nat.{_+_, _*_, _≤_, _<_};
 ghost use lib.ListN.{length, take};
-ghost use Rattle.bounded.specs.Below.{someBelow};
 ghost use Rattle.bounded.specs.Noted.{Noted};
 ghost use Rattle.sizes.specs.Blocks.{inBlock};
 ghost use Rattle.record.specs.Slot.{slotAt, isBlank};
@@ -16,35 +16,8 @@ ghost use Rattle.state.specs.State.{stateAt};
 ghost use Rattle.twins.specs.Twins.{twins};
 ghost use Rattle.rules.specs.Volume.{volume};
 ghost use Rattle.rules.specs.Clean.{isCopied, blankOutside, cleanFrom};
-ghost use Rattle.judge.specs.Judgeable.{Comparable};
 ghost use Rattle.clean.specs.Choosing.{Chosen};
 ghost use Rattle.clean.specs.CleanLaws.{Cleanable};
-
-// A slot of the block below this one is its twin: searched for along the chain that both are in, from this slot down to the block's first.
-fn has_lower_twin(
-    sizes: Sizes,
-    words: &[u32],
-    contents: &[u8],
-    chains: &[u16; 2048],
-    block: Block,
-    slot: u32,
-) -> bool
-    requires { ⌜ Comparable (sizes .pages) (sizes .slots) (sizes .width) (now words) (now contents) (now chains) ⌝ }
-    requires { ⌜ slot < sizes .slots ⌝ }
-    requires { ⌜ inBlock block slot ≡ true ⌝ }
-    requires { ⌜ isBlank (slotAt (now words) slot) ≡ false ⌝ }
-    ensures { λ r. ⌜ r ≡ someBelow slot (λ j. inBlock block j && twins (sizes .width) (flash (now (words .entry)) (now (contents .entry))) j slot) ⌝ }
-{
-    let mut end = chain::end_before(chains, slot);
-    while end > block.first {
-        let other = end - 1;
-        if twins::are_twins(sizes.width, words, contents, other, slot) {
-            return true;
-        }
-        end = chain::end_before(chains, other);
-    }
-    false
-}
 
 // "Every record there that may not be erased, the whole block being listed, is copied once (of twins within the block only the lowest)": the one in slot
 // `slot` is.
@@ -71,20 +44,7 @@ fn is_copied(
     if judge::may_erase_from(sizes, words, contents, state, chains, found, marks, slot) {
         return false;
     }
-    !has_lower_twin(sizes, words, contents, chains, block, slot)
-}
-
-// The number is noted, behind those noted so far, where it passes.
-fn note(passes: bool, number: u32, noted: &mut [u16; 1024], count: usize) -> usize
-    requires { ⌜ number < 1024 ⌝ }
-    requires { ⌜ count ≤ number ⌝ }
-    ensures { λ r. ⌜ ((f : ℕ → Bool) → passes ≡ f number → Noted f number (now (noted .entry)) count → Noted f (number + 1) (now (noted .exit)) r) ⌝ }
-{
-    if !passes {
-        return count;
-    }
-    noted[count] = number as u16;
-    count + 1
+    !choose::has_lower_twin(sizes, words, contents, chains, block, slot)
 }
 
 // The block's slots whose records are copied, rising; says how many.
@@ -118,7 +78,7 @@ fn note_copied(
             block,
             k,
         );
-        count = note(copied, k, from, count);
+        count = choose::note(copied, k, from, count);
         k += 1;
     }
     count
@@ -179,7 +139,7 @@ pub fn find_blank(slots: u32, words: &[u32], block: Block, to: &mut [u16; 1024])
     let mut count = 0;
     let mut k = 0;
     while k < slots {
-        count = note(is_free(words, block, k), k, to, count);
+        count = choose::note(is_free(words, block, k), k, to, count);
         k += 1;
     }
     count

@@ -16,8 +16,9 @@ use Rattle.sizes.specs.declared.Layout.{Layout}
 use Rattle.sizes.specs.declared.Layout.the-variants.{FiveWords, FourWords}
 use Rattle.sizes.specs.declared.Sizes.{Sizes}
 use Rattle.sizes.specs.Sizes.{strideOf, listOk}
-use Rattle.sizes.specs.Lists.{Listed, list-facts}
+use Rattle.sizes.specs.Lists.{list-facts}
 use Rattle.record.specs.Flash.{Flash, Step, applyIn, applyAllIn}
+use Rattle.record.specs.FlashLaws.{SizedIn}
 use Rattle.table.specs.Inside.{slot-inside}
 use Rattle.rules.specs.Volume.{Volume, volumeFitsIn}
 use Rattle.rules.specs.Erase.{eraseSteps, eraseOutcome}
@@ -34,6 +35,13 @@ contents-span layout widths sizes v e = let s = fits-in-facts layout widths size
 pub record ListedIn (layout : Layout) (w : ℕ) (words contents list : List ℕ) : Type 0 where
   pub words-in : (i : ℕ) → i < length list → strideOf layout * getD list i 0 + strideOf layout ≤ length words
   pub contents-in : (i : ℕ) → i < length list → w * getD list i 0 + w ≤ length contents
+
+-- as those of a list of slots below S are, of a flash of S slots
+pub listed-in : (layout : Layout) (w S : ℕ) (f : Flash) (list : List ℕ) → SizedIn layout w S f → ((i : ℕ) → i < length list → getD list i 0 < S) → ListedIn layout w (f .words) (f .contents) list
+listed-in layout w S f list size below = record {
+  words-in = λ i h. let e = size .words-sized in slot-inside layout S (getD list i 0) (f .words) (omega arith) (below i h);
+  contents-in = λ i h. let e = size .contents-sized in let k = part-inside w S (getD list i 0) (below i h) in omega arith;
+}
 
 -- ---- the first i listed slots blanked
 
@@ -69,15 +77,10 @@ module _ (layout : Layout) (widths : Widths) (sizes : Sizes) (v : Volume) (list 
       let j = judged-passed layout (volumeFitsIn layout widths sizes v) (sizes .pages) (sizes .slots) (v .flash .words) (v .state) (parts .0) in
       (fits-in-facts layout widths sizes v (j .fitting), held (listOk (sizes .slots) list) _ _ (parts .1) .0)
 
-  -- each listed slot is inside a volume that fits
-  listed-in : FitsIn layout widths sizes v → Listed (sizes .slots) list → ListedIn layout (sizes .width) (v .flash .words) (v .flash .contents) list
-  listed-in f l = record {
-    words-in = λ i h. let e = f .flash-sized .words-sized in slot-inside layout (sizes .slots) (getD list i 0) (v .flash .words) (omega arith) (l .in-range i h);
-    contents-in = λ i h. let e = f .flash-sized .contents-sized in let k = part-inside (sizes .width) (sizes .slots) (getD list i 0) (l .in-range i h) in omega arith;
-  }
-
   pub accepted-listed : eraseAnswerIn layout widths sizes v list ≡ 0 → ListedIn layout (sizes .width) (v .flash .words) (v .flash .contents) list
-  accepted-listed e = let t = accepted-tests e in listed-in (t .0) (list-facts (sizes .slots) list (t .1))
+  accepted-listed e =
+      let t = accepted-tests e in
+      listed-in layout (sizes .width) (sizes .slots) (v .flash) list (t .0 .flash-sized) (list-facts (sizes .slots) list (t .1) .in-range)
 
 -- what an erase of either layout settles
 pub outcome-in :

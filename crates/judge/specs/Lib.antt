@@ -1,3 +1,4 @@
 pub mod Marked
 pub mod Judgeable
 pub mod JudgeLaws
+pub mod BlockTwins

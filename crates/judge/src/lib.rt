@@ -1,5 +1,8 @@
 // The permission to erase listed slots: crate permit's for one slot, and a twin that is not in the list. A mark stands for each listed slot. The
 // definitions are in crate rules.
+
+pub mod choose; // choose.rt: slots that a call chooses itself
+
 ghost use mathlib.Core.Path.{_≡_};
 ghost use mathlib.Core.Bool.{not, _&&_};
 ghost use mathlib.Core.List.{[], _∷_};

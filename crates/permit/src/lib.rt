@@ -17,7 +17,7 @@ use record::Record;
 use record::Slot;
 
 // "A record is obsolete if v is below its page's committed version"
-fn is_obsolete(state: &[u32], record: Record) -> bool
+pub fn is_obsolete(state: &[u32], record: Record) -> bool
     requires { ⌜ 4 * «record» .p + 4 ≤ length (now state) ⌝ }
     ensures { λ r. ⌜ r ≡ isObsolete (stateAt (now (state .entry))) «record» ⌝ }
 {
@@ -26,7 +26,7 @@ fn is_obsolete(state: &[u32], record: Record) -> bool
 }
 
 // "exposed if above"
-fn is_exposed(state: &[u32], record: Record) -> bool
+pub fn is_exposed(state: &[u32], record: Record) -> bool
     requires { ⌜ 4 * «record» .p + 4 ≤ length (now state) ⌝ }
     ensures { λ r. ⌜ r ≡ isExposed (stateAt (now (state .entry))) «record» ⌝ }
 {
@@ -35,7 +35,7 @@ fn is_exposed(state: &[u32], record: Record) -> bool
 }
 
 // "one whose page is in flight with v = used"
-fn is_current(state: &[u32], record: Record) -> bool
+pub fn is_current(state: &[u32], record: Record) -> bool
     requires { ⌜ 4 * «record» .p + 4 ≤ length (now state) ⌝ }
     ensures { λ r. ⌜ r ≡ isCurrent (stateAt (now (state .entry))) «record» ⌝ }
 {

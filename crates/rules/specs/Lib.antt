@@ -9,7 +9,9 @@ pub mod Erase
 pub mod CheckBlocks
 pub mod Clean
 pub mod Cleaned
+pub mod Sweep
 pub mod Suggest
+pub mod Swept
 pub mod Verdict
 pub mod Recover
 pub mod Links

@@ -8,6 +8,7 @@ pub mod Found
 pub mod Suggest
 pub mod Clean
 pub mod Blocks
+pub mod Sweep
 pub mod Recover
 pub mod Links
 pub mod Star

@@ -12,3 +12,4 @@ pub mod Links
 pub mod Simple
 pub mod SimpleAccepted
 pub mod Clean
+pub mod Sweep

@@ -1,17 +1,19 @@
 -- What the test of a list of pages or slots says, as facts; and that a sound list is no longer than its bound.
 use Prim.Native.Nat.{ℕ, _≤_, _<_}
 use native.Mathlib.Omega.{arith}
-use mathlib.Core.Path.{_≡_, sym}
+use mathlib.Core.Path.{_≡_, refl, sym, ap, _∙_}
 use mathlib.Core.Logic.{_↔_}
-use mathlib.Core.List.{List}
+use mathlib.Core.List.{List, [], _∷_}
 use mathlib.Core.Bool.{Bool, true, false, not, _&&_}
 use lib.Dec.{ltb, leb, eqb}
 use lib.ListN.{length, getD}
 use borrow.Author.Tests.{leb-true, le-leb, lt-leb, ltb-true, lt-ltb, eq-eqb, ne-eqb, not-true}
 use Rattle.bounded.specs.Choice.{on-lt, on-test, never, both, both-left, both-right, not-no}
-use Rattle.bounded.specs.Below.{allBelow}
-use Rattle.bounded.specs.BelowLaws.{all-at, all-of}
-use Rattle.sizes.specs.Sizes.{noRepeats, inRange, listOk}
+use Rattle.bounded.specs.Below.{allBelow, listBelow}
+use Rattle.bounded.specs.BelowLaws.{all-at, all-of, some-none}
+use Rattle.bounded.specs.Passing.{list-entry}
+use Rattle.bounded.specs.Members.{list-rises, rises-apart}
+use Rattle.sizes.specs.Sizes.{noRepeats, inRange, listOk, listed}
 
 -- entry i is below n
 unfoldable pub rangedAt : ℕ → List ℕ → ℕ → Bool
@@ -93,3 +95,25 @@ module _ (n : ℕ) (list : List ℕ) where
   -- the test is exactly no "empty list, repeated entry, or a page or slot out of range"
   pub list-exactly : (listOk n list ≡ true) ↔ Listed n list
   list-exactly = (list-facts, list-test)
+
+-- ---- the numbers below n that pass
+
+module _ (n : ℕ) (f : ℕ → Bool) where
+  -- they are a list, unless there is none
+  pub passing-listed : ¬ (listBelow n f ≡ []) → Listed n (listBelow n f)
+  passing-listed some = record {
+    not-empty = longer (listBelow n f) some;
+    in-range = λ i h. list-entry f n i h .0;
+    apart = λ i j h k e. rises-apart 0 n (listBelow n f) (list-rises f n) i j h k e;
+  }
+    where
+      longer : (l : List ℕ) → ¬ (l ≡ []) → 1 ≤ length l
+      longer [] some = absurd (some refl)
+      longer (x ∷ l) some = omega arith
+
+  -- a number stands in it exactly where it passes
+  pub unlisted-fails : (k : ℕ) → f k ≡ false → listed (listBelow n f) k ≡ false
+  unfolding listed
+  unlisted-fails k e =
+      some-none (λ i. eqb (getD (listBelow n f) i 0) k) (length (listBelow n f))
+      (λ i h. ne-eqb (getD (listBelow n f) i 0) k (λ q. never (sym (ap f q) ∙ list-entry f n i h .1) e))

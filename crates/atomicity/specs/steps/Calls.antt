@@ -2,13 +2,12 @@
 use Prim.Native.Nat.{ℕ, _≤_, _<_}
 use native.Mathlib.Omega.{arith}
 use mathlib.Core.Path.{_≡_, refl, sym, subst}
-use mathlib.Core.List.{List, [], _∷_, append-nil, flatten}
+use mathlib.Core.List.{List, flatten}
 use mathlib.Core.Bool.{true}
 use lib.ListN.{length}
 use Rattle.bounded.specs.Limits.{noNumber, Widths}
 use Rattle.outcome.specs.Outcome.{Outcome}
 use Rattle.sizes.specs.declared.Sizes.{Sizes}
-use Rattle.sizes.specs.Blocks.{NamedBlock}
 use Rattle.record.specs.Slot.{slotIn}
 use Rattle.record.specs.SlotLaws.{is-blank-exactly}
 use Rattle.record.specs.Flash.{Flash, Step, applyIn, applyAllIn}
@@ -21,12 +20,11 @@ use Rattle.rules.specs.Volume.{Volume}
 use Rattle.rules.specs.Launch.{launchAnswer}
 use Rattle.rules.specs.Withdraw.{withdrawAnswer}
 use Rattle.rules.specs.laws.Outcomes.{launch-done, withdraw-done}
-use Rattle.rules.specs.Erase.{eraseSteps}
 use Rattle.rules.specs.laws.Accepted.{launch-tests, withdraw-tests}
 use Rattle.atomicity.specs.Family.{Family}
 use Rattle.atomicity.specs.Call.{Call, withState, withFlash, perform}
 use Rattle.atomicity.specs.Model.{Model, accept, closeAll, enter}
-use Rattle.atomicity.specs.steps.Theory.{Theory, keeping, written, write-done, erase-done, clean-done, recover-done}
+use Rattle.atomicity.specs.steps.Theory.{Theory, SparingCall, keeping, written, spared-done, write-done, recover-done}
 use Rattle.atomicity.specs.steps.Stages.{answer-is, cut-past-last}
 use Rattle.atomicity.specs.steps.Invariant.{Known}
 use Rattle.atomicity.specs.steps.StateWords.{live-words}
@@ -77,18 +75,13 @@ module _ {F : Family} (T : Theory F) (widths : Widths) (sizes : Sizes) (v : Volu
         live = c .live;
       }
 
-  erase-accepted : (slots : List ℕ) → T .eraseAnswer widths sizes v slots ≡ 0 → Known T widths sizes (perform F widths sizes v (Call.Erase slots) .left) (accept m (Call.Erase slots))
-  unfolding perform withFlash accept flatten
-  erase-accepted slots e =
-      subst (λ (o : Outcome Flash). Known T widths sizes (record { flash = o .left; state = v .state }) m) (sym (erase-done T widths sizes v slots e))
-      (subst (λ (l : List Step). Known T widths sizes (record { flash = applyAllIn (F .layout) (sizes .width) (v .flash) l; state = v .state }) m) (append-nil (eraseSteps slots))
-      (spares-accepted (eraseSteps slots ∷ []) (T .erase-spares widths sizes v slots (k .fits) e)))
-
-  clean-accepted : (block : NamedBlock) → T .cleanAnswer widths sizes v block ≡ 0 → Known T widths sizes (perform F widths sizes v (Call.Clean block) .left) (accept m (Call.Clean block))
-  unfolding perform withFlash accept
-  clean-accepted block e =
-      subst (λ (o : Outcome Flash). Known T widths sizes (record { flash = o .left; state = v .state }) m) (sym (clean-done T widths sizes v block e))
-      (spares-accepted (F .cleanStages sizes v block) (T .clean-spares widths sizes v block (k .fits) e))
+  spared-accepted :
+      {outcome : Widths → Sizes → Volume → Outcome Flash} {stages : Sizes → Volume → List (List Step)} (C : SparingCall (keeping T) outcome stages)
+      → C .answer widths sizes v ≡ 0
+      → Known T widths sizes (record { flash = outcome widths sizes v .left; state = v .state }) m
+  spared-accepted {outcome} {stages} C e =
+      subst (λ (f : Flash). Known T widths sizes (record { flash = f; state = v .state }) m) (sym (spared-done C widths sizes v e))
+      (spares-accepted (stages sizes v) (C .spares widths sizes v (k .fits) e))
 
   write-accepted : (page slot : ℕ) (bytes : List ℕ) → T .writeAnswer widths sizes v page slot bytes ≡ 0 → Known T widths sizes (written F sizes v page slot bytes) (enter page bytes (m .kept) (m .rings))
   write-accepted page slot bytes e =
@@ -123,11 +116,12 @@ module _ {F : Family} (T : Theory F) (widths : Widths) (sizes : Sizes) (v : Volu
 
   -- an accepted call keeps the invariant, the model told of it
   pub accepted : (call : Call) → answer-is T widths sizes v call ≡ 0 → Known T widths sizes (perform F widths sizes v call .left) (accept m call)
-  unfolding answer-is perform accept
+  unfolding answer-is perform withFlash accept
   accepted (Call.Launch pages) e = launch-accepted pages e
   accepted (Call.Write page slot bytes) e =
       subst (λ (o : Outcome Volume). Known T widths sizes (o .left) (enter page bytes (m .kept) (m .rings))) (sym (write-done T widths sizes v page slot bytes e)) (write-accepted page slot bytes e)
   accepted (Call.Withdraw page) e = withdraw-accepted page e
-  accepted (Call.Erase slots) e = erase-accepted slots e
+  accepted (Call.Erase slots) e = spared-accepted (T .erases slots) e
   accepted Call.Recover e = recover-accepted .0
-  accepted (Call.Clean block) e = clean-accepted block e
+  accepted (Call.Clean block) e = spared-accepted (T .cleans block) e
+  accepted Call.Sweep e = spared-accepted (T .sweeps) e

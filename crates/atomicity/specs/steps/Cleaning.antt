@@ -1,9 +1,9 @@
--- Erasing and cleaning records with a back pointer lose none but records that may be erased: a slot whose twin stays loses nothing.
+-- Erasing, cleaning and sweeping records with a back pointer lose none but records that may be erased: a slot whose twin stays loses nothing.
 use Prim.Native.Nat.{ℕ, suc, _<_}
 use mathlib.Core.Path.{_≡_, refl, sym, ap, _∙_, subst}
 use mathlib.Core.Logic.{_⊎_, inl, inr, ⊎-elim}
 use mathlib.Core.List.{List, [], _∷_, _++_, map, List·Memᴰ, List·Memᴰ·head}
-use mathlib.Core.Bool.{true, false}
+use mathlib.Core.Bool.{Bool, true, false}
 use lib.Dec.{eqb}
 use lib.ListN.{length, getD}
 use borrow.Author.Tests.{eq-eqb}
@@ -30,12 +30,16 @@ use Rattle.twins.specs.Twins.{twins}
 use Rattle.twins.specs.TwinsLaws.{twins-exactly}
 use Rattle.rules.specs.Volume.{Volume}
 use Rattle.rules.specs.Erase.{eraseSteps, eraseAnswer}
+use Rattle.rules.specs.Sweep.{sweptExposed, withoutExposed, sweptObsolete, withoutObsolete, sweptTwins, sweepStages, sweepAnswer}
+use Rattle.rules.specs.Swept.{NoneOrErasable}
 use Rattle.rules.specs.Clean.{copySteps, cleanCopies, cleanBlanks, cleanStages, cleanAnswer}
 use Rattle.rules.specs.laws.Volume.{Fits, bytes-whole}
 use Rattle.rules.specs.laws.Permission.{may-erase-from, may-erase-all}
 use Rattle.rules.specs.laws.Accepted.{erase-tests, CleanTests, clean-tests}
 use Rattle.rules.specs.laws.Copies.{Source, Ready, copied, copy-sized, copy-there, copy-elsewhere, first, first-source, first-below, ready-on}
 use Rattle.rules.specs.laws.Clean as clean
+use Rattle.rules.specs.laws.Sweep as sweep
+use Rattle.rules.specs.laws.Sweep.{sweep-erases}
 use Rattle.protocol.specs.View.{finds-in-slots}
 use Rattle.protocol.specs.Permitted.{Permitted, permitted-same, may-erase-permitted}
 use Rattle.atomicity.specs.Run.{doneOf}
@@ -190,3 +194,31 @@ clean-spares widths sizes v block fits e =
         (λ o. inl (o .0, o .1, (λ n. never (clean.block-member sizes v b size (a .table) (a .room) (o .0) n .1) (o .2)), o .3 .0, o .3 .1 ∙ sym (s .same-bytes)))
         (λ o. inr (permitted-same forth back st r (may-erase-permitted S (slotAt (v .flash .words)) (bytesAt w (v .flash .contents)) st k r o was)))
         (clean.outside-or-erasable sizes v b size (a .table) (a .room) k r (i .0) (i .1) was)
+
+-- ---- a sweep
+
+-- an erasure that is empty or accepted, as one stage of several
+stage-spares :
+    (widths : Widths) (sizes : Sizes) (v : Volume) (f : Flash) (slots : List ℕ)
+    → Fits widths sizes (record { flash = f; state = v .state })
+    → NoneOrErasable widths sizes v f slots
+    → (done : ℕ → Bool)
+    → Spared twinned (sizes .width) (sizes .slots) (stateAt (v .state)) f (applyAllIn FiveWords (sizes .width) f (doneOf done 0 (eraseSteps slots)))
+unfolding Spares eraseSteps doneOf applyAllIn
+stage-spares widths sizes v f slots fits (inl none) done = rw none (spared-same twinned (sizes .width) (sizes .slots) (stateAt (v .state)) f (fits .flash-sized))
+stage-spares widths sizes v f slots fits (inr e) done = erase-spares widths sizes (record { flash = f; state = v .state }) slots fits e .0 done
+
+pub sweep-spares :
+    (widths : Widths) (sizes : Sizes) (v : Volume)
+    → Fits widths sizes v
+    → sweepAnswer widths sizes v ≡ 0
+    → Spares twinned (sizes .width) (sizes .slots) (stateAt (v .state)) (v .flash) (sweepStages sizes v)
+unfolding Spares sweepStages withoutExposed withoutObsolete
+sweep-spares widths sizes v fits e =
+    let each = sweep-erases widths sizes v e in (
+      stage-spares widths sizes v (v .flash) (sweptExposed sizes v) fits (each .0),
+      (
+        stage-spares widths sizes v (withoutExposed sizes v) (sweptObsolete sizes v) (sweep.fits1 widths sizes v e) (each .1),
+        (stage-spares widths sizes v (withoutObsolete sizes v) (sweptTwins sizes v) (sweep.fits2 widths sizes v e) (each .2), tt),
+      ),
+    )

@@ -125,6 +125,7 @@ module _ {F : Family} (T : Theory F) (widths : Widths) (sizes : Sizes) where
   crash-in v m (Call.Launch pages) stage done k = leaves-flash v m (crashFlash v (Call.Launch pages) stage done) k (no-stages v (Call.Launch pages) stage done refl)
   crash-in v m (Call.Write page slot bytes) stage done k = crash-write v m page slot bytes stage done k
   crash-in v m (Call.Withdraw page) stage done k = leaves-flash v m (crashFlash v (Call.Withdraw page) stage done) k (no-stages v (Call.Withdraw page) stage done refl)
-  crash-in v m (Call.Erase slots) stage done k = crash-spares v m (Call.Erase slots) stage done k (T .erase-spares widths sizes v slots (k .fits))
+  crash-in v m (Call.Erase slots) stage done k = crash-spares v m (Call.Erase slots) stage done k (T .erases slots .spares widths sizes v (k .fits))
   crash-in v m Call.Recover stage done k = leaves-flash v m (crashFlash v Call.Recover stage done) k (no-stages v Call.Recover stage done refl)
-  crash-in v m (Call.Clean block) stage done k = crash-spares v m (Call.Clean block) stage done k (T .clean-spares widths sizes v block (k .fits))
+  crash-in v m (Call.Clean block) stage done k = crash-spares v m (Call.Clean block) stage done k (T .cleans block .spares widths sizes v (k .fits))
+  crash-in v m Call.Sweep stage done k = crash-spares v m Call.Sweep stage done k (T .sweeps .spares widths sizes v (k .fits))

@@ -83,6 +83,7 @@ module _ {F : Family} (T : Theory F) (widths : Widths) (sizes : Sizes) where
   lost-returns v m (Call.Withdraw page) fits l e = absurd (never refl (sym e))
   lost-returns v m (Call.Erase slots) fits l e = absurd (never refl (sym e))
   lost-returns v m (Call.Clean block) fits l e = absurd (never refl (sym e))
+  lost-returns v m Call.Sweep fits l e = absurd (never refl (sym e))
   lost-returns v m Call.Recover fits l e =
       let k = recover-finds v m fits l in
       subst (λ (x : Model). Holding T widths sizes (record { volume = perform F widths sizes v Call.Recover .left; lost = stillLost true Call.Recover (perform F widths sizes v Call.Recover .answer) }) x)
@@ -101,6 +102,7 @@ module _ {F : Family} (T : Theory F) (widths : Widths) (sizes : Sizes) where
   lost-crashes v m (Call.Withdraw page) stage done size l e = absurd (never refl (sym e))
   lost-crashes v m (Call.Erase slots) stage done size l e = absurd (never refl (sym e))
   lost-crashes v m (Call.Clean block) stage done size l e = absurd (never refl (sym e))
+  lost-crashes v m Call.Sweep stage done size l e = absurd (never refl (sym e))
   lost-crashes v m Call.Recover stage done size l e =
       subst (λ (x : Flash). Crashed T sizes x (closeAll m)) (sym (no-stages T widths sizes v Call.Recover stage done refl)) (crash-lost T sizes (v .flash) m (record { sized = size; lost = l }))
 

@@ -20,7 +20,7 @@ use Rattle.rules.specs.laws.Outcomes.{launch-refused, withdraw-refused}
 use Rattle.atomicity.specs.Family.{Family}
 use Rattle.atomicity.specs.Call.{Call, withState, withFlash, perform, plannedStages, flashStages}
 use Rattle.atomicity.specs.Run.{doneOf, cutShort, wasDone}
-use Rattle.atomicity.specs.steps.Theory.{Theory, write-refused, erase-refused, recover-refused, clean-refused}
+use Rattle.atomicity.specs.steps.Theory.{Theory, spared-answer, spared-refused, write-refused, recover-refused}
 use Rattle.atomicity.specs.Companions.{doneIn}
 
 -- ---- a call in a run
@@ -31,18 +31,20 @@ module _ {F : Family} (T : Theory F) (widths : Widths) (sizes : Sizes) (v : Volu
   answer-is (Call.Launch pages) = launchAnswer widths sizes (v .state) pages
   answer-is (Call.Write page slot bytes) = T .writeAnswer widths sizes v page slot bytes
   answer-is (Call.Withdraw page) = withdrawAnswer widths sizes (v .state) page
-  answer-is (Call.Erase slots) = T .eraseAnswer widths sizes v slots
+  answer-is (Call.Erase slots) = T .erases slots .answer widths sizes v
   answer-is Call.Recover = T .recoverAnswer widths sizes v
-  answer-is (Call.Clean block) = T .cleanAnswer widths sizes v block
+  answer-is (Call.Clean block) = T .cleans block .answer widths sizes v
+  answer-is Call.Sweep = T .sweeps .answer widths sizes v
 
   pub performs : (call : Call) → perform F widths sizes v call .answer ≡ answer-is call
   unfolding perform withState withFlash answer-is launchOutcome withdrawOutcome
   performs (Call.Launch pages) = settled-answer (launchAnswer widths sizes (v .state) pages) _ _ _ _
   performs (Call.Write page slot bytes) = ap (λ (o : Outcome Volume). o .answer) (T .write-is widths sizes v page slot bytes) ∙ settled-answer (T .writeAnswer widths sizes v page slot bytes) _ _ _ _
   performs (Call.Withdraw page) = settled-answer (withdrawAnswer widths sizes (v .state) page) _ _ _ _
-  performs (Call.Erase slots) = ap (λ (o : Outcome Flash). o .answer) (T .erase-is widths sizes v slots) ∙ settled-answer (T .eraseAnswer widths sizes v slots) _ _ _ _
+  performs (Call.Erase slots) = spared-answer (T .erases slots) widths sizes v
   performs Call.Recover = ap (λ (o : Outcome (List ℕ)). o .answer) (T .recover-is widths sizes v) ∙ settled-answer (T .recoverAnswer widths sizes v) _ _ _ _
-  performs (Call.Clean block) = ap (λ (o : Outcome Flash). o .answer) (T .clean-is widths sizes v block) ∙ settled-answer (T .cleanAnswer widths sizes v block) _ _ _ _
+  performs (Call.Clean block) = spared-answer (T .cleans block) widths sizes v
+  performs Call.Sweep = spared-answer (T .sweeps) widths sizes v
 
   -- a refused call leaves the volume as it was
   pub refused-leaves : (call : Call) → ¬ (answer-is call ≡ 0) → perform F widths sizes v call .left ≡ v
@@ -50,9 +52,10 @@ module _ {F : Family} (T : Theory F) (widths : Widths) (sizes : Sizes) (v : Volu
   refused-leaves (Call.Launch pages) n = ap (λ (o : Outcome (List ℕ)). record { flash = v .flash; state = o .left }) (launch-refused widths sizes (v .state) pages n)
   refused-leaves (Call.Write page slot bytes) n = ap (λ (o : Outcome Volume). o .left) (write-refused T widths sizes v page slot bytes n)
   refused-leaves (Call.Withdraw page) n = ap (λ (o : Outcome (List ℕ)). record { flash = v .flash; state = o .left }) (withdraw-refused widths sizes (v .state) page n)
-  refused-leaves (Call.Erase slots) n = ap (λ (o : Outcome Flash). record { flash = o .left; state = v .state }) (erase-refused T widths sizes v slots n)
+  refused-leaves (Call.Erase slots) n = ap (λ (f : Flash). record { flash = f; state = v .state }) (spared-refused (T .erases slots) widths sizes v n)
   refused-leaves Call.Recover n = ap (λ (o : Outcome (List ℕ)). record { flash = v .flash; state = o .left }) (recover-refused T widths sizes v n)
-  refused-leaves (Call.Clean block) n = ap (λ (o : Outcome Flash). record { flash = o .left; state = v .state }) (clean-refused T widths sizes v block n)
+  refused-leaves (Call.Clean block) n = ap (λ (f : Flash). record { flash = f; state = v .state }) (spared-refused (T .cleans block) widths sizes v n)
+  refused-leaves Call.Sweep n = ap (λ (f : Flash). record { flash = f; state = v .state }) (spared-refused (T .sweeps) widths sizes v n)
 
   -- it has no stages, and an accepted one those planned
   pub refused-stages : (call : Call) → ¬ (answer-is call ≡ 0) → flashStages F widths sizes v call ≡ []

@@ -1,13 +1,13 @@
 -- What a run needs of a family of records: its invariant, that its steps keep it and recovery finds it, and what its calls test.
 use Prim.Native.Nat.{ℕ, _<_}
-use mathlib.Core.Path.{_≡_, _∙_}
+use mathlib.Core.Path.{_≡_, ap, _∙_}
 use mathlib.Core.List.{List, [], _∷_, flatten}
 use mathlib.Core.Bool.{Bool, true, false}
 use lib.ListN.{length}
 use Rattle.bounded.specs.Limits.{Widths}
 use Rattle.bounded.specs.Parts.{update}
-use Rattle.outcome.specs.Outcome.{settled}
-use Rattle.outcome.specs.OutcomeLaws.{settled-refused, settled-done}
+use Rattle.outcome.specs.Outcome.{Outcome, settled}
+use Rattle.outcome.specs.OutcomeLaws.{settled-answer, settled-refused, settled-done}
 use Rattle.sizes.specs.declared.Layout.{Layout}
 use Rattle.sizes.specs.declared.Sizes.{Sizes}
 use Rattle.sizes.specs.Blocks.{NamedBlock}
@@ -16,7 +16,7 @@ use Rattle.record.specs.declared.Slot.{Slot}
 use Rattle.record.specs.declared.Slot.the-variants.{Holds}
 use Rattle.record.specs.Slot.{slotIn, isBlank, recordSound}
 use Rattle.record.specs.SlotLaws.{Storable}
-use Rattle.record.specs.Flash.{Step, applyIn, applyAllIn}
+use Rattle.record.specs.Flash.{Flash, Step, applyIn, applyAllIn}
 use Rattle.state.specs.declared.PageState.{PageState}
 use Rattle.state.specs.State.{stateAt, stateWords, inFlight, isWritten}
 use Rattle.state.specs.StateLaws.{StateFacts}
@@ -53,6 +53,22 @@ written F sizes v page slot bytes =
       flash = applyIn (F .layout) (sizes .width) (v .flash) (Step.Store slot (F .plan (stateAt (v .state)) page) bytes);
       state = stateWords (sizes .pages) (afterWrite (sizes .pages) (stateAt (v .state)) page);
     }
+
+-- a call that alters the flash alone, by stages of which every part loses none but records that may be erased: `outcome` is what it gives and leaves
+pub record SparingCall (K : Keeping) (outcome : Widths → Sizes → Volume → Outcome Flash) (stages : Sizes → Volume → List (List Step)) : Type 1 where
+  pub answer : Widths → Sizes → Volume → ℕ
+  pub outcome-is : (widths : Widths) (sizes : Sizes) (v : Volume) → outcome widths sizes v ≡ settled (answer widths sizes v) 0 0 (v .flash) (applyAllIn (K .layout) (sizes .width) (v .flash) (flatten (stages sizes v)))
+  pub spares : (widths : Widths) (sizes : Sizes) (v : Volume) → FitsIn (K .layout) widths sizes v → answer widths sizes v ≡ 0 → Spares K (sizes .width) (sizes .slots) (stateAt (v .state)) (v .flash) (stages sizes v)
+
+module _ {K : Keeping} {outcome : Widths → Sizes → Volume → Outcome Flash} {stages : Sizes → Volume → List (List Step)} (C : SparingCall K outcome stages) (widths : Widths) (sizes : Sizes) (v : Volume) where
+  pub spared-answer : outcome widths sizes v .answer ≡ C .answer widths sizes v
+  spared-answer = ap (λ (o : Outcome Flash). o .answer) (C .outcome-is widths sizes v) ∙ settled-answer (C .answer widths sizes v) _ _ _ _
+
+  pub spared-done : C .answer widths sizes v ≡ 0 → outcome widths sizes v .left ≡ applyAllIn (K .layout) (sizes .width) (v .flash) (flatten (stages sizes v))
+  spared-done e = ap (λ (o : Outcome Flash). o .left) (C .outcome-is widths sizes v ∙ settled-done (C .answer widths sizes v) _ _ _ _ e)
+
+  pub spared-refused : ¬ (C .answer widths sizes v ≡ 0) → outcome widths sizes v .left ≡ v .flash
+  spared-refused n = ap (λ (o : Outcome Flash). o .left) (C .outcome-is widths sizes v ∙ settled-refused (C .answer widths sizes v) _ _ _ _ n)
 
 pub record Theory (F : Family) : Type 1 where
   -- ---- the invariant
@@ -113,24 +129,9 @@ pub record Theory (F : Family) : Type 1 where
       → StateFacts P st
       → SharedLive (pointingView back) P R st Entered
       → SharedLive (pointingView back) P R′ st Entered
-  pub eraseAnswer : Widths → Sizes → Volume → (slots : List ℕ) → ℕ
-  pub erase-is :
-      (widths : Widths) (sizes : Sizes) (v : Volume) (slots : List ℕ)
-      → F .erase widths sizes v slots ≡ settled (eraseAnswer widths sizes v slots) 0 0 (v .flash) (applyAllIn (F .layout) (sizes .width) (v .flash) (eraseSteps slots))
-  pub erase-spares :
-      (widths : Widths) (sizes : Sizes) (v : Volume) (slots : List ℕ)
-      → FitsIn (F .layout) widths sizes v
-      → eraseAnswer widths sizes v slots ≡ 0
-      → Spares (record { layout = F .layout; Permitted = Permitted; Apart = Apart }) (sizes .width) (sizes .slots) (stateAt (v .state)) (v .flash) (eraseSteps slots ∷ [])
-  pub cleanAnswer : Widths → Sizes → Volume → (block : NamedBlock) → ℕ
-  pub clean-is :
-      (widths : Widths) (sizes : Sizes) (v : Volume) (block : NamedBlock)
-      → F .clean widths sizes v block ≡ settled (cleanAnswer widths sizes v block) 0 0 (v .flash) (applyAllIn (F .layout) (sizes .width) (v .flash) (flatten (F .cleanStages sizes v block)))
-  pub clean-spares :
-      (widths : Widths) (sizes : Sizes) (v : Volume) (block : NamedBlock)
-      → FitsIn (F .layout) widths sizes v
-      → cleanAnswer widths sizes v block ≡ 0
-      → Spares (record { layout = F .layout; Permitted = Permitted; Apart = Apart }) (sizes .width) (sizes .slots) (stateAt (v .state)) (v .flash) (F .cleanStages sizes v block)
+  pub erases : (slots : List ℕ) → SparingCall (record { layout = F .layout; Permitted = Permitted; Apart = Apart }) (λ widths sizes v. F .erase widths sizes v slots) (λ sizes v. eraseSteps slots ∷ [])
+  pub cleans : (block : NamedBlock) → SparingCall (record { layout = F .layout; Permitted = Permitted; Apart = Apart }) (λ widths sizes v. F .clean widths sizes v block) (λ sizes v. F .cleanStages sizes v block)
+  pub sweeps : SparingCall (record { layout = F .layout; Permitted = Permitted; Apart = Apart }) (F .sweep) (F .sweepStages)
   -- ---- recovery
 
   pub recoverAnswer : Widths → Sizes → Volume → ℕ
@@ -161,18 +162,6 @@ module _ {F : Family} (T : Theory F) (widths : Widths) (sizes : Sizes) (v : Volu
 
   pub write-refused : (page slot : ℕ) (bytes : List ℕ) → ¬ (T .writeAnswer widths sizes v page slot bytes ≡ 0) → F .write widths sizes v page slot bytes ≡ record { answer = T .writeAnswer widths sizes v page slot bytes; second = 0; left = v }
   write-refused page slot bytes n = T .write-is widths sizes v page slot bytes ∙ settled-refused (T .writeAnswer widths sizes v page slot bytes) _ _ _ _ n
-
-  pub erase-done : (slots : List ℕ) → T .eraseAnswer widths sizes v slots ≡ 0 → F .erase widths sizes v slots ≡ record { answer = 0; second = 0; left = applyAllIn (F .layout) (sizes .width) (v .flash) (eraseSteps slots) }
-  erase-done slots e = T .erase-is widths sizes v slots ∙ settled-done (T .eraseAnswer widths sizes v slots) _ _ _ _ e
-
-  pub erase-refused : (slots : List ℕ) → ¬ (T .eraseAnswer widths sizes v slots ≡ 0) → F .erase widths sizes v slots ≡ record { answer = T .eraseAnswer widths sizes v slots; second = 0; left = v .flash }
-  erase-refused slots n = T .erase-is widths sizes v slots ∙ settled-refused (T .eraseAnswer widths sizes v slots) _ _ _ _ n
-
-  pub clean-done : (block : NamedBlock) → T .cleanAnswer widths sizes v block ≡ 0 → F .clean widths sizes v block ≡ record { answer = 0; second = 0; left = applyAllIn (F .layout) (sizes .width) (v .flash) (flatten (F .cleanStages sizes v block)) }
-  clean-done block e = T .clean-is widths sizes v block ∙ settled-done (T .cleanAnswer widths sizes v block) _ _ _ _ e
-
-  pub clean-refused : (block : NamedBlock) → ¬ (T .cleanAnswer widths sizes v block ≡ 0) → F .clean widths sizes v block ≡ record { answer = T .cleanAnswer widths sizes v block; second = 0; left = v .flash }
-  clean-refused block n = T .clean-is widths sizes v block ∙ settled-refused (T .cleanAnswer widths sizes v block) _ _ _ _ n
 
   -- what an accepted recover fills in
   abbrev pub found : List ℕ

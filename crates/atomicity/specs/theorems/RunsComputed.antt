@@ -5,7 +5,7 @@ use Rattle.atomicity.specs.Call.{withState, withFlash, perform, plannedS
 use Rattle.atomicity.specs.Run.{doneOf, cutShort, wasDone, isRecover, stillLost, happens, started, after, keepsTo, keepsPremises}
 use Rattle.atomicity.specs.Model.{freshModel, entryPage, hasBytes, inRing, allEntered, newRing, enterIn, keep, withRing, settleRing, enter, closeRing, closeAll, accept, learns}
 use Rattle.atomicity.specs.Promise.{toldOfCrash, told, modelAfter}
-use Rattle.atomicity.specs.Runs.{oneByte, blankBuffers, fourBuffers, lostState, every, none, runCompleted, runErased, runPast, runClosed, runCopied, runCleaned, runExposed, runBuried, keptAfter, wordsAfter, RunsComputed, SimpleRunsComputed}
+use Rattle.atomicity.specs.Runs.{oneByte, blankBuffers, fourBuffers, lostState, every, none, runCompleted, runErased, runPast, runClosed, runCopied, runCleaned, runSweeping, runSwept, runExposed, runBuried, keptAfter, wordsAfter, RunsComputed, SimpleRunsComputed}
 
 -- A name for "these definitions compute": a declaration that unfolds it unfolds them all.
 unfoldable computing : Unit {0}
@@ -13,7 +13,7 @@ unfolding rules-computing withState withFlash perform plannedStages flashStages 
 computing = tt
 
 pub runs-computed : RunsComputed
-unfolding oneByte keptAfter wordsAfter blankBuffers runCompleted runErased runPast runClosed runCopied runCleaned lostState every none computing
+unfolding oneByte keptAfter wordsAfter blankBuffers runCompleted runErased runPast runClosed runCopied runCleaned runSweeping runSwept lostState every none computing
 runs-computed =
     record {
       completed-meets = record { formatted = refl; keeps = refl };
@@ -29,6 +29,10 @@ runs-computed =
       cleaned-meets = record { formatted = refl; keeps = refl };
       cleaned-keeps = refl;
       cleaned-leaves = refl;
+      sweeping-leaves = refl;
+      swept-meets = record { formatted = refl; keeps = refl };
+      swept-keeps = refl;
+      swept-leaves = refl;
     }
 
 pub simple-runs-computed : SimpleRunsComputed

@@ -2,20 +2,19 @@
 use Prim.Native.Nat.{ℕ, _<_}
 use native.Mathlib.Omega.{arith}
 use mathlib.Core.Path.{_≡_, refl, sym, ap, _∙_}
-use mathlib.Core.List.{List, append-nil, flatten}
+use mathlib.Core.List.{List, flatten}
 use mathlib.Core.Bool.{Bool, true}
 use Rattle.bounded.specs.Limits.{Widths}
 use Rattle.bounded.specs.Choice.{on-eq, on-lt, never}
 use Rattle.outcome.specs.Outcome.{Outcome}
 use Rattle.sizes.specs.declared.Sizes.{Sizes}
-use Rattle.record.specs.Flash.{Flash, Step, applyAllIn}
+use Rattle.record.specs.Flash.{Step, applyAllIn}
 use Rattle.rules.specs.Volume.{Volume}
-use Rattle.rules.specs.Erase.{eraseSteps}
 use Rattle.atomicity.specs.Family.{Family}
 use Rattle.atomicity.specs.Call.{Call, withState, withFlash, perform, plannedStages, flashStages}
 use Rattle.atomicity.specs.Run.{wasDone}
 use Rattle.atomicity.specs.Companions.{StagesInOrder}
-use Rattle.atomicity.specs.steps.Theory.{Theory, write-done, erase-done, clean-done}
+use Rattle.atomicity.specs.steps.Theory.{Theory, spared-done, write-done}
 use Rattle.atomicity.specs.steps.Stages.{answer-is, refused-leaves, refused-stages, accepted-stages, done-before, done-behind, cut-exactly, cut-past-last}
 
 module _ {F : Family} (T : Theory F) (widths : Widths) (sizes : Sizes) (v : Volume) where
@@ -25,9 +24,10 @@ module _ {F : Family} (T : Theory F) (widths : Widths) (sizes : Sizes) (v : Volu
   planned-left (Call.Launch pages) e = refl
   planned-left (Call.Write page slot bytes) e = ap (λ (o : Outcome Volume). o .left .flash) (write-done T widths sizes v page slot bytes e)
   planned-left (Call.Withdraw page) e = refl
-  planned-left (Call.Erase slots) e = ap (λ (o : Outcome Flash). o .left) (erase-done T widths sizes v slots e) ∙ ap (applyAllIn (F .layout) (sizes .width) (v .flash)) (sym (append-nil (eraseSteps slots)))
+  planned-left (Call.Erase slots) e = spared-done (T .erases slots) widths sizes v e
   planned-left Call.Recover e = refl
-  planned-left (Call.Clean block) e = ap (λ (o : Outcome Flash). o .left) (clean-done T widths sizes v block e)
+  planned-left (Call.Clean block) e = spared-done (T .cleans block) widths sizes v e
+  planned-left Call.Sweep e = spared-done (T .sweeps) widths sizes v e
 
   -- what any call leaves
   pub performs-stages : (call : Call) → perform F widths sizes v call .left .flash ≡ applyAllIn (F .layout) (sizes .width) (v .flash) (flatten (flashStages F widths sizes v call))

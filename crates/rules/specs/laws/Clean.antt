@@ -55,7 +55,7 @@ unfolding isBlank
 holds-test e = rw e
 
 -- a table is sound whose records are
-sound-slots : (P S : ℕ) (t : ℕ → Slot) → ((k : ℕ) (r : Record) → k < S → t k ≡ Holds r → recordSound P r ≡ true) → tableSound P S t ≡ true
+pub sound-slots : (P S : ℕ) (t : ℕ → Slot) → ((k : ℕ) (r : Record) → k < S → t k ≡ Holds r → recordSound P r ≡ true) → tableSound P S t ≡ true
 unfolding tableSound slotSound
 sound-slots P S t each = all-of (λ k. slotSound P (t k)) S (λ k h. holds-or-blank {C = slotSound P (t k) ≡ true} (t k) (λ e. rw e) (λ r e. rw e (each k r h e)))
 

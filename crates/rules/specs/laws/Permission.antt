@@ -56,7 +56,7 @@ module _ (S : ℕ) (t : ℕ → Slot) (st : ℕ → PageState) where
   abbrev pub Erasable : Record → Type 0
   Erasable r = (Obsolete st r × ¬ (Needed r)) ⊎ ExposedSpare st r
 
-  needed-exactly : (K : Record) → (isNeeded S t st K ≡ true) ↔ Needed K
+  pub needed-exactly : (K : Record) → (isNeeded S t st K ≡ true) ↔ Needed K
   unfolding isNeeded outdoneBy supports
   needed-exactly K = (
     λ e. let w = i .0 e in record { furthest = λ k r h f p c v. w .0 (k, r, h, f, (p, (c, v))); supports = w .1 },

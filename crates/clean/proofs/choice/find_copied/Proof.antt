@@ -13,12 +13,12 @@ link-slots-requires : tie.Need-link-slots-requires
 link-slots-requires c κs = search needs
 
 find-exposed-requires : tie.Need-find-exposed-requires
-find-exposed-requires c κs = let p = c .before .before .before .before .before .before .pre in linkable-within _ _ _ _ (p .linkable) (p .pages-in)
+find-exposed-requires c κs = let p = c .before .before .before .before .before .before .pre in linkable-within _ _ _ _ (p .flash-sound .linkable) (p .pages-in)
 
 mark-block-requires : tie.Need-mark-block-requires
 mark-block-requires c κs =
     let p = c .before .before .before .before .before .before .before .before .pre in
-    let few = p .linkable .slots-few in
+    let few = p .flash-sound .linkable .slots-few in
     let i = p .block-in .inside in
     record { ordered = p .block-in .ordered; inside = omega arith }
 
@@ -26,14 +26,14 @@ array-share-prefix-found : tie.Need-array-share-prefix-found
 array-share-prefix-found c = search needs
 
 slice-aggregate-note-copied : tie.Need-slice-aggregate-note-copied
-slice-aggregate-note-copied c = sym (noted-length _ _ _ _ (c .before .before .before .before .find-exposed .ensures .0) (c .before .before .before .before .before .before .before .before .before .before .before .pre .linkable .slots-few))
+slice-aggregate-note-copied c = sym (noted-length _ _ _ _ (c .before .before .before .before .find-exposed .ensures .0) (c .before .before .before .before .before .before .before .before .before .before .before .pre .flash-sound .linkable .slots-few))
 
 note-copied-requires : tie.Need-note-copied-requires
 note-copied-requires c κs =
     let p = c .before .before .before .before .before .before .before .before .before .before .before .before .before .pre in
-    let sized = p .flash-sized .contents-sized in
+    let sized = p .flash-sound .flash-sized .contents-sized in
     record {
-      judgeable = judgeable _ _ _ _ _ _ _ _ _ (p .linkable) (p .pages-in) (omega arith) (c .before .before .before .before .before .before .before .before .link-slots .ensures) (c .before .before .before .before .before .before .find-exposed .ensures .0);
+      judgeable = judgeable _ _ _ _ _ _ _ _ _ (p .flash-sound .linkable) (p .pages-in) (omega arith) (c .before .before .before .before .before .before .before .before .link-slots .ensures) (c .before .before .before .before .before .before .find-exposed .ensures .0);
       exposed = c .before .before .before .before .before .before .find-exposed .ensures .1;
       block-marked = c .before .before .before .before .mark-block .ensures;
       block-in = p .block-in;

@@ -9,7 +9,7 @@ use Rattle.record.specs.Flash.{flash}
 use Rattle.state.specs.State.{stateAt}
 use Rattle.twins.specs.Twins.{twins}
 use Rattle.rules.specs.Clean.{isCopied}
-use Rattle.clean.specs.BlockLaws.{inside-block, before-block, behind-block}
+use Rattle.judge.specs.BlockTwins.{inside-block, before-block, behind-block}
 use Rattle.clean.specs.Choosing.{outside-stays}
 use Rattle.clean.proofs.choice.note_copied.Statement.{statement}
 use Rattle.clean.proofs.choice.note_copied.Tie as tie

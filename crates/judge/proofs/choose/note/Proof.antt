@@ -3,8 +3,8 @@ use borrow.Author.Needs.{needs}
 use borrow.Author.Tests.{not-true, not-false}
 use mathlib.Core.Path.{sym, _∙_}
 use Rattle.bounded.specs.Noted.{noted-stays, noted-more}
-use Rattle.clean.proofs.choice.note.Statement.{statement}
-use Rattle.clean.proofs.choice.note.Tie as tie
+use Rattle.judge.proofs.choose.note.Statement.{statement}
+use Rattle.judge.proofs.choose.note.Tie as tie
 
 returns : tie.Need-returns
 returns c = λ f e n. noted-stays f _ _ _ n (sym e ∙ not-true _ (c .if1 .taken))

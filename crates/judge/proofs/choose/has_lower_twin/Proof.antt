@@ -13,11 +13,10 @@ use Rattle.record.specs.Flash.{flash}
 use Rattle.twins.specs.Twins.{twins}
 use Rattle.chain.specs.Chain.{chainOf}
 use Rattle.chain.specs.ChainLaws.{Left, search-goes-on, search-falls}
 use Rattle.judge.specs.Judgeable.{slot-inside}
-use Rattle.clean.specs.BlockLaws.{inside-block, before-block, block-facts}
-use Rattle.clean.specs.Choosing.{holds-a-record, lowerTwin, lower-in-chain, lower-begins, lower-entry, not-lower, lower-ends}
-use Rattle.clean.proofs.choice.has_lower_twin.Statement.{statement}
-use Rattle.clean.proofs.choice.has_lower_twin.Tie as tie
+use Rattle.judge.specs.BlockTwins.{inside-block, before-block, block-facts, holds-a-record, lowerTwin, lower-in-chain, lower-begins, lower-entry, not-lower, lower-ends}
+use Rattle.judge.proofs.choose.has_lower_twin.Statement.{statement}
+use Rattle.judge.proofs.choose.has_lower_twin.Tie as tie
 
 abbrev Inv-loop : tie.InvT-loop
 Inv-loop sizes words contents chains block slot end₀ end =

@@ -1,0 +1,76 @@
+-- The call sweep, document 02, wish 7: three erasures in a row, each finished before the next begins, and its outcome.
+use Prim.Native.Nat.{ℕ}
+use mathlib.Core.List.{List, [], _∷_, flatten}
+use mathlib.Core.Bool.{Bool, not, _&&_}
+use Rattle.bounded.specs.Limits.{Widths}
+use Rattle.bounded.specs.Below.{someBelow, listBelow}
+use Rattle.outcome.specs.Outcome.{_⇒_otherwise_, Outcome, settled}
+use Rattle.sizes.specs.declared.Sizes.{Sizes}
+use Rattle.record.specs.declared.Slot.{Slot}
+use Rattle.record.specs.Slot.{holds, slotAt}
+use Rattle.record.specs.Flash.{Flash, Step, applyAll}
+use Rattle.state.specs.declared.PageState.{PageState}
+use Rattle.state.specs.State.{stateAt, stateSound}
+use Rattle.table.specs.Table.{tableSound}
+use Rattle.twins.specs.Twins.{twins}
+use Rattle.rules.specs.Volume.{Volume, volumeFits}
+use Rattle.rules.specs.Permission.{isObsolete, isExposed, isCurrent, mayEraseFrom}
+use Rattle.rules.specs.Erase.{eraseSteps}
+
+-- ---- what each of the three erases; `twin j k` says that slots j and k are twins
+
+-- "first erases each exposed record other than one whose page is in flight with v = used"
+unfoldable pub isSpareExposed : (ℕ → Slot) → (ℕ → PageState) → ℕ → Bool
+isSpareExposed t st k = holds (λ r. isExposed st r && not (isCurrent st r)) (t k)
+
+-- "then each obsolete one that may then be erased, all judged as one list"
+unfoldable pub isObsoleteAt : (ℕ → Slot) → (ℕ → PageState) → ℕ → Bool
+isObsoleteAt t st k = holds (isObsolete st) (t k)
+
+unfoldable pub isErasableObsolete : ℕ → (ℕ → Slot) → (ℕ → PageState) → (twin : ℕ → ℕ → Bool) → ℕ → Bool
+isErasableObsolete S t st twin k = isObsoleteAt t st k && mayEraseFrom S t st twin (isObsoleteAt t st) k
+
+-- "and of other twins keeps the lowest"
+unfoldable pub isHigherTwin : (twin : ℕ → ℕ → Bool) → ℕ → Bool
+isHigherTwin twin k = someBelow k (λ j. twin j k)
+
+-- ---- the single steps, fixed from the volume before the call: "Its steps are listed and done as in cleaning"
+
+module _ (sizes : Sizes) (v : Volume) where
+  unfoldable pub sweptExposed : List ℕ
+  sweptExposed = listBelow (sizes .slots) (isSpareExposed (slotAt (v .flash .words)) (stateAt (v .state)))
+
+  -- the flash without these
+  unfoldable pub withoutExposed : Flash
+  withoutExposed = applyAll (sizes .width) (v .flash) (eraseSteps sweptExposed)
+
+  unfoldable pub sweptObsolete : List ℕ
+  sweptObsolete = listBelow (sizes .slots) (isErasableObsolete (sizes .slots) (slotAt (withoutExposed .words)) (stateAt (v .state)) (twins (sizes .width) withoutExposed))
+
+  -- … and without these
+  unfoldable pub withoutObsolete : Flash
+  withoutObsolete = applyAll (sizes .width) withoutExposed (eraseSteps sweptObsolete)
+
+  unfoldable pub sweptTwins : List ℕ
+  sweptTwins = listBelow (sizes .slots) (isHigherTwin (twins (sizes .width) withoutObsolete))
+
+  -- Where a cut may fall: "its erasings (exposed, obsolete, spare twins) follow in that order, each finished before the next begins, and a cut may leave any part of the one it meets done"
+  unfoldable pub sweepStages : List (List Step)
+  sweepStages = eraseSteps sweptExposed ∷ eraseSteps sweptObsolete ∷ eraseSteps sweptTwins ∷ []
+
+  unfoldable pub sweepSteps : List Step
+  sweepSteps = flatten sweepStages
+
+-- ---- the call
+
+-- "It refuses by 1, 2 and 5 as erase does."
+unfoldable pub sweepAnswer : Widths → Sizes → Volume → ℕ
+sweepAnswer widths sizes v =
+    not (volumeFits widths sizes v) ⇒ 1 otherwise
+    not (tableSound (sizes .pages) (sizes .slots) (slotAt (v .flash .words))) ⇒ 2 otherwise
+    not (stateSound (sizes .pages) (stateAt (v .state))) ⇒ 5 otherwise
+    0
+
+-- It alters the flash alone, by these steps.
+unfoldable pub sweepOutcome : Widths → Sizes → Volume → Outcome Flash
+sweepOutcome widths sizes v = settled (sweepAnswer widths sizes v) 0 0 (v .flash) (applyAll (sizes .width) (v .flash) (sweepSteps sizes v))
