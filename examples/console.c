@@ -1,17 +1,23 @@
 /*
  * A small console over a simulated flash file, of a chip that programs a slot by itself and erases blocks of slots, small ones at its
- * front and larger ones behind. It stores sets of pistons, is killed at a random flash step, powers up again, and finds every set
- * whole: all old or all new.
+ * front and larger ones behind, or of one that erases a slot by itself, too. It stores sets of pistons, is killed at a random flash
+ * step, powers up again, and finds every set whole: all old or all new.
  *
  *   console FILE           powers up from FILE (made and formatted where it is missing) and lists the pistons
  *   console FILE N SEED    formats FILE and stores random sets, N times killed; after each kill powers up and compares
  *
- * A piston has 32 bytes, 256 stops; with a last argument 64 it has 64 bytes, 512 stops. A FILE that is there and is no flash file
- * of this console and this width, by its length, is left as it is.
+ * Behind these may stand, in this order:
  *
- * The driver is what firmware has to supply: lend the table of the chip's blocks; load the flash at power-up; program one slot at a
- * time from the images in memory, wholly or not at all, before the next call; and erase a block only when every copy out of it is
- * programmed. A freshly formatted file is moved into place in one piece: that stands for the marker that a chip's driver keeps
+ *   64       a piston has 64 bytes, 512 stops; else it has 32 bytes, 256 stops
+ *   slots    the chip erases slots, and the console sweeps; else it erases blocks, and the console cleans
+ *
+ * A FILE that is there and is no flash file of this console and this width, by its length, is left as it is. Both chips have the same
+ * slots: a file of the one is a file of the other.
+ *
+ * The driver is what firmware has to supply: load the flash at power-up; program one slot at a time from the images in memory, wholly
+ * or not at all, before the next call. Of a chip of blocks: lend their table, and erase a block only when every copy out of it is
+ * programmed. Of a chip of slots: erase what a sweep blanked in the images in three stages, each finished before the next begins. A
+ * freshly formatted file is moved into place in one piece: that stands for the marker that a chip's driver keeps
  * (docs/INTEGRATION.md, "First boot"). POSIX for the processes; the use of the library is plain C99.
  */
 #define _POSIX_C_SOURCE 200809L
@@ -36,6 +42,12 @@ static const uint32_t starts[BLOCKS] = {0, 8, 16, 32, 64, 128};
 /* How many blank slots are kept in reserve for cleaning: as many as the largest block has slots. A block of m slots with n records has
  * m - n of them at most, so that n or more are outside it: enough to copy all its records, whatever they are. */
 enum { RESERVE = LARGEST_BLOCK };
+
+/* How few slots are blank where the chip of slots is swept. */
+enum { SWEPT_AT = 16 };
+
+/* Whether the chip erases slots: then the console sweeps, and never cleans. */
+static int erases_slots;
 
 /* The bytes of a piston: the width of the volume. */
 static uint32_t width = BPCC_WIDTH_32;
@@ -119,21 +131,33 @@ static void program(uint32_t k) {
     step();
 }
 
+/* Makes slot k of the flash erased. */
+static void wipe(uint32_t k) {
+    uint8_t erased[SLOT_BYTES(BPCC_MAX_WIDTH)];
+    memset(erased, 255, sizeof erased);
+    put(k, erased);
+}
+
 /* Erases a block. Where the power fails, some of its slots are erased and the others as they were. */
 static void erase_block(uint32_t block) {
     const uint32_t end = block + 1 < BLOCKS ? starts[block + 1] : SLOTS;
-    uint8_t erased[SLOT_BYTES(BPCC_MAX_WIDTH)];
     int cut = power_fails();
     uint32_t k;
-    memset(erased, 255, sizeof erased);
     for (k = starts[block]; k < end; k++) {
         if (!cut || rand() % 2 == 0) {
-            put(k, erased);
+            wipe(k);
         }
     }
     if (cut) {
         raise(SIGKILL);
     }
+    step();
+}
+
+/* Erases a slot, wholly or not at all. */
+static void erase_slot(uint32_t k) {
+    step();
+    wipe(k);
     step();
 }
 
@@ -153,7 +177,7 @@ static int is_blank(uint32_t k) {
 /* Makes a formatted flash file under another name and moves it into place, so that it is there whole or not at all. */
 static void make_flash(const char *path) {
     char fresh[4096];
-    uint32_t block, k;
+    uint32_t k;
     if (snprintf(fresh, sizeof fresh, "%s.new", path) >= (int)sizeof fresh) {
         fail("the flash file's name is too long");
     }
@@ -162,10 +186,8 @@ static void make_flash(const char *path) {
     if (flash < 0) {
         fail("the flash file cannot be made");
     }
-    for (block = 0; block < BLOCKS; block++) {
-        erase_block(block);
-    }
     for (k = 0; k < SLOTS; k++) {
+        wipe(k);
         if (!is_blank(k)) {
             program(k);
         }
@@ -186,15 +208,17 @@ static int is_there(const char *path) {
         fail("the file is no flash file of this console");
     }
     if (file.st_size != FLASH_BYTES(width)) {
-        fail(width == BPCC_WIDTH_32 ? "the file has pistons of 64 bytes: the last argument 64 is missing"
-                                    : "the file has pistons of 32 bytes: leave out the last argument 64");
+        fail(width == BPCC_WIDTH_32 ? "the file has pistons of 64 bytes: the argument 64 is missing"
+                                    : "the file has pistons of 32 bytes: leave out the argument 64");
     }
     return 1;
 }
 
-/* Checks the table of blocks, before anything is erased by it. */
+/* Checks the table of blocks, where the chip has any, before anything is erased by it. */
 static void check_blocks(void) {
-    done("check_blocks", bpcc_check_blocks(VOLUME, STARTS));
+    if (!erases_slots) {
+        done("check_blocks", bpcc_check_blocks(VOLUME, STARTS));
+    }
 }
 
 /* The block that is cleaned next. */
@@ -249,16 +273,80 @@ static uint32_t blank_slots(void) {
     return count;
 }
 
-/* How many blocks were cleaned since power-up. */
-static uint32_t cleaned;
+/* How many blocks were cleaned, or sweeps finished, since power-up. */
+static uint32_t tidied;
+
+/* Which stage of a sweep erases slot k, told by what the chip still has in it and the state: 1, 2 or 3; 0 where it is not erased. */
+static int stage_of(uint32_t k) {
+    uint8_t piece[SLOT_BYTES(BPCC_MAX_WIDTH)];
+    uint32_t record[BPCC_SLOT_WORDS], version, committed, used, in_flight;
+    const uint32_t *page;
+    get(k, piece);
+    memcpy(record, piece, sizeof record);
+    if (record[0] == BPCC_NONE || !is_blank(k)) {
+        return 0;
+    }
+    page = state + BPCC_PAGE_WORDS * record[0];
+    version = record[1];
+    committed = page[0];
+    used = page[1];
+    in_flight = page[2] != BPCC_NONE;
+    if (version > committed && !(in_flight && version == used)) {
+        return 1;
+    }
+    return version < committed ? 2 : 3;
+}
+
+/* Erases the slots of a stage, in any order. */
+static void erase_stage(int stage) {
+    uint32_t slots[SLOTS], count = 0, i, k;
+    for (k = 0; k < SLOTS; k++) {
+        if (stage_of(k) == stage) {
+            slots[count++] = k;
+        }
+    }
+    for (; count > 0; count--) {
+        i = (uint32_t)rand() % count;
+        erase_slot(slots[i]);
+        slots[i] = slots[count - 1];
+    }
+}
+
+/* The chip holds a record for each piston, one more for each that is in flight and written, and nothing else. */
+static void check_swept(void) {
+    uint8_t piece[SLOT_BYTES(BPCC_MAX_WIDTH)];
+    uint32_t expected = PAGES, records = 0, word, page, k;
+    for (page = 0; page < PAGES; page++) {
+        expected += state[BPCC_PAGE_WORDS * page + 3];
+    }
+    for (k = 0; k < SLOTS; k++) {
+        get(k, piece);
+        memcpy(&word, piece, sizeof word);
+        records += word != BPCC_NONE;
+    }
+    if (records != expected) {
+        fail("a sweep left another number of records");
+    }
+}
+
+/* Sweeps: first in the images, then on the chip, stage by stage. The third is empty on a chip that is never cleaned: it has no twins. */
+static void sweep(void) {
+    int stage;
+    done("sweep", bpcc_sweep(VOLUME, WORDS, CONTENTS, STATE));
+    for (stage = 1; stage <= 3; stage++) {
+        erase_stage(stage);
+    }
+    check_swept();
+    tidied++;
+}
 
 /* Cleans blocks in turn, which wears them alike, until more slots are blank than the reserve. Copies that a power failure left beside
  * their originals may have used some of the reserve, so that a block has to wait; the one that was being cleaned never has to. */
-static void make_room(void) {
+static void clean_blocks(void) {
     uint32_t refused = 0;
     while (blank_slots() <= RESERVE) {
         if (clean(next_block)) {
-            cleaned++;
+            tidied++;
             refused = 0;
         } else if (++refused == BLOCKS) {
             fail("no block can be cleaned");
@@ -267,7 +355,17 @@ static void make_room(void) {
     }
 }
 
-/* A blank slot, the next from `start` on, that is not of the reserve. */
+/* Makes room. A sweep needs no blank slot and leaves at most two records of each piston: the chip of slots is swept when few slots are
+ * blank, and now and then before, in the middle of a set. */
+static void make_room(void) {
+    if (!erases_slots) {
+        clean_blocks();
+    } else if (blank_slots() <= SWEPT_AT || rand() % 16 == 0) {
+        sweep();
+    }
+}
+
+/* A blank slot, the next from `start` on, once there is room. */
 static uint32_t blank_slot(uint32_t start) {
     uint32_t slot = start;
     make_room();
@@ -305,16 +403,16 @@ static int store(const uint32_t *set, uint32_t count, uint32_t n, uint32_t piece
 }
 
 /* What the console tells its observer: it is about to store a set (its pistons as bits), or the set is stored; and how many blocks
- * it has cleaned. */
+ * it has cleaned, or sweeps finished. */
 struct note {
-    uint32_t stored, n, set, cleaned;
+    uint32_t stored, n, set, tidied;
 };
 
-/* Stores random sets until the power fails. */
+/* Stores random sets until the power fails, now and then with a sweep between them. */
 static void play(const char *path, int notes, uint32_t n) {
     power_up(path);
     for (;; n++) {
-        struct note note = {0, n, 0, cleaned};
+        struct note note = {0, n, 0, tidied};
         uint32_t set[PAGES], i, count = 1 + (uint32_t)rand() % PAGES, first = (uint32_t)rand() % PAGES;
         uint32_t stride = 1 + 2 * ((uint32_t)rand() % 4), pieces = rand() % 3 == 0 ? (uint32_t)rand() % count : count;
         for (i = 0; i < count; i++) {
@@ -324,8 +422,11 @@ static void play(const char *path, int notes, uint32_t n) {
         if (write(notes, &note, sizeof note) != (ssize_t)sizeof note) {
             exit(1);
         }
+        if (erases_slots && rand() % 8 == 0) {
+            sweep();
+        }
         note.stored = (uint32_t)store(set, count, n, pieces);
-        note.cleaned = cleaned;
+        note.tidied = tidied;
         step();
         if (note.stored && write(notes, &note, sizeof note) != (ssize_t)sizeof note) {
             exit(1);
@@ -371,7 +472,7 @@ static struct note follow(int notes, uint32_t *kept, unsigned *sets) {
 /* Kills the console so many times at a random step, powers up after each, and compares. */
 static int trial(const char *path, unsigned kills, unsigned seed) {
     uint32_t kept[PAGES] = {0}, n = 1;
-    unsigned i, sets = 0, blocks = 0;
+    unsigned i, sets = 0, tidy = 0;
     check_blocks();
     is_there(path);
     make_flash(path);
@@ -391,7 +492,7 @@ static int trial(const char *path, unsigned kills, unsigned seed) {
         }
         close(ends[1]);
         last = follow(ends[0], kept, &sets);
-        blocks += last.cleaned;
+        tidy += last.tidied;
         close(ends[0]);
         n = last.n == 0 ? n : last.n + 1;
         waitpid(child, &status, 0);
@@ -406,7 +507,7 @@ static int trial(const char *path, unsigned kills, unsigned seed) {
         }
         close(flash);
     }
-    printf("%u kills, %u sets stored, %u blocks cleaned, every set whole\n", kills, sets, blocks);
+    printf("%u kills, %u sets stored, %u %s, every set whole\n", kills, sets, tidy, erases_slots ? "sweeps finished" : "blocks cleaned");
     return 0;
 }
 
@@ -434,6 +535,10 @@ static unsigned number(const char *word) {
 
 int main(int argc, char **argv) {
     int named = argc > 1 && argv[1][0] != '-' && argv[1][0] != '\0';
+    if (argc > 2 && strcmp(argv[argc - 1], "slots") == 0) {
+        erases_slots = 1;
+        argc--;
+    }
     if (argc > 1 && argc % 2 == 1 && strcmp(argv[argc - 1], "64") == 0) {
         width = BPCC_WIDTH_64;
         argc--;
@@ -444,6 +549,6 @@ int main(int argc, char **argv) {
     if (named && argc == 4 && number(argv[2]) != 0 && number(argv[3]) != 0) {
         return trial(argv[1], number(argv[2]), number(argv[3]));
     }
-    fprintf(stderr, "usage: console FILE [KILLS SEED] [64]   (KILLS and SEED from 1 up)\n");
+    fprintf(stderr, "usage: console FILE [KILLS SEED] [64] [slots]   (KILLS and SEED from 1 up)\n");
     return 2;
 }

@@ -88,8 +88,8 @@ static void expect_state(uint32_t page, uint32_t committed, uint32_t used, uint3
     check(at[0] == committed && at[1] == used && at[2] == next && at[3] == written, name);
 }
 
-/* The calls of both families; suggest, check_blocks, clean and count are bpcc.h's alone. */
-enum call { FORMAT, LAUNCH, WRITE, WITHDRAW, ERASE, SUGGEST, CHECK_BLOCKS, CLEAN, RECOVER, COUNT, READ };
+/* The calls of both families; suggest, check_blocks, clean, sweep and count are bpcc.h's alone. */
+enum call { FORMAT, LAUNCH, WRITE, WITHDRAW, ERASE, SUGGEST, CHECK_BLOCKS, CLEAN, SWEEP, RECOVER, COUNT, READ };
 
 /* A call, and the buffers that it takes. */
 struct taking {

@@ -26,6 +26,12 @@ static void lend_two_blocks(void) {
     starts[1] = BLOCK;
 }
 
+/* By hand: a slot becomes another's twin. */
+static void copy_slot(uint32_t from, uint32_t to) {
+    memcpy(words + BPCC_SLOT_WORDS * to, words + BPCC_SLOT_WORDS * from, BPCC_SLOT_WORDS * sizeof *words);
+    memcpy(contents + width * to, contents + width * from, width);
+}
+
 /* A set of both pages, stored; block 0 is cleaned, then the two slots behind it. */
 static void cleaning(void) {
     const uint32_t both[] = {0, 1};
@@ -56,8 +62,7 @@ static void cleaning(void) {
 /* … and a slot of it copied by hand, as by a cut after a copy: recover takes twins, and one of them may go. */
 static void twins(void) {
     const uint32_t two[] = {0, BLOCK};
-    memcpy(words + BPCC_SLOT_WORDS * two[1], words, BPCC_SLOT_WORDS * sizeof *words);
-    memcpy(contents + width * two[1], contents, width);
+    copy_slot(two[0], two[1]);
     crash();
     expect(recover(), BPCC_DONE, 2 + 2, "recover twins");
     expect(suggest(), BPCC_DONE, 0, "suggest the lower twin");

@@ -8,7 +8,7 @@
  *
  * A time is the shortest of ROUNDS calls, each on the volume as it was made, less what reading the clock takes: what else the
  * machine does is left out. The calls themselves make the volumes, but for those made by hand, to which no list of calls leads:
- * erase, suggest, clean and recover accept any sound records, and search or follow longest on these.
+ * erase, suggest, clean, sweep and recover accept any sound records, and search or follow longest on these.
  */
 #define _POSIX_C_SOURCE 200809L
 
@@ -20,10 +20,10 @@
 #include <time.h>
 
 enum { SIZES = 5, ROUNDS = 101 };
-enum call { FORMAT, LAUNCH, WRITE, WITHDRAW, ERASE, SUGGEST, CLEAN, RECOVER, COUNT, READ, SCC_WRITE, SCC_ERASE, SCC_RECOVER, CALLS };
+enum call { FORMAT, LAUNCH, WRITE, WITHDRAW, ERASE, SUGGEST, CLEAN, SWEEP, RECOVER, COUNT, READ, SCC_WRITE, SCC_ERASE, SCC_RECOVER, CALLS };
 
-static const char *const names[CALLS] = {"format",  "launch", "write", "withdraw",  "erase",     "suggest",    "clean",
-                                         "recover", "count",  "read",  "scc_write", "scc_erase", "scc_recover"};
+static const char *const names[CALLS] = {"format", "launch",  "write", "withdraw", "erase",     "suggest",   "clean",
+                                         "sweep",  "recover", "count", "read",     "scc_write", "scc_erase", "scc_recover"};
 static const uint32_t sizes[SIZES] = {64, 128, 256, 512, 1024};
 
 /* A volume. Calls on it are given its last page, its last slot, its table of blocks and block 0 of it, and the list of the `listed`
@@ -59,6 +59,7 @@ static uint64_t reply_of(enum call call) {
     case SCC_ERASE: return FAMILY(erase, VOLUME, WORDS, CONTENTS, STATE, list + v.first, v.listed);
     case SUGGEST: return bpcc_suggest(VOLUME, WORDS, CONTENTS, STATE);
     case CLEAN: return bpcc_clean(VOLUME, WORDS, CONTENTS, STATE, v.starts, v.blocks, 0);
+    case SWEEP: return bpcc_sweep(VOLUME, WORDS, CONTENTS, STATE);
     case RECOVER: return bpcc_recover(VOLUME, WORDS, CONTENTS, STATE);
     case SCC_RECOVER: return scc_recover(VOLUME, WORDS, STATE);
     case COUNT: return bpcc_count(bytes, width);
@@ -330,6 +331,37 @@ static void alike(uint32_t slots) {
     }
 }
 
+/* By hand: the last record of each two of these becomes a twin of the first. */
+static void pairs(uint32_t slots) {
+    uint32_t slot;
+    alike(slots);
+    for (slot = 0; slot < slots / 2; slot++) {
+        memcpy(v.contents + width * (slots / 2 + slot), v.contents + width * slot, width);
+    }
+}
+
+/* By hand: page 1 in flight, with half of the slots at its used version, and obsolete records of page 0, none of which straddles one of
+ * their links. */
+static void unstraddled_in_flight(uint32_t slots) {
+    const uint32_t state[] = {9, 9, BPCC_NONE, 0, 0, 1, 1, 1};
+    uint32_t slot;
+    format(slots, 2);
+    memcpy(v.state, state, sizeof state);
+    for (slot = 0; slot < slots / 2; slot++) {
+        set(slot, 0, 1 + slot % 8, 0, 0, 1 + slot % 8);
+        set(slots / 2 + slot, 1, 1, 0, 0, 8);
+    }
+}
+
+/* By hand: obsolete records alike but for their last bytes, each of which straddles the link behind them, of a page in flight at used. */
+static void needed_alike(uint32_t slots) {
+    uint32_t slot;
+    chain_needed(slots);
+    for (slot = 0; slot < slots - 1; slot++) {
+        set(slot, 0, 7, 0, 0, 7);
+    }
+}
+
 /* By hand: room for what is copied out of block 0, as many slots at the end; a volume of one block has none. Gives the slots of block
  * 0. */
 static uint32_t room(void) {
@@ -403,6 +435,16 @@ static const struct kind {
     {CLEAN, BPCC_DONE, half_alike, "P = 1, by hand, a block of S/2 records alike but for their last bytes, all to copy"},
     {CLEAN, BPCC_DONE, half_needed, "P = S, by hand, a block of S/2-1 needed records of one chain and their link, all to copy"},
     {CLEAN, BPCC_TOO_FEW_BLANK, all_alike, "P = 1, by hand, one block of S records alike but for their last bytes"},
+    {SWEEP, BPCC_DONE, at_rest, "P = S, rings of all, no slot blank"},
+    {SWEEP, BPCC_DONE, unstraddled, "P = 2, half of the slots obsolete, the others exposed"},
+    {SWEEP, BPCC_DONE, needed, "P = 2, S/2-2 needed records before their links"},
+    {SWEEP, BPCC_DONE, outdone, "P = 2, S-4 records, each outdone by those before it"},
+    {SWEEP, BPCC_DONE, unstraddled_in_flight, "P = 2, by hand, half of the slots obsolete, the others in flight at used"},
+    {SWEEP, BPCC_DONE, chain_outdone, "P = S, by hand, S-3 records of one chain, outdone by its first two"},
+    {SWEEP, BPCC_DONE, twins, "P = 1, by hand, S twins"},
+    {SWEEP, BPCC_DONE, pairs, "P = 1, by hand, S/2 records alike but for their last bytes, and a twin of each"},
+    {SWEEP, BPCC_DONE, alike, "P = 1, by hand, S records alike but for their last bytes"},
+    {SWEEP, BPCC_DONE, needed_alike, "P = S, by hand, S-1 needed records alike but for their last bytes"},
     {RECOVER, BPCC_DONE, ring, "P = S/2, a ring of all, no slot blank"},
     {RECOVER, BPCC_DONE, one_ring, "P = S, by hand, a ring of all, no other record"},
     {RECOVER, BPCC_DONE, old_links, "P = S-2, links to older versions"},

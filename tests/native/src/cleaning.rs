@@ -46,14 +46,15 @@ pub fn clash(v: View, twins: Test) -> bool {
 
 /// "A slot whose twin is outside the erase list may always be erased, and if all twins are listed the old rule judges them."
 pub fn may_erase(v: View, twins: Test, listed: impl Fn(u32) -> bool, k: u32) -> bool {
-    (0..v.slots()).any(|l| !listed(l) && twins(v, k, l)) || old_rule(v.layout.family, v.words, v.state, k)
+    let twin_stays = || (0..v.slots()).any(|l| !listed(l) && twins(v, k, l));
+    v.slot(k).is_some() && (old_rule(v.layout.family, v.words, v.state, k) || twin_stays())
 }
 
-/// Whether every slot of a list may be erased.
-pub fn may_erase_all(v: View, twins: Test, list: &[u32]) -> bool {
+/// The slots of a list that may be erased.
+pub fn erasable<'a>(v: View<'a>, twins: Test, list: &'a [u32]) -> impl Iterator<Item = u32> + 'a {
     let mut marks = vec![false; v.slots() as usize];
     list.iter().for_each(|&k| marks[k as usize] = true);
-    list.iter().all(|&k| may_erase(v, twins, |l| marks[l as usize], k))
+    list.iter().copied().filter(move |&k| may_erase(v, twins, |l| marks[l as usize], k))
 }
 
 /// "Suggest judges a list of one."
@@ -79,7 +80,7 @@ pub fn blocks_of(size: u32, slots: u32) -> Vec<u32> {
     (0..slots).step_by(size as usize).take(MOST_BLOCKS).collect()
 }
 
-/// A step of cleaning: what a slot then holds, a record with its bytes, or nothing.
+/// A step of a cleaning or a sweep: what a slot then holds, a record with its bytes, or nothing.
 pub struct Step {
     pub slot: u32,
     pub held: Option<(Record, Vec<u8>)>,
@@ -101,5 +102,10 @@ pub fn blank_outside(v: View, block: Range<u32>) -> Vec<u32> {
 /// "The copies in their order, then the blankings": copies of the slots `from`, each to one of `to`.
 pub fn steps(v: View, from: &[u32], to: &[u32], block: Range<u32>) -> Vec<Step> {
     let copies = from.iter().zip(to).map(|(&k, &slot)| Step { slot, held: v.slot(k).map(|r| (r, v.bytes(k).to_vec())) });
-    copies.chain(block.map(|slot| Step { slot, held: None })).collect()
+    copies.chain(blankings(block)).collect()
+}
+
+/// A step for each slot that is blanked.
+pub fn blankings(slots: impl IntoIterator<Item = u32>) -> impl Iterator<Item = Step> {
+    slots.into_iter().map(|slot| Step { slot, held: None })
 }

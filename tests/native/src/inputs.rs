@@ -2,6 +2,7 @@
 
 pub mod arguments;
 pub mod blocks;
+pub mod straddled;
 
 use crate::implementations::reference::Reference;
 use crate::interface::{Family, NONE, WIDTHS};

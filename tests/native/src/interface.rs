@@ -59,6 +59,7 @@ macro_rules! calls {
             Bpcc Suggest     bpcc_suggest      (pages, slots, width, [words], [contents], [state])
             Bpcc CheckBlocks bpcc_check_blocks (pages, slots, width, [starts])
             Bpcc Clean       bpcc_clean        (pages, slots, width, [words], [contents], [state], [starts], block)
+            Bpcc Sweep       bpcc_sweep        (pages, slots, width, [words], [contents], [state])
             Bpcc Recover     bpcc_recover      (pages, slots, width, [words], [contents], [state])
             Bpcc Count       bpcc_count        ([bytes])
             Bpcc Read        bpcc_read         (pages, slots, width, [words], [contents], [state], page, [out])
@@ -106,6 +107,7 @@ pub enum Name {
     Suggest,
     CheckBlocks,
     Clean,
+    Sweep,
     Recover,
     Count,
     Read,

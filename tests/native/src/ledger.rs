@@ -35,7 +35,7 @@ impl Ledger {
             Call::Launch(list) => self.open.push(list.iter().map(|&p| (p, None)).collect()),
             Call::Write { page, bytes, .. } => self.entered(*page, bytes),
             Call::Withdraw(page) => self.open.retain(|ring| ring.iter().all(|(p, _)| p != page)),
-            Call::Erase(_) | Call::Clean { .. } => {}
+            Call::Erase(_) | Call::Clean { .. } | Call::Sweep => {}
             Call::Recover => self.open.clear(),
         }
     }

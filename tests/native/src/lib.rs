@@ -10,4 +10,5 @@ pub mod interface;
 pub mod ledger;
 pub mod random;
 pub mod rules;
+pub mod sweeping;
 pub mod volume;

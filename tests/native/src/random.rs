@@ -43,6 +43,13 @@ impl Random {
         list
     }
 
+    /// The numbers below n, in any order.
+    pub fn order(&mut self, n: u32) -> Vec<u32> {
+        let mut list: Vec<u32> = (0..n).collect();
+        self.shuffle(&mut list);
+        list
+    }
+
     /// Some of the numbers below n, at least one, in any order.
     pub fn subset(&mut self, n: u32) -> Vec<u32> {
         self.some_of((0..n).collect(), n)

@@ -2,7 +2,7 @@
 
 use crate::cleaning::{may_erase_alone, twins, View};
 use crate::interface::{Arguments, Calls, Family, Name, Reply, NONE, PAGE_WORDS};
-use crate::rules::{is_exposed, old_rule, records, slot, slot_bytes, slot_words, Record};
+use crate::rules::{is_exposed, old_rule, records, set_slot, slot, slot_bytes, slot_words, Record};
 use std::fmt;
 
 /// How slots lie in a volume's buffers: the family, by which a record has five words or four, and the bytes of contents for each slot.
@@ -73,6 +73,7 @@ pub enum Call {
     Withdraw(u32),
     Erase(Vec<u32>),
     Clean { starts: Vec<u32>, block: u32 },
+    Sweep,
     Recover,
 }
 
@@ -150,6 +151,7 @@ impl Volume {
             Call::Withdraw(page) => calls.call(Name::Withdraw, &mut Arguments { page, ..volume }),
             Call::Erase(ref list) => calls.call(Name::Erase, &mut Arguments { list, ..volume }),
             Call::Clean { ref starts, block } => calls.call(Name::Clean, &mut Arguments { starts, block, ..volume }),
+            Call::Sweep => calls.call(Name::Sweep, &mut { volume }),
             Call::Recover => calls.call(Name::Recover, &mut { volume }),
         }
     }
@@ -164,6 +166,18 @@ impl Volume {
 
     pub fn read(&mut self, calls: &dyn Calls, page: u32, out: &mut [u8]) -> Reply {
         calls.call(Name::Read, &mut Arguments { page, out, ..self.arguments() })
+    }
+
+    /// The contents of all pages, one after the other, as recovery finds them.
+    pub fn recovered(mut self, calls: &dyn Calls, when: &str) -> Vec<u8> {
+        let answer = self.call(calls, &Call::Recover).answer;
+        assert_eq!(answer, 0, "recover {when}: {:?}", self.words);
+        let width = self.sizes.width as usize;
+        let mut contents = vec![0xA5; width * self.sizes.pages as usize];
+        for (page, out) in (0..).zip(contents.chunks_mut(width)) {
+            assert_eq!(self.read(calls, page, out).answer, 0, "read of page {page} {when}");
+        }
+        contents
     }
 
     /// The blank slots, rising.
@@ -204,6 +218,11 @@ impl Volume {
     pub fn assert_cured(&mut self, calls: &dyn Calls, write: &Call) {
         let answers = [&Call::Erase(self.left_exposed()), write].map(|call| self.call(calls, call).answer);
         assert_eq!(answers, [0, 0], "erase of the exposed records and again {write:?}");
+    }
+
+    /// Blanks these slots.
+    pub fn blank(&mut self, slots: &[u32]) {
+        slots.iter().for_each(|&k| set_slot(self.sizes.layout(), &mut self.words, &mut self.contents, k, None));
     }
 
     /// Makes one slot what another is.

@@ -5,7 +5,7 @@ pub mod model;
 pub mod walk;
 
 use super::runs::run::Cleaning;
-use super::runs::{small_runs, told};
+use super::runs::{small_runs, told, told_sweeps};
 use crate::cleaning::blocks_of;
 use crate::harness::{caught, Group};
 use crate::implementations::compared::Compared;
@@ -69,11 +69,23 @@ const WIDE: usize = 6;
 /// they have.
 const BEHIND_CASE_6: [(Lent, u32, usize); 3] = [(Lent::OfTwo, 1, 7_731), (Lent::Any, 1, 15_964), (Lent::OfTwo, 2, 35_736)];
 
-/// What loses a page, and the tables by which it does. Only where there are several has a block twins within it.
-const WRONG: [(Fault, Lent); 3] = [
-    (Fault::DriverBlanksBeforeItCopies, Lent::OfTwo),
-    (Fault::IgnoresTwins(Name::Recover), Lent::OfTwo),
-    (Fault::CleanJudgesOneByOne, Lent::Any),
+/// What loses a page, the tables by which it does, and the pages that it takes. Only where there are several tables has a block twins
+/// within it, and a page alone is never written in flight.
+const WRONG: [(Fault, Lent, u32); 4] = [
+    (Fault::DriverBlanksBeforeItCopies, Lent::OfTwo, 1),
+    (Fault::IgnoresTwins(Name::Recover), Lent::OfTwo, 1),
+    (Fault::CleanJudgesOneByOne, Lent::Any, 1),
+    (Fault::SweepTakesRecordsInFlight, Lent::OfTwo, 2),
+];
+
+/// What loses a page, or leaves too many records, in a sweep behind case 6.
+const WRONG_SWEEPS: [Fault; 6] = [
+    Fault::DriverSweepsRising,
+    Fault::DriverSweepsObsoleteWithExposed,
+    Fault::SweepJudgesBeforeItErases,
+    Fault::SweepKeepsEveryTwin,
+    Fault::SweepTakesAllTwins,
+    Fault::SweepSaysNothingToErase,
 ];
 
 pub fn tests(group: &mut Group, layout: Layout) {
@@ -95,11 +107,19 @@ pub fn tests(group: &mut Group, layout: Layout) {
         let model = Model { calls: &Compared::new(TESTED), tables: Lent::Any.tables(4), versions: 1, fills: 1 };
         told_walk(walk(&model, layout.sizes(2, 4), &[]), 1_740)
     });
-    for (fault, lent) in WRONG {
-        group.test(&format!("{fault:?}: P = 1, S = 4, {lent} meets it"), || {
+    for (fault, lent, pages) in WRONG {
+        group.test(&format!("{fault:?}: P = {pages}, S = 4, {lent} meets it"), || {
             caught(|| {
                 let tables = lent.tables(4);
-                walk(&Model { calls: &Impostor(fault), tables, versions: 1, fills: 1 }, layout.sizes(1, 4), &[]);
+                walk(&Model { calls: &Impostor(fault), tables, versions: 1, fills: 1 }, layout.sizes(pages, 4), &[]);
+            })
+        });
+    }
+    for fault in WRONG_SWEEPS {
+        group.test(&format!("{fault:?}: behind case 6, S = 6, launched versions up to 2, {} meets it", Lent::OfTwo), || {
+            caught(|| {
+                let tables = Lent::OfTwo.tables(6);
+                walk(&Model { calls: &Impostor(fault), tables, versions: 2, fills: 1 }, layout.sizes(2, 6), &case_6(layout));
             })
         });
     }
@@ -119,7 +139,8 @@ fn case_6(layout: Layout) -> Vec<Call> {
 
 /// What a walk of so many states met.
 fn told_walk(found: Walk, expected: usize) -> String {
-    let Walk { states, depth, twinned, cleaned, copying, too_few } = found;
+    let Walk { states, depth, twinned, cleaned, copying, too_few, erasing } = found;
     assert_eq!(states, expected, "states");
-    format!("{states} states, {twinned} with twins, depth {depth}, {cleaned} cleanings, {copying} with copies, {too_few} refused by 15")
+    let cleaned = format!("{cleaned} cleanings, {copying} with copies, {too_few} refused by 15");
+    format!("{states} states, {twinned} with twins, depth {depth}, {cleaned}, {}", told_sweeps(states as u64, erasing))
 }

@@ -3,7 +3,9 @@
 pub mod block_tables;
 pub mod cleanings;
 pub mod exhaustive;
+pub mod kinds;
 pub mod lengths;
+pub mod sweepings;
 pub mod volumes;
 
 use crate::cleaning::blocks_of;
@@ -36,6 +38,7 @@ pub fn tests(group: &mut Group, layout: Layout) {
         group.plain("count of every bit and every byte", || lengths::compare_counts(&compared, layout));
         group.plain("count of every length", || lengths::compare_counted_lengths(&compared));
         blocks(group, &compared, layout);
+        sweeps(group, &compared, layout);
     }
     group.plain("the largest volume, one transaction over all pages", || volumes::compare_largest(&compared, layout));
     group.plain("lists of 100,001 entries", || volumes::compare_long_lists(&compared, layout));
@@ -82,6 +85,14 @@ fn blocks(group: &mut Group, compared: &Compared, layout: Layout) {
             });
         }
     }
+}
+
+/// Sweeps.
+fn sweeps(group: &mut Group, compared: &Compared, layout: Layout) {
+    group.test("40,000 volumes swept, every kind of sweep met at least 100 times", || sweepings::compare(compared, layout, 40_000));
+    group.test("every two records of two pages, versions up to 2, and a twin, swept on every sound state, words up to 2", || {
+        format!("{} sweeps", exhaustive::swept_states(compared, layout))
+    });
 }
 
 /// Slots, starts of a table, and how many sound ones there are: the first is 0, and the others are any of the slots behind it.

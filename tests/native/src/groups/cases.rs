@@ -1,10 +1,11 @@
-//! Document 01's table of cases, document 02's sentences on twins, cleaning and tables of blocks, and its four-word records, by the
-//! implementation under test and by the second one.
+//! Document 01's table of cases, document 02's sentences on twins, cleaning, tables of blocks and the sweep, and its four-word records, by
+//! the implementation under test and by the second one.
 
 pub mod blocks;
 pub mod cleaning;
 pub mod five_words;
 pub mod four_words;
+pub mod sweeping;
 pub mod twins;
 
 use crate::harness::Group;
@@ -34,6 +35,13 @@ const FIVE_WORDS: &[Case] = &[
     ("blocks: what cleaning refuses, in this order", blocks::order),
     ("blocks: small ones at the front, each cleaned", blocks::small_first),
     ("blocks: one volume, other tables", blocks::two_tables),
+    ("sweep: case 6's straddler goes behind the exposed record that needs it", sweeping::straddler),
+    ("sweep: of twins that stay the lowest alone", sweeping::twins),
+    ("sweep: a page in flight keeps its record at used, written or not", sweeping::in_flight),
+    ("sweep: nothing to erase is done", sweeping::nothing),
+    ("sweep: a straddler stays with a record in flight that needs it", sweeping::kept_straddler),
+    ("sweep: what it refuses, in this order", sweeping::refusals),
+    ("sweep: cuts in each erasing", sweeping::cuts),
 ];
 
 const FOUR_WORDS: &[Case] = &[

@@ -5,7 +5,7 @@ use super::runs::run::Cleaning;
 use super::runs::{long_runs, small_runs};
 use crate::harness::{caught, Group};
 use crate::implementations::compared::Compared;
-use crate::implementations::impostors::faults::{faults, losing, losing_in_blocks};
+use crate::implementations::impostors::faults::{faults, losing, losing_in_blocks, losing_in_sweeps};
 use crate::implementations::impostors::Impostor;
 use crate::volume::Layout;
 
@@ -27,6 +27,15 @@ pub fn tests(group: &mut Group, layout: Layout) {
             caught(|| {
                 for pages in [6, 3, 1] {
                     long_runs(&Impostor(fault), layout, pages, 100, 400);
+                }
+            })
+        });
+    }
+    for &fault in losing_in_sweeps(layout.family) {
+        group.test(&format!("{fault:?} is found in runs with sweeps and crashes"), || {
+            caught(|| {
+                for pages in [6, 3, 1] {
+                    small_runs(&Impostor(fault), layout, Cleaning::AnyBlocks, pages, 100, 400);
                 }
             })
         });

@@ -25,13 +25,6 @@ pub fn tests(group: &mut Group, layout: Layout) {
     group.test("100,000 volumes: 0 links where recovery is refused, else P to P×P", || bounds(&compared, layout, 100_000));
 }
 
-/// The numbers below n, in any order.
-fn shuffled(random: &mut Random, n: u32) -> Vec<u32> {
-    let mut list: Vec<u32> = (0..n).collect();
-    random.shuffle(&mut list);
-    list
-}
-
 /// Recovery of a volume is done, follows so many links, finds each page's committed and used version, and alters the state alone.
 fn assert_recovers(calls: &dyn Calls, volume: &Volume, links: u32, versions: &[(u32, u32)]) {
     let (mut got, mut expected) = (volume.clone(), volume.clone());
@@ -70,7 +63,7 @@ fn stored_rings(calls: &dyn Calls, layout: Layout) {
     for pages in 1..=256 {
         let mut v = Volume::formatted(calls, layout.sizes(pages, 2 * pages));
         assert_recovers(calls, &v, pages, &vec![(0, 0); pages as usize]);
-        let list = shuffled(&mut random, pages);
+        let list = random.order(pages);
         assert_eq!(v.call(calls, &Call::Launch(list.clone())), Reply::done(0));
         for (slot, &page) in (pages..).zip(&list) {
             let done = u32::from(slot + 1 == 2 * pages);
@@ -120,7 +113,7 @@ fn rings(calls: &dyn Calls, layout: Layout) {
 fn assert_rings(calls: &dyn Calls, random: &mut Random, layout: Layout, lengths: &[u32], links: u32) {
     let pages: u32 = lengths.iter().sum();
     let mut held = formatted(pages);
-    let mut rest = &shuffled(random, pages)[..];
+    let mut rest = &random.order(pages)[..];
     for &k in lengths {
         let (cut, others) = rest.split_at(k as usize);
         held.extend(ring(cut));
@@ -136,7 +129,7 @@ fn chains(calls: &dyn Calls, layout: Layout) {
     let random = &mut Random::new(u64::from(layout.width));
     for n in 1..256 {
         let pages = n + 1;
-        let list = shuffled(random, pages);
+        let list = random.order(pages);
         let (whole, last) = (ring(&list), list[n as usize]);
         let (chain, end) = whole.split_at(n as usize);
         let mut assert_ends = |more: &[Record], chained: (u32, u32), ended: (u32, u32)| {

@@ -3,6 +3,7 @@
 pub mod choice;
 pub mod run;
 
+use super::calls::volumes::SEEN;
 use crate::harness::Group;
 use crate::implementations::compared::Compared;
 use crate::implementations::TESTED;
@@ -49,6 +50,11 @@ fn cleaned(group: &mut Group, layout: Layout) {
             told(long_runs(TESTED, layout, pages, 60, 400))
         });
     }
+    group.test("200 runs of 400 calls and crashes, P = 6, S up to 24, cleaned and swept often: each erasing at least 100 times", || {
+        let all = small_runs(TESTED, layout, Cleaning::Often, 6, 200, 400);
+        assert!(all.erasing.iter().all(|&n| n >= SEEN), "{}", told(all));
+        told(all)
+    });
     for slots in [130, 200] {
         group.test(&format!("2,000 calls and crashes, P = 60, S = {slots}, cleaned by any tables"), || {
             told(run(TESTED, layout.sizes(60, slots), Cleaning::AnyBlocks, 2000, 10, 1))
@@ -82,8 +88,14 @@ pub fn small_runs(calls: &dyn Calls, layout: Layout, cleaning: Cleaning, pages: 
 pub fn told(all: Tally) -> String {
     let cured = if all.buried == 0 { String::new() } else { format!(" ({} by 16 and cured)", all.buried) };
     let cleaned = if all.cleaned == 0 { String::new() } else { format!(" ({} cleanings, {} copies)", all.cleaned, all.copies) };
+    let swept = if all.swept == 0 { String::new() } else { format!(" ({})", told_sweeps(all.swept, all.erasing)) };
     format!(
-        "{} accepted{cleaned}, {} refused{cured}, {} crashes, {} completed, {} recoveries compared",
+        "{} accepted{cleaned}{swept}, {} refused{cured}, {} crashes, {} completed, {} recoveries compared",
         all.accepted, all.refused, all.crashes, all.completed, all.checks
     )
+}
+
+/// What so many sweeps erased.
+pub fn told_sweeps(swept: u64, [exposed, obsolete, spare]: [u64; 3]) -> String {
+    format!("{swept} sweeps, {exposed} of exposed records, {obsolete} of obsolete ones, {spare} of spare twins")
 }

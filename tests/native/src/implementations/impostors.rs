@@ -5,12 +5,13 @@ mod cleaning;
 pub mod faults;
 mod judging;
 mod recovering;
+mod sweeping;
 
-use super::reference::{refusal, store, with, Reference};
+use super::reference::{refusal, slot_unsound, store, volume_misfits, with, Reference};
 use crate::cleaning::{may_erase_alone, twins};
 use crate::crash::{stages, Stage};
 use crate::interface::{Arguments, Calls, Name, Reply, NONE, WIDTHS};
-use crate::rules::{cycle, entry, lowest_slot, planned, records, set_entry, set_slot, slot, slot_bytes};
+use crate::rules::{cycle, entry, lowest_slot, planned, records, set_entry, set_slot, slot, slot_bytes, state_sound};
 use crate::volume::{Call, Volume};
 pub use faults::Fault;
 
@@ -29,6 +30,7 @@ impl Calls for Impostor {
             Some(twins) if WIDTHS.contains(&width) => return with(twins, name, a),
             _ if name == Name::CheckBlocks => return self.check_blocks(a),
             _ if name == Name::Clean => return self.clean(a),
+            _ if name == Name::Sweep => return self.sweep(a),
             _ => {}
         }
         let (before, out) = (Volume::copied(a), a.out.to_vec());
@@ -43,11 +45,22 @@ impl Calls for Impostor {
     }
 
     fn stages(&self, call: &Call, before: &Volume, after: &Volume) -> Vec<Stage> {
-        let mut stages = stages(call, before, after);
-        if self.0 == Fault::DriverBlanksBeforeItCopies {
-            stages.reverse();
+        let stages = stages(call, before, after);
+        match (call, self.0) {
+            (Call::Clean { .. }, Fault::DriverBlanksBeforeItCopies) => stages.into_iter().rev().collect(),
+            (Call::Sweep, Fault::DriverSweepsRising) => before.altered(after).into_iter().map(|k| vec![k]).collect(),
+            (Call::Sweep, Fault::DriverSweepsObsoleteWithExposed) => vec![[&stages[0][..], &stages[1]].concat(), stages[2].clone()],
+            _ => stages,
         }
-        stages
+    }
+}
+
+/// Whether a call that takes the volume is refused by 1, 2 or 5.
+fn is_refused(a: &Arguments, answer: u32) -> bool {
+    match answer {
+        1 => !WIDTHS.contains(&a.width) || volume_misfits(a),
+        2 => slot_unsound(a),
+        _ => !state_sound(a.pages, a.state),
     }
 }
 
@@ -88,7 +101,8 @@ impl Impostor {
             (Name::Format, Fault::FormatFills32Bytes)
             | (Name::Write, Fault::WriteCopies32Bytes)
             | (Name::Erase, Fault::EraseBlanks32Bytes)
-            | (Name::Clean, Fault::CleanCopies32Bytes) => {
+            | (Name::Clean, Fault::CleanCopies32Bytes)
+            | (Name::Sweep, Fault::SweepBlanks32Bytes) => {
                 for bytes in (0..a.slots).map(|k| slot_bytes(a.width, k)) {
                     a.contents[bytes.clone()][32..].copy_from_slice(&before.contents[bytes][32..]);
                 }

@@ -1,12 +1,14 @@
 //! The second implementation of the calls, written from documents 01 and 02 for clarity and not for speed.
 
-use crate::cleaning::{blank_outside, block, blocks_wrong, clash, copied, may_erase_all, may_erase_alone, steps, twins, Step, Test};
+use crate::cleaning::{blank_outside, blankings, block, blocks_wrong, clash, copied, erasable, may_erase_alone, steps, twins, Step, Test};
 use crate::interface::{Arguments, Calls, Family, Name, Reply, NONE, WIDTHS};
 use crate::rules::{
     committed_before, contents_fit, cycle, entry, follow, highest_records, list_wrong, lowest_slot, planned, records, set_entry, set_slot,
     sizes_fit, slot, slot_bytes, state_fits, state_sound, table_sound, used_version, words_fit, would_bury, End, Entry, Record, Walk,
     LAST_VERSION,
 };
+use crate::sweeping::erasings;
+use crate::volume::Volume;
 
 /// The second implementation.
 pub struct Reference;
@@ -33,6 +35,7 @@ pub fn with(twins: Test, name: Name, a: &mut Arguments) -> Reply {
         Name::Suggest => suggest(a, twins),
         Name::CheckBlocks => check_blocks(a),
         Name::Clean => clean(a, twins),
+        Name::Sweep => sweep(a, twins),
         Name::Recover => recover(a, twins),
         Name::Count => count(a),
         Name::Read => read(a),
@@ -152,7 +155,7 @@ fn erase(a: &mut Arguments, twins: Test) -> Outcome {
     refuse(2, slot_unsound(a))?;
     refuse(5, !state_sound(a.pages, a.state))?;
     refuse(6, list_wrong(a.list, a.slots))?;
-    refuse(12, !may_erase_all(a.view(), twins, a.list))?;
+    refuse(12, !erasable(a.view(), twins, a.list).eq(a.list.iter().copied()))?;
     for &k in a.list {
         set_slot(a.layout(), a.words, a.contents, k, None);
     }
@@ -184,6 +187,16 @@ fn clean(a: &mut Arguments, twins: Test) -> Outcome {
     let (from, to) = (copied(a.view(), twins, block.clone()), blank_outside(a.view(), block.clone()));
     refuse(15, from.len() > to.len())?;
     let steps = steps(a.view(), &from, &to, block);
+    take(a, &steps);
+    Ok(0)
+}
+
+/// "Refuses by 1, 2 and 5 as erase does"; "its steps are listed and done as in cleaning".
+fn sweep(a: &mut Arguments, twins: Test) -> Outcome {
+    refuse(1, volume_misfits(a))?;
+    refuse(2, slot_unsound(a))?;
+    refuse(5, !state_sound(a.pages, a.state))?;
+    let steps: Vec<Step> = blankings(erasings(&Volume::copied(a), twins).concat()).collect();
     take(a, &steps);
     Ok(0)
 }

@@ -2,12 +2,14 @@
 
 use super::walk::Walk;
 use crate::cleaning::twins;
+use crate::crash::Stage;
 use crate::groups::models::actions::subsets;
 use crate::groups::models::walk::arrangements;
 use crate::inputs::blocks::each_cleaned;
 use crate::interface::{Calls, NONE};
 use crate::ledger::Ledger;
 use crate::rules::{cycle, entry, lowest_slot, slot_bytes};
+use crate::sweeping::assert_left;
 use crate::volume::{Call, Sizes, Volume};
 use std::collections::HashSet;
 
@@ -73,6 +75,7 @@ impl Model<'_> {
         self.writes_and_withdrawals(s, &mut next);
         self.erasures(s, &mut next);
         self.cleanings(s, &mut next, found);
+        self.sweeps(s, &mut next, found);
         next
     }
 
@@ -154,16 +157,30 @@ impl Model<'_> {
             let stages = self.calls.stages(&clean, &s.volume, &done.volume);
             found.cleaned += 1;
             found.copying += usize::from(stages.len() > 1);
-            let mut flash = s.volume.clone();
-            for stage in stages {
-                for part in subsets(&stage) {
-                    let mut flash = flash.clone();
-                    part.iter().for_each(|&k| flash.copy_slot(&done.volume, k));
-                    next.push(self.crashed(s, flash, Some((&clean, false))));
-                }
-                stage.iter().for_each(|&k| flash.copy_slot(&done.volume, k));
-            }
-            next.push(done);
+            self.stages(s, &clean, done, stages, next);
         }
+    }
+
+    /// A sweep, which leaves as many records as it may, with every crash: with any part of each erasing done.
+    fn sweeps(&self, s: &State, next: &mut Vec<State>, found: &mut Walk) {
+        let done = self.done(s, &Call::Sweep).expect("a sweep that is done");
+        assert_left(&done.volume);
+        let stages = self.calls.stages(&Call::Sweep, &s.volume, &done.volume);
+        found.erasing.iter_mut().zip(&stages).for_each(|(met, stage)| *met += u64::from(!stage.is_empty()));
+        self.stages(s, &Call::Sweep, done, stages, next);
+    }
+
+    /// A call that alters the flash in these stages, crash or no crash.
+    fn stages(&self, s: &State, call: &Call, done: State, stages: Vec<Stage>, next: &mut Vec<State>) {
+        let mut flash = s.volume.clone();
+        for stage in stages {
+            for part in subsets(&stage) {
+                let mut flash = flash.clone();
+                part.iter().for_each(|&k| flash.copy_slot(&done.volume, k));
+                next.push(self.crashed(s, flash, Some((call, false))));
+            }
+            stage.iter().for_each(|&k| flash.copy_slot(&done.volume, k));
+        }
+        next.push(done);
     }
 }

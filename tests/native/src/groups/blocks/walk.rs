@@ -17,6 +17,8 @@ pub struct Walk {
     pub cleaned: usize,
     pub copying: usize,
     pub too_few: usize,
+    /// Sweeps that erased exposed records, obsolete ones and spare twins.
+    pub erasing: [u64; 3],
 }
 
 /// Walks everything that may come after a format and then these calls, which are done.

@@ -1,13 +1,12 @@
 //! Cleaning compared on volumes with tables of blocks, each block of each, and every kind of cleaning met often.
 
-use super::volumes::SEEN;
+use super::kinds::Kinds;
 use crate::cleaning::{blank_outside, block, copied, twins};
 use crate::implementations::compared::Compared;
 use crate::inputs;
 use crate::random::Random;
 use crate::rules::{is_exposed, old_rule};
 use crate::volume::{Call, Layout, Volume};
-use std::collections::BTreeMap;
 use std::ops::Range;
 
 /// Kinds of cleaning, by what the block and the slots outside hold.
@@ -26,25 +25,22 @@ const KINDS: [&str; 9] = [
 /// Cleans each block of so many volumes, and gives how often each kind was met.
 pub fn compare(compared: &Compared, layout: Layout, volumes: u32) -> String {
     let mut random = Random::new(u64::from(layout.width));
-    let mut met: BTreeMap<&str, u64> = BTreeMap::new();
+    let mut met = Kinds::new(KINDS);
     for _ in 0..volumes {
         let v = inputs::longer_volume(&mut random, layout);
         let starts = inputs::blocks::sound(&mut random, v.sizes.slots);
         for number in 0..=starts.len() as u32 {
             let answer = v.clone().call(compared, &Call::Clean { starts: starts.clone(), block: number }).answer;
             if let (0 | 15, Some(block)) = (answer, block(v.sizes.slots, &starts, number)) {
-                kinds(&v, block).into_iter().for_each(|kind| *met.entry(kind).or_default() += 1);
+                met.count(kinds(&v, block));
             }
         }
     }
-    let told = |kind: &&str| format!("\n          {kind}: {}", met.get(*kind).copied().unwrap_or(0));
-    let seen: String = KINDS.iter().map(told).collect();
-    assert!(KINDS.iter().all(|kind| met.get(kind).is_some_and(|&n| n >= SEEN)), "a kind is met too seldom:{seen}");
-    seen
+    met.told()
 }
 
-/// The kinds of a cleaning.
-fn kinds(volume: &Volume, block: Range<u32>) -> Vec<&'static str> {
+/// Whether a cleaning is of each kind.
+fn kinds(volume: &Volume, block: Range<u32>) -> [bool; KINDS.len()] {
     let v = volume.view();
     let (from, blank) = (copied(v, twins, block.clone()), blank_outside(v, block.clone()).len());
     let inside = |k: u32| block.clone().any(|l| twins(v, k, l));
@@ -52,7 +48,7 @@ fn kinds(volume: &Volume, block: Range<u32>) -> Vec<&'static str> {
     let goes = |k: u32| old_rule(v.layout.family, v.words, v.state, k);
     let leaves = |k: u32| v.slot(k).filter(|&r| is_exposed(v.state, r) && goes(k));
     let needs = |k: u32| v.slot(k).is_some_and(|r| block.clone().filter_map(leaves).any(|i| r.straddles(i)));
-    let is = [
+    [
         from.is_empty(),
         from.len() == 1 && blank >= 1,
         from.len() > 1 && blank >= from.len(),
@@ -62,6 +58,5 @@ fn kinds(volume: &Volume, block: Range<u32>) -> Vec<&'static str> {
         from.iter().any(|&k| inside(k)),
         block.clone().any(|k| outside(k) && !goes(k)),
         from.iter().any(|&k| needs(k) && !is_exposed(v.state, v.slot(k).unwrap())),
-    ];
-    KINDS.into_iter().zip(is).filter(|(_, is)| *is).map(|(kind, _)| kind).collect()
+    ]
 }

@@ -1,10 +1,11 @@
 //! The calls compared on all tables and all states of small kinds.
 
+use super::sweepings::swept;
 use crate::implementations::compared::Compared;
 use crate::implementations::reference::Reference;
 use crate::inputs::blocks::each_cleaned;
 use crate::interface::{Family, NONE, PAGE_WORDS};
-use crate::rules::{slot_words, Record};
+use crate::rules::{slot_words, state_sound, Record};
 use crate::volume::{Call, Layout, Sizes, Volume};
 
 /// All sound records of P pages with versions up to the highest.
@@ -26,8 +27,8 @@ fn sound_records(family: Family, pages: u32, highest: u32) -> Vec<Record> {
 }
 
 /// Recovery of every table of sound records and blank slots, equal up to the slots' order, each slot with bytes of its own and, where
-/// records are equal, with equal bytes too; where it answers 0, the erasure of each slot, and suggest or, where a write may be refused by
-/// the table, writes. Gives the number of tables.
+/// records are equal, with equal bytes too; where it answers 0, the erasure of each slot, and suggest and a sweep or, where a write may be
+/// refused by the table, writes. Gives the number of tables.
 pub fn tables(compared: &Compared, sizes: Sizes, highest: u32) -> u64 {
     let mut held = sound_records(sizes.family, sizes.pages, highest);
     held.push(Record::BLANK);
@@ -54,8 +55,8 @@ fn equal_bytes(mut v: Volume) -> Volume {
     v
 }
 
-/// Recovery of every table of sound records and blank slots in four slots, all with equal bytes; where it answers 0, suggest, the erasure
-/// of each and of each two, and the cleaning of each block of each of these tables of blocks. Gives the number of tables.
+/// Recovery of every table of sound records and blank slots in four slots, all with equal bytes; where it answers 0, suggest, a sweep, the
+/// erasure of each and of each two, and the cleaning of each block of each of these tables of blocks. Gives the number of tables.
 pub fn cleaned_tables(compared: &Compared, sizes: Sizes, places: [u32; 4], highest: u32, blocks: &[Vec<u32>]) -> u64 {
     let mut held = sound_records(sizes.family, sizes.pages, highest);
     held.push(Record::BLANK);
@@ -69,6 +70,7 @@ pub fn cleaned_tables(compared: &Compared, sizes: Sizes, places: [u32; 4], highe
         }
         if v.call(compared, &Call::Recover).answer == 0 {
             v.suggest(compared);
+            swept(compared, &v);
             for (k, l) in places.into_iter().flat_map(|k| places.map(|l| (k, l))) {
                 v.clone().call(compared, &Call::Erase(if k == l { vec![k] } else { vec![k, l] }));
             }
@@ -88,7 +90,10 @@ fn one_table(compared: &Compared, mut v: Volume) {
         v.clone().call(compared, &Call::Erase(vec![k]));
     }
     match v.sizes.family {
-        Family::Bpcc => drop(v.suggest(compared)),
+        Family::Bpcc => {
+            v.suggest(compared);
+            swept(compared, &v);
+        }
         Family::Scc => writes(compared, &v),
     }
 }
@@ -105,28 +110,50 @@ fn writes(compared: &Compared, v: &Volume) {
     }
 }
 
+/// Every state of two pages whose words are of these values.
+fn states_of(values: &[u32]) -> impl Iterator<Item = Vec<u32>> + '_ {
+    let words = 2 * PAGE_WORDS as u32;
+    let word = |i: usize, at: u32| values[i / values.len().pow(at) % values.len()];
+    (0..values.len().pow(words)).map(move |i| (0..words).map(|at| word(i, at)).collect())
+}
+
 /// Launch, write, withdraw and read on every state of two pages whose words are of a few values. Gives the number of states.
 pub fn states(compared: &Compared, layout: Layout) -> u64 {
-    const VALUES: [u32; 5] = [0, 1, 2, NONE - 1, NONE];
-    let pages = 2;
-    let formatted = Volume::formatted(&Reference, layout.sizes(pages, 4));
+    let formatted = Volume::formatted(&Reference, layout.sizes(2, 4));
     let bytes = vec![5; layout.width as usize];
-    let number = VALUES.len().pow(PAGE_WORDS as u32 * pages);
-    for i in 0..number {
-        let mut v = formatted.clone();
-        let mut rest = i;
-        for word in &mut v.state {
-            *word = VALUES[rest % VALUES.len()];
-            rest /= VALUES.len();
-        }
+    let mut number = 0;
+    for state in states_of(&[0, 1, 2, NONE - 1, NONE]) {
+        let mut v = Volume { state, ..formatted.clone() };
         for list in [&[0][..], &[1], &[0, 1], &[1, 0]] {
             v.clone().call(compared, &Call::Launch(list.to_vec()));
         }
-        for page in 0..pages {
+        for page in 0..2 {
             v.clone().call(compared, &Call::Withdraw(page));
             v.clone().call(compared, &Call::Write { page, slot: 2 + page, bytes: bytes.clone() });
             v.read(compared, page, &mut bytes.clone());
         }
+        number += 1;
     }
-    number as u64
+    number
+}
+
+/// Sweeps of every two sound records of two pages with versions up to 2, or one and a blank slot, with a twin of the first and without, on
+/// every sound state whose words are of a few values. Gives the number of sweeps.
+pub fn swept_states(compared: &Compared, layout: Layout) -> usize {
+    let sizes = layout.sizes(2, 3);
+    let mut held = sound_records(sizes.family, sizes.pages, 2);
+    held.push(Record::BLANK);
+    let states: Vec<Vec<u32>> = states_of(&[0, 1, 2, NONE]).filter(|state| state_sound(sizes.pages, state)).collect();
+    let mut number = 0;
+    for (i, &first) in held.iter().enumerate() {
+        for (&second, third) in held[i..].iter().flat_map(|second| [(second, first), (second, Record::BLANK)]) {
+            let mut v = equal_bytes(Volume::with_records(sizes, &[first, second, third]));
+            for state in &states {
+                v.state.clone_from(state);
+                swept(compared, &v).expect("a sweep of a sound volume");
+            }
+            number += states.len();
+        }
+    }
+    number
 }

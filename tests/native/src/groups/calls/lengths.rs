@@ -39,7 +39,7 @@ fn assert_refused(compared: &Compared, volume: &Volume, length: usize, refused: 
 /// The calls that take the contents.
 fn of_contents(family: Family) -> &'static [Name] {
     match family {
-        Family::Bpcc => &[Name::Format, Name::Write, Name::Erase, Name::Suggest, Name::Clean, Name::Recover, Name::Read],
+        Family::Bpcc => &[Name::Format, Name::Write, Name::Erase, Name::Suggest, Name::Clean, Name::Sweep, Name::Recover, Name::Read],
         Family::Scc => &[Name::Format, Name::Write, Name::Erase, Name::Read],
     }
 }

@@ -1,11 +1,13 @@
 //! The calls, the implementation under test against the second one, on many inputs.
 
+use super::sweepings::{assert_swept, swept};
 use crate::cleaning::blocks_of;
 use crate::harness::said;
 use crate::implementations::compared::Compared;
 use crate::inputs;
 use crate::interface::{Arguments, Calls, Family, Name, Reply, WIDTHS};
 use crate::random::Random;
+use crate::sweeping::assert_left;
 use crate::volume::{Call, Layout, Volume};
 use std::panic::{catch_unwind, AssertUnwindSafe};
 
@@ -21,6 +23,7 @@ pub fn answers(family: Family, call: Name) -> &'static [u32] {
         Name::Suggest => &[0, 1, 2, 5, 13],
         Name::CheckBlocks => &[0, 1, 17],
         Name::Clean => &[0, 1, 2, 5, 6, 15, 17],
+        Name::Sweep => &[0, 1, 2, 5],
         Name::Recover => &[0, 1, 2, 3, 4, 14],
         Name::Count => &[0, 1],
         Name::Read => &[0, 1, 2, 5, 6, 14],
@@ -115,12 +118,12 @@ impl Choices {
             Name::Withdraw => (self.withdraw, 0, &[]),
             Name::Erase => (0, 0, &self.erase),
             Name::Read => (self.read, 0, &[]),
-            Name::Format | Name::Suggest | Name::CheckBlocks | Name::Clean | Name::Recover | Name::Count => (0, 0, &[]),
+            Name::Format | Name::Suggest | Name::CheckBlocks | Name::Clean | Name::Sweep | Name::Recover | Name::Count => (0, 0, &[]),
         }
     }
 }
 
-/// Each call on a copy of the volume; a refused one leaves the copy as it was.
+/// Each call on a copy of the volume; a refused one leaves the copy as it was, a sweep that is done leaves nothing to erase.
 fn one_round(compared: &Compared, volume: &Volume, choices: &Choices) {
     for call in volume.sizes.family.calls() {
         let (mut v, mut out) = (volume.clone(), choices.out.clone());
@@ -130,6 +133,9 @@ fn one_round(compared: &Compared, volume: &Volume, choices: &Choices) {
         let reply = compared.call(call, &mut { own });
         let same = v == *volume && out == choices.out;
         assert!(reply.answer == 0 || same, "a refused call altered a buffer");
+        if call == Name::Sweep && reply.answer == 0 {
+            assert_swept(compared, &v);
+        }
     }
 }
 
@@ -156,6 +162,7 @@ pub fn compare_largest(compared: &Compared, layout: Layout) {
         }
         if layout.family == Family::Bpcc {
             assert_eq!(v.suggest(compared).answer, 0);
+            assert_left(&swept(compared, &v).expect("a sweep of rings"));
         }
         assert_eq!(v.clone().call(compared, &Call::Recover), Reply::done(pages * pages));
     }

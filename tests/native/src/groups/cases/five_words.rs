@@ -41,7 +41,7 @@ pub fn refused_recoveries(calls: &dyn Calls, layout: Layout) {
 }
 
 /// Case 6's volume: case 4 recovered, then page 1 alone launched and written.
-fn case_6(calls: &dyn Calls, layout: Layout) -> Volume {
+pub(super) fn case_6(calls: &dyn Calls, layout: Layout) -> Volume {
     let mut v = Volume::with_records(layout.sizes(3, 8), &case_4());
     assert_eq!(v.call(calls, &Call::Recover).answer, 0);
     assert_eq!(v.call(calls, &Call::Launch(vec![1])).answer, 0);

@@ -3,7 +3,8 @@
 use super::model::{Model, Rule};
 use super::walk::arrangements;
 use crate::interface::{Family, Reply, NONE};
-use crate::rules::{cycle, entry, set_slot};
+use crate::rules::{cycle, entry};
+use crate::sweeping::assert_left;
 use crate::volume::{Call, Volume};
 
 /// All nonempty subsets of a list, each after its own.
@@ -97,7 +98,7 @@ impl Model<'_> {
                 let reply = t.call(self.calls, &Call::Erase(list));
                 assert_eq!(reply.answer, 0, "erase of collectable records");
             } else {
-                list.iter().for_each(|&k| set_slot(t.sizes.layout(), &mut t.words, &mut t.contents, k, None));
+                t.blank(&list);
             }
             next.push(t);
         }
@@ -118,6 +119,17 @@ impl Model<'_> {
             let reply = s.clone().suggest(self.calls);
             let right = collectable.iter().min().map_or(Reply { answer: 13, second: NONE }, |&k| Reply::done(k));
             assert_eq!(reply, right, "suggest names the lowest collectable record");
+            self.check_sweep(s);
         }
+    }
+
+    /// A sweep leaves as many records as it may, none of them collectable, and breaks no invariant.
+    fn check_sweep(&self, s: &Volume) {
+        let mut t = s.clone();
+        let reply = t.call(self.calls, &Call::Sweep);
+        assert_eq!(reply, Reply::done(0), "a sweep");
+        assert_left(&t);
+        assert_eq!(self.collectable(&t), [], "what a sweep leaves");
+        assert_eq!(self.check(&t), Ok(()), "a sweep");
     }
 }

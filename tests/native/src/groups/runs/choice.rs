@@ -23,7 +23,7 @@ impl Run<'_> {
         self.any(kind)
     }
 
-    /// Launch, write, withdraw, erase, clean or recover, by the run's weights.
+    /// Launch, write, withdraw, erase, clean, sweep or recover, by the run's weights.
     fn kind(&mut self) -> usize {
         let mut at = self.random.below(self.weights.iter().sum());
         let mut kind = 0;
@@ -64,6 +64,7 @@ impl Run<'_> {
                 let block = self.random.below(starts.len() as u32);
                 Some(Call::Clean { starts, block })
             }
+            5 => Some(Call::Sweep),
             _ => Some(Call::Recover),
         }
     }
@@ -97,6 +98,7 @@ impl Run<'_> {
                 let block = self.any_below(starts.len() as u32);
                 Call::Clean { starts, block }
             }
+            5 => Call::Sweep,
             _ => Call::Recover,
         }
     }
@@ -106,7 +108,7 @@ impl Run<'_> {
         let slots = self.volume.sizes.slots;
         match self.cleaning {
             Cleaning::BlocksOf(size) => blocks_of(size, slots),
-            Cleaning::Never | Cleaning::AnyBlocks => draw(&mut self.random, slots),
+            Cleaning::Never | Cleaning::AnyBlocks | Cleaning::Often => draw(&mut self.random, slots),
         }
     }
 

@@ -3,9 +3,10 @@
 
 use crate::crash::Stage;
 use crate::harness::said;
-use crate::interface::{Calls, NONE};
+use crate::interface::{Calls, Family, NONE};
 use crate::ledger::Ledger;
 use crate::random::Random;
+use crate::sweeping::assert_left;
 use crate::volume::{Call, Sizes, Volume};
 use std::panic::{catch_unwind, AssertUnwindSafe};
 
@@ -19,6 +20,9 @@ pub struct Tally {
     /// Cleanings done, and the copies that they made.
     pub cleaned: u64,
     pub copies: u64,
+    /// Sweeps done, and those that erased exposed records, obsolete ones and spare twins.
+    pub swept: u64,
+    pub erasing: [u64; 3],
     /// Writes refused by 16.
     pub buried: u64,
     /// Recoveries compared with the ledger, page by page.
@@ -33,17 +37,21 @@ impl Tally {
         self.completed += other.completed;
         self.cleaned += other.cleaned;
         self.copies += other.copies;
+        self.swept += other.swept;
+        self.erasing.iter_mut().zip(other.erasing).for_each(|(all, more)| *all += more);
         self.buried += other.buried;
         self.checks += other.checks;
     }
 }
 
-/// Whether a run cleans, and with which tables of blocks.
+/// Whether a run cleans, and with which tables of blocks. One of five-word records sweeps in any case.
 #[derive(Clone, Copy)]
 pub enum Cleaning {
     Never,
     /// With another table at each call, now and then a broken one.
     AnyBlocks,
+    /// The same, often, and swept as often.
+    Often,
     /// With blocks of so many slots.
     BlocksOf(u32),
 }
@@ -59,8 +67,8 @@ pub struct Run<'a> {
     lost: bool,
     /// A call in so many meets a crash.
     calm: u32,
-    /// How often the run chooses launch, write, withdraw, erase, clean and recover.
-    pub weights: [u32; 6],
+    /// How often the run chooses launch, write, withdraw, erase, clean, sweep and recover.
+    pub weights: [u32; 7],
     tally: Tally,
 }
 
@@ -69,8 +77,12 @@ pub fn run(calls: &dyn Calls, sizes: Sizes, cleaning: Cleaning, events: u32, eve
     let volume = Volume::formatted(calls, sizes);
     let mut random = Random::new(seed);
     let calm = random.pick(&[6, 25, 100]);
-    let cleanings = if matches!(cleaning, Cleaning::Never) { 0 } else { 2 };
-    let weights = [8, 24, 6, 2, cleanings, 1].map(|w| w * random.pick(&[1, 2, 4]));
+    let (cleanings, sweeps) = match cleaning {
+        Cleaning::Never => (0, u32::from(sizes.family == Family::Bpcc)),
+        Cleaning::Often => (8, 8),
+        Cleaning::AnyBlocks | Cleaning::BlocksOf(_) => (2, 1),
+    };
+    let weights = [8, 24, 6, 2, cleanings, sweeps, 1].map(|w| w * random.pick(&[1, 2, 4]));
     let ledger = Ledger::new(sizes);
     let mut run = Run { calls, cleaning, random, volume, ledger, lost: false, calm, weights, tally: Tally::default() };
     for i in 0..events {
@@ -119,13 +131,18 @@ impl Run<'_> {
         if reply.answer == 0 {
             self.tally.accepted += 1;
             self.tally.completed += u64::from(matches!(call, Call::Write { .. }) && reply.second == 1);
-            if let Call::Clean { .. } = call {
-                self.tally.cleaned += 1;
-                self.tally.copies += self.calls.stages(call, &before, &self.volume).len() as u64 - 1;
+            match call {
+                Call::Clean { .. } => {
+                    self.tally.cleaned += 1;
+                    self.tally.copies += self.calls.stages(call, &before, &self.volume).len() as u64 - 1;
+                }
+                Call::Sweep => self.check_sweep(&before),
+                _ => {}
             }
             self.lost &= !matches!(call, Call::Recover);
         } else {
             self.tally.refused += 1;
+            assert!(!matches!(call, Call::Sweep), "a sweep answered {}", reply.answer);
             assert!(self.volume == before, "a refused call altered the volume: {call:?}");
             assert_eq!(reply.second, 0, "a refused call's second number: {call:?}");
             if reply.answer == 16 {
@@ -134,6 +151,17 @@ impl Run<'_> {
             }
         }
         assert!(!self.lost || !matches!(call, Call::Recover), "recover answered {}", reply.answer);
+    }
+
+    /// A sweep that was done left the state, as many records as it may, and to recovery the same contents of all pages.
+    fn check_sweep(&mut self, before: &Volume) {
+        let after = self.volume.clone();
+        assert_eq!(after.state, before.state, "the state behind a sweep");
+        assert_left(&after);
+        let erased = self.calls.stages(&Call::Sweep, before, &after);
+        self.tally.swept += 1;
+        self.tally.erasing.iter_mut().zip(erased).for_each(|(met, erased)| *met += u64::from(!erased.is_empty()));
+        assert!(self.contents(before.clone(), "before a sweep") == self.contents(after, "behind a sweep"), "other contents behind a sweep");
     }
 
     /// Whatever words the crash leaves in the volatile state.
@@ -212,17 +240,17 @@ impl Run<'_> {
     }
 
     /// Recover answers 0, and read of each page gives the ledger's contents.
-    fn check(&mut self, mut volume: Volume, ledger: &Ledger, when: &str) {
+    fn check(&mut self, volume: Volume, ledger: &Ledger, when: &str) {
         self.tally.checks += 1;
-        self.scramble(&mut volume.state);
-        let answer = volume.call(self.calls, &Call::Recover).answer;
-        assert_eq!(answer, 0, "recover {when}: {:?}", volume.words);
-        let mut out = vec![0; volume.sizes.width as usize];
-        for page in 0..volume.sizes.pages {
-            out.fill(0xA5);
-            let reply = volume.read(self.calls, page, &mut out);
-            assert_eq!(reply.answer, 0, "read of page {page} {when}");
-            assert_eq!(out, ledger.kept(page), "contents of page {page} {when}");
+        let contents = self.contents(volume, when);
+        for (page, bytes) in (0..).zip(contents.chunks(self.volume.sizes.width as usize)) {
+            assert_eq!(bytes, ledger.kept(page), "contents of page {page} {when}");
         }
+    }
+
+    /// What recovery finds of all pages, whatever the state was.
+    fn contents(&mut self, mut volume: Volume, when: &str) -> Vec<u8> {
+        self.scramble(&mut volume.state);
+        volume.recovered(self.calls, when)
     }
 }

@@ -10,7 +10,7 @@ const SAMPLE: (&str, &str) = (
 );
 
 /// Lines that mean nothing after an accepted format; each prints answer=line and ends the run.
-const MALFORMED: [&str; 62] = [
+const MALFORMED: [&str; 63] = [
     "",
     " ",
     "op",
@@ -71,6 +71,7 @@ const MALFORMED: [&str; 62] = [
     "op=list pages=0",
     "op=suggest",
     "op=clean block=0",
+    "op=sweep",
     "op=count fill=3",
     "op=read page=0",
 ];

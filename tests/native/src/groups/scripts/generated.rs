@@ -67,7 +67,7 @@ fn next_line(random: &mut Random, v: &mut Volume) -> String {
         Call::Write { page, slot, bytes } => format!("op=write page={page} slot={slot} fill={}", bytes[0]),
         Call::Withdraw(page) => format!("op=withdraw page={page}"),
         Call::Erase(list) => format!("op=erase slots={}", joined(&list)),
-        Call::Clean { .. } => unreachable!("a script has no cleaning"),
+        Call::Clean { .. } | Call::Sweep => unreachable!("a script has no cleaning and no sweep"),
         Call::Recover => String::from("op=recover"),
     }
 }

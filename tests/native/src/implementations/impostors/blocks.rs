@@ -1,10 +1,9 @@
 //! Faulty tables of blocks.
 
-use super::{Fault, Impostor};
+use super::{is_refused, Fault, Impostor};
 use crate::cleaning::{block, blocks_of, blocks_wrong};
-use crate::implementations::reference::{slot_unsound, volume_misfits, Reference};
-use crate::interface::{Arguments, Calls, Name, Reply, MOST_BLOCKS, WIDTHS};
-use crate::rules::state_sound;
+use crate::implementations::reference::Reference;
+use crate::interface::{Arguments, Calls, Name, Reply, MOST_BLOCKS};
 use std::ops::Range;
 
 impl Impostor {
@@ -27,12 +26,10 @@ impl Impostor {
             Fault::CleanLooksAtTheBlockBeforeSlots => [1, 17, 6, 2, 5],
             _ => [1, 17, 2, 5, 6],
         };
-        let refused = |answer: &u32| match answer {
-            1 => !WIDTHS.contains(&a.width) || volume_misfits(a),
+        let refused = |answer: &u32| match *answer {
             17 => self.blocks_wrong(Name::Clean, a),
-            2 => slot_unsound(a),
-            5 => !state_sound(a.pages, a.state),
-            _ => self.block(a).is_none(),
+            6 => self.block(a).is_none(),
+            answer => is_refused(a, answer),
         };
         order.into_iter().find(refused).map_or(self.block(a).ok_or(6), Err)
     }

@@ -4,7 +4,7 @@ use super::{Fault, Impostor};
 use crate::cleaning::{blank_outside, copied, may_erase_alone, steps, twins, Step, Test, View};
 use crate::implementations::reference::take;
 use crate::interface::{Arguments, Name, Reply};
-use crate::rules::{is_exposed, set_slot, slot_bytes};
+use crate::rules::{is_exposed, slot_bytes};
 use crate::volume::Volume;
 use std::ops::Range;
 
@@ -23,9 +23,7 @@ fn equal_words(v: View, k: u32, l: u32) -> bool {
 fn without_exposed(before: &Volume, block: Range<u32>) -> Volume {
     let mut volume = before.clone();
     let goes = |k: u32| before.slot(k).is_some_and(|r| is_exposed(&before.state, r)) && before.may_erase(k);
-    for k in block.filter(|&k| goes(k)) {
-        set_slot(before.sizes.layout(), &mut volume.words, &mut volume.contents, k, None);
-    }
+    volume.blank(&block.filter(|&k| goes(k)).collect::<Vec<u32>>());
     volume
 }
 

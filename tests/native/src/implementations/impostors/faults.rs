@@ -5,7 +5,7 @@ use crate::interface::{Family, Name};
 /// Makes the faults: what each is called, and behind it the family that may have it where one alone may.
 macro_rules! faults {
     ($($name:ident $($family:ident)?,)*) => {
-        /// What is wrong; those with a name are a call's own, and the last is a driver's.
+        /// What is wrong; those with a name are a call's own, and the last are a driver's.
         #[derive(Clone, Copy, Debug, PartialEq, Eq)]
         pub enum Fault {
             $($name,)*
@@ -21,6 +21,8 @@ macro_rules! faults {
             TakesAStartAtS(Name),
             LooksAtTheTableFirst(Name),
             DriverBlanksBeforeItCopies,
+            DriverSweepsRising,
+            DriverSweepsObsoleteWithExposed,
         }
 
         const PLAIN: &[(Fault, &[Family])] = &[$((Fault::$name, &[$(Family::$family)?]),)*];
@@ -80,6 +82,22 @@ faults! {
     CleanLooksAtTheStateBeforeTheTable Bpcc,
     CleanLooksAtTheBlockBeforeTheTable Bpcc,
     CleanLooksAtTheBlockBeforeSlots Bpcc,
+    SweepDoesNothing Bpcc,
+    SweepKeepsExposedRecords Bpcc,
+    SweepKeepsPagesInFlight Bpcc,
+    SweepKeepsWrittenPagesAlone Bpcc,
+    SweepTakesRecordsInFlight Bpcc,
+    SweepKeepsObsoleteRecords Bpcc,
+    SweepJudgesBeforeItErases Bpcc,
+    SweepTakesNeededRecords Bpcc,
+    SweepKeepsEveryTwin Bpcc,
+    SweepKeepsTheHighestTwin Bpcc,
+    SweepTakesAllTwins Bpcc,
+    SweepKeepsTheContents Bpcc,
+    SweepBlanks32Bytes Bpcc,
+    SweepSaysNothingToErase Bpcc,
+    SweepCountsSlots Bpcc,
+    SweepLooksAtTheStateBeforeSlots Bpcc,
     SuggestSaysNothingToErase Bpcc,
     SuggestNamesABlankSlot Bpcc,
     SuggestNamesTheHighestSlot Bpcc,
@@ -111,7 +129,7 @@ faults! {
 }
 
 /// The calls that look for twins.
-const OF_TWINS: [Name; 4] = [Name::Erase, Name::Suggest, Name::Clean, Name::Recover];
+const OF_TWINS: [Name; 5] = [Name::Erase, Name::Suggest, Name::Clean, Name::Sweep, Name::Recover];
 
 /// The calls that take a table of blocks.
 const OF_BLOCKS: [Name; 2] = [Name::CheckBlocks, Name::Clean];
@@ -164,6 +182,14 @@ pub fn losing_in_blocks(family: Family, width: u32) -> Vec<Fault> {
     }
 }
 
+/// The faults that lose a page where a volume is swept, or leave another number of records than they may.
+pub fn losing_in_sweeps(family: Family) -> &'static [Fault] {
+    match family {
+        Family::Bpcc => &LOSING_IN_SWEEPS,
+        Family::Scc => &[],
+    }
+}
+
 const LOSING: [Fault; 8] = [
     Fault::RecoverCallsABrokenRingUncommitted,
     Fault::WriteSkipsTheFlash,
@@ -188,4 +214,19 @@ const LOSING_IN_BLOCKS: [Fault; 10] = [
     Fault::CleanTakesBlocksOf64,
     Fault::DriverBlanksBeforeItCopies,
     Fault::IgnoresTwins(Name::Recover),
+];
+
+const LOSING_IN_SWEEPS: [Fault; 12] = [
+    Fault::SweepDoesNothing,
+    Fault::SweepKeepsExposedRecords,
+    Fault::SweepKeepsPagesInFlight,
+    Fault::SweepTakesRecordsInFlight,
+    Fault::SweepKeepsObsoleteRecords,
+    Fault::SweepJudgesBeforeItErases,
+    Fault::SweepKeepsEveryTwin,
+    Fault::SweepTakesAllTwins,
+    Fault::IgnoresTwins(Name::Sweep),
+    Fault::SweepSaysNothingToErase,
+    Fault::DriverSweepsRising,
+    Fault::DriverSweepsObsoleteWithExposed,
 ];

@@ -3,7 +3,7 @@
 use super::{Fault, Impostor};
 use crate::cleaning::{may_erase, twins};
 use crate::interface::{Arguments, Family, Reply};
-use crate::rules::{entry, is_exposed, records, set_slot, slot, would_bury, Record};
+use crate::rules::{entry, is_exposed, records, slot, would_bury, Record};
 use crate::volume::Volume;
 
 impl Impostor {
@@ -55,7 +55,7 @@ impl Impostor {
             if !may {
                 return None;
             }
-            set_slot(a.layout(), &mut after.words, &mut after.contents, k, None);
+            after.blank(&[k]);
         }
         a.words.copy_from_slice(&after.words);
         a.contents.copy_from_slice(&after.contents);

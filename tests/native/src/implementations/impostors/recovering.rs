@@ -3,7 +3,7 @@
 use super::{Fault, Impostor};
 use crate::implementations::reference::Reference;
 use crate::interface::{Arguments, Family, Reply, NONE};
-use crate::rules::{committed_before, follow, highest_records, records, set_entry, set_slot, used_version, End, Entry, Record, Walk};
+use crate::rules::{committed_before, follow, highest_records, records, set_entry, used_version, End, Entry, Record, Walk};
 use crate::volume::{Call, Volume};
 
 impl Impostor {
@@ -82,9 +82,8 @@ impl Impostor {
     pub(super) fn recover_without_equals(&self, a: &mut Arguments) -> Option<Reply> {
         let mut v = Volume::copied(a);
         let table = v.records();
-        for &(k, _) in table.iter().filter(|(k, r)| table.iter().any(|(l, q)| l < k && q == r)) {
-            set_slot(a.layout(), &mut v.words, &mut v.contents, k, None);
-        }
+        let equal = table.iter().filter(|(k, r)| table.iter().any(|(l, q)| l < k && q == r)).map(|&(k, _)| k);
+        v.blank(&equal.collect::<Vec<u32>>());
         let reply = v.call(&Reference, &Call::Recover);
         a.state.copy_from_slice(&v.state);
         (reply.answer == 0).then_some(reply)
