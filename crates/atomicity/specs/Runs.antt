@@ -2,7 +2,7 @@
 -- cleaned, with a crash, by small blocks of two tables; in the sixth the volume is swept, with a crash behind the first erasure; a seventh, of records without a back pointer, has a write that is refused by 16.
 use Prim.Native.Nat.{ℕ}
 use mathlib.Core.Path.{_≡_}
-use mathlib.Core.List.{List, [], _∷_}
+use mathlib.Core.List.{List, [], _∷_, _++_}
 use mathlib.Core.Bool.{Bool, true, false}
 use lib.Dec.{eqb}
 use lib.ListN.{replicate}
@@ -104,14 +104,7 @@ runCopied =
 
 -- … then it is recovered, and slot 1 is cleaned, a block of another table; nothing is to be copied
 unfoldable pub runCleaned : List Event
-runCleaned =
-    Event.Returns (Call.Launch (0 ∷ []))
-    ∷ Event.Returns (Call.Write 0 2 (5 ∷ []))
-    ∷ Event.Returns (Call.Clean (named (0 ∷ 2 ∷ 2 ∷ []) 0))
-    ∷ Event.CrashIn (Call.Clean (named (0 ∷ 2 ∷ 4 ∷ []) 0)) 1 (eqb 0) lostState
-    ∷ Event.Returns Call.Recover
-    ∷ Event.Returns (Call.Clean (named (0 ∷ 1 ∷ 2 ∷ 3 ∷ 4 ∷ []) 1))
-    ∷ []
+runCleaned = runCopied ++ (Event.Returns Call.Recover ∷ Event.Returns (Call.Clean (named (0 ∷ 1 ∷ 2 ∷ 3 ∷ 4 ∷ []) 1)) ∷ [])
 
 -- a ring of two is withdrawn behind its first write, whose record stays exposed, and page 1 is stored; a sweep crashes when that record is blanked and nothing else
 unfoldable pub runSweeping : List Event
@@ -126,16 +119,7 @@ runSweeping =
 
 -- … then it is recovered and swept
 unfoldable pub runSwept : List Event
-runSwept =
-    Event.Returns (Call.Launch (0 ∷ 1 ∷ []))
-    ∷ Event.Returns (Call.Write 0 2 (5 ∷ []))
-    ∷ Event.Returns (Call.Withdraw 0)
-    ∷ Event.Returns (Call.Launch (1 ∷ []))
-    ∷ Event.Returns (Call.Write 1 3 (6 ∷ []))
-    ∷ Event.CrashIn Call.Sweep 1 none lostState
-    ∷ Event.Returns Call.Recover
-    ∷ Event.Returns Call.Sweep
-    ∷ []
+runSwept = runSweeping ++ (Event.Returns Call.Recover ∷ Event.Returns Call.Sweep ∷ [])
 
 -- the first write of a ring of two, then a crash: its record stays exposed; the page is launched in another ring
 unfoldable pub runExposed : List Event
@@ -149,16 +133,7 @@ runExposed =
 
 -- … and a write of the page is refused; the record is erased, and the write is done
 unfoldable pub runBuried : List Event
-runBuried =
-    Event.Returns (Call.Launch (0 ∷ 1 ∷ []))
-    ∷ Event.Returns (Call.Write 0 2 (5 ∷ []))
-    ∷ Event.Crash lostState
-    ∷ Event.Returns Call.Recover
-    ∷ Event.Returns (Call.Launch (0 ∷ []))
-    ∷ Event.Returns (Call.Write 0 3 (6 ∷ []))
-    ∷ Event.Returns (Call.Erase (2 ∷ []))
-    ∷ Event.Returns (Call.Write 0 4 (8 ∷ []))
-    ∷ []
+runBuried = runExposed ++ (Event.Returns (Call.Write 0 3 (6 ∷ [])) ∷ Event.Returns (Call.Erase (2 ∷ [])) ∷ Event.Returns (Call.Write 0 4 (8 ∷ [])) ∷ [])
 
 -- what the reference model keeps of pages 0 and 1 after a run
 unfoldable pub keptAfter : Family → Volume → List Event → List (List ℕ)

@@ -16,12 +16,11 @@ use Rattle.bounded.specs.Noted.{list-goes-on}
 use Rattle.sizes.specs.declared.Block.{Block}
 use Rattle.sizes.specs.declared.Layout.the-variants.{FiveWords}
 use Rattle.sizes.specs.Blocks.{inBlock}
-use Rattle.sizes.specs.BlocksLaws.{BlockIn}
+use Rattle.sizes.specs.BlocksLaws.{BlockIn, before-block, behind-block}
 use Rattle.record.specs.Flash.{Flash, Step, apply, applyAllIn, applyAll}
 use Rattle.record.specs.FlashLaws.{apply-append}
 use Rattle.rules.specs.Erase.{eraseSteps}
 use Rattle.judge.specs.Marked.{marked, no-marks, marked-more}
-use Rattle.judge.specs.BlockTwins.{before-block, behind-block}
 
 -- ---- marked one by one
 

@@ -1,22 +1,19 @@
--- A block's slots, and a twin in a lower one of them, searched for along its chain.
+-- A twin in a lower slot of a block, searched for along its chain.
 use Prim.Native.Nat.{ℕ, _+_, _≤_, _<_}
 use native.Mathlib.Omega.{arith}
 use mathlib.Core.Path.{_≡_, refl, sym, ap, _∙_}
 use mathlib.Core.List.{List}
-use mathlib.Core.Bool.{Bool, true, false, _&&_, false≢true}
-use lib.Dec.{ltb, leb, eqb}
+use mathlib.Core.Bool.{Bool, true, false, _&&_}
+use lib.Dec.{ltb, eqb}
 use lib.ListN.{getD}
-use borrow.Author.Tests.{eq-eqb, lt-ltb, le-ltb, ltb-true, le-leb, lt-leb, leb-true}
+use borrow.Author.Tests.{eq-eqb, lt-ltb, le-ltb, ltb-true}
 use Rattle.bounded.specs.Choice.{on-test, same-test, both, both-left, both-right}
 use Rattle.bounded.specs.Below.{someBelow}
 use Rattle.bounded.specs.BelowLaws.{some-of, some-at, some-none}
 use Rattle.bounded.specs.Passing.{end-le}
-use Rattle.sizes.specs.declared.Block.{Block}
-use Rattle.sizes.specs.Blocks.{inBlock}
 use Rattle.record.specs.declared.Record.{Record}
-use Rattle.record.specs.declared.Slot.{Slot}
-use Rattle.record.specs.declared.Slot.the-variants.{Blank, Holds}
-use Rattle.record.specs.Slot.{slotAt, isBlank}
+use Rattle.record.specs.declared.Slot.the-variants.{Holds}
+use Rattle.record.specs.Slot.{slotAt}
 use Rattle.record.specs.Flash.{Flash}
 use Rattle.table.specs.TableLaws.{holds-of}
 use Rattle.twins.specs.Twins.{twins}
@@ -24,34 +21,7 @@ use Rattle.chain.specs.Chain.{chainOf, inChain, maxChains, Chained}
 use Rattle.chain.specs.ChainLaws.{Left, search-goes-on}
 use Rattle.judge.specs.JudgeLaws.{twin-in-chain}
 
--- ---- a block's slots
-
-module _ (block : Block) (k : ℕ) where
-  pub inside-block : block .first ≤ k → k < block .end → inBlock block k ≡ true
-  unfolding inBlock
-  inside-block h l = both (le-leb (block .first) k h) (lt-ltb k (block .end) l)
-
-  pub before-block : k < block .first → inBlock block k ≡ false
-  unfolding inBlock
-  before-block h = rw (lt-leb (block .first) k h)
-
-  pub behind-start : block .first ≤ k → inBlock block k ≡ ltb k (block .end)
-  unfolding inBlock
-  behind-start h = rw (le-leb (block .first) k h)
-
-  pub behind-block : block .first ≤ block .end → block .end ≤ k → inBlock block k ≡ false
-  behind-block o h = behind-start (omega arith) ∙ le-ltb k (block .end) h
-
-  pub block-facts : inBlock block k ≡ true → (block .first ≤ k) × (k < block .end)
-  unfolding inBlock
-  block-facts e = (leb-true (block .first) k (both-left (leb (block .first) k) (ltb k (block .end)) e), ltb-true k (block .end) (both-right (leb (block .first) k) (ltb k (block .end)) e))
-
 -- ---- a twin below the slot, searched for along its chain
-
-pub holds-a-record : (s : Slot) → isBlank s ≡ false → (r : Record) × (s ≡ Holds r)
-unfolding isBlank
-holds-a-record Blank e = absurd (false≢true (sym e))
-holds-a-record (Holds r) e = (r, refl)
 
 module _ (w : ℕ) (f : Flash) (inside : ℕ → Bool) (k : ℕ) where
   abbrev pub lowerTwin : ℕ → Bool

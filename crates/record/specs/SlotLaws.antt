@@ -244,6 +244,12 @@ unfolding isBlank
 is-blank-exactly Blank = (λ e. refl, λ e. refl)
 is-blank-exactly (Holds r) = (λ e. absurd (false≢true e), λ e. absurd (let z : _≡_ {A = ℕ} 0 1 = cc in omega arith))
 
+-- a slot that is not blank holds a record
+pub not-blank-exactly : (s : Slot) → (isBlank s ≡ false) ↔ ((r : Record) × (s ≡ Holds r))
+unfolding isBlank
+not-blank-exactly Blank = (λ e. absurd (false≢true (sym e)), λ w. let z : _≡_ {A = ℕ} 0 1 = cc (w .1) in absurd (omega arith))
+not-blank-exactly (Holds r) = (λ e. (r, refl), λ w. refl)
+
 -- one slot holds one record
 pub holds-one : {s : Slot} {a b : Record} → s ≡ Holds a → s ≡ Holds b → a ≡ b
 holds-one e h = cc

@@ -8,13 +8,13 @@ use mathlib.Core.List.{List, [], _∷_}
 use mathlib.Core.Bool.{Bool, true, false, _&&_}
 use lib.Dec.{ltb, leb, eqb}
 use lib.ListN.{length, getD, List·getD-eq-default}
-use borrow.Author.Tests.{leb-true, le-leb, ltb-true, lt-ltb, eqb-true, eq-eqb}
+use borrow.Author.Tests.{leb-true, le-leb, lt-leb, ltb-true, lt-ltb, le-ltb, eqb-true, eq-eqb}
 use Rattle.bounded.specs.Choice.{on-lt, on-test, both, both-left, both-right}
 use Rattle.bounded.specs.Below.{allBelow}
 use Rattle.bounded.specs.BelowLaws.{all-at, all-of}
 use Rattle.sizes.specs.declared.Block.{Block}
 use Rattle.sizes.specs.Sizes.{inRange}
-use Rattle.sizes.specs.Blocks.{maxBlocks, risesStrictly, startsOk, NamedBlock, named, blockOk, blockAt}
+use Rattle.sizes.specs.Blocks.{maxBlocks, risesStrictly, startsOk, NamedBlock, named, blockOk, blockAt, inBlock}
 
 -- "1 to 16 starts: the first is 0, they rise strictly, all are below S"
 pub record StartsFacts (S : ℕ) (starts : List ℕ) : Type 0 where
@@ -126,6 +126,28 @@ module _ (S : ℕ) (starts : List ℕ) where
     starts-pass h m z =
         starts-test
         (record { one-start = h; starts-most = m; first-zero = z; rise = rising; below = λ i l. all-below (length starts - suc i) i (omega arith) })
+
+-- ---- a block's slots
+
+module _ (block : Block) (k : ℕ) where
+  pub inside-block : block .first ≤ k → k < block .end → inBlock block k ≡ true
+  unfolding inBlock
+  inside-block h l = both (le-leb (block .first) k h) (lt-ltb k (block .end) l)
+
+  pub before-block : k < block .first → inBlock block k ≡ false
+  unfolding inBlock
+  before-block h = rw (lt-leb (block .first) k h)
+
+  pub behind-start : block .first ≤ k → inBlock block k ≡ ltb k (block .end)
+  unfolding inBlock
+  behind-start h = rw (le-leb (block .first) k h)
+
+  pub behind-block : block .first ≤ block .end → block .end ≤ k → inBlock block k ≡ false
+  behind-block o h = behind-start (omega arith) ∙ le-ltb k (block .end) h
+
+  pub block-facts : inBlock block k ≡ true → (block .first ≤ k) × (k < block .end)
+  unfolding inBlock
+  block-facts e = (leb-true (block .first) k (both-left (leb (block .first) k) (ltb k (block .end)) e), ltb-true k (block .end) (both-right (leb (block .first) k) (ltb k (block .end)) e))
 
 -- ---- the block that a call names
 

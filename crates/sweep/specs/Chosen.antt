@@ -8,6 +8,7 @@ use Rattle.bounded.specs.Below.{someBelow}
 use Rattle.bounded.specs.BelowLaws.{some-none, some-cong}
 use Rattle.bounded.specs.Noted.{Noted}
 use Rattle.sizes.specs.Blocks.{inBlock}
+use Rattle.sizes.specs.BlocksLaws.{inside-block}
 use Rattle.record.specs.declared.Record.{Record}
 use Rattle.record.specs.declared.Slot.{Slot}
 use Rattle.record.specs.declared.Slot.the-variants.{Blank, Holds}
@@ -23,7 +24,6 @@ use Rattle.rules.specs.laws.Found.{judged-by-found}
 use Rattle.rules.specs.laws.Sweep.{erasable-obsolete}
 use Rattle.permit.specs.SearchLaws.{holds-none, holds-record}
 use Rattle.judge.specs.JudgeLaws.{blank-no-twin}
-use Rattle.judge.specs.BlockTwins.{inside-block}
 
 -- ---- exposed and obsolete records
 

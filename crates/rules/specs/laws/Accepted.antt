@@ -1,6 +1,6 @@
 -- What a call that answers 0 has tested, as facts.
 use Prim.Native.Nat.{ℕ, _*_, _<_, _≤_}
-use mathlib.Core.Path.{_≡_}
+use mathlib.Core.Path.{_≡_, sym, _∙_}
 use mathlib.Core.List.{List}
 use mathlib.Core.Bool.{true, false, not, _&&_, _||_}
 use lib.Dec.{ltb, eqb}
@@ -11,6 +11,7 @@ use Rattle.bounded.specs.Choice.{both-left, both-right}
 use Rattle.bounded.specs.Below.{allBelow, someBelow}
 use Rattle.bounded.specs.BelowLaws.{first-found, first-passes, first-none-before}
 use Rattle.outcome.specs.OutcomeLaws.{passed, held}
+use Rattle.outcome.specs.Chain.{both-pass}
 use Rattle.sizes.specs.declared.Sizes.{Sizes}
 use Rattle.sizes.specs.Sizes.{sizesOk, stateFits, listOk}
 use Rattle.sizes.specs.Blocks.{startsOk, NamedBlock, blockOk, blockAt}
@@ -32,6 +33,7 @@ use Rattle.rules.specs.Suggest.{suggestible, suggestAnswer, suggestedSlo
 use Rattle.rules.specs.Clean.{cleanFrom, cleanTo, tooFewBlank, cleanAnswer}
 use Rattle.rules.specs.Recover.{walkOf, recoverAnswer}
 use Rattle.rules.specs.laws.Outcomes.{suggest-done}
+use Rattle.rules.specs.laws.Chains.{blockJudged, block-judged-passed, cleanOwn, clean-chain}
 
 pub record LaunchTests (P : ℕ) (state pages : List ℕ) : Type 0 where
   pub state-sized : length state ≡ 4 * P
@@ -141,15 +143,12 @@ pub record CleanTests (widths : Widths) (sizes : Sizes) (v : Volume) (block : Na
   pub room : length (cleanFrom sizes v (blockAt (sizes .slots) block)) ≤ length (cleanTo sizes v (blockAt (sizes .slots) block))
 
 pub clean-tests : (widths : Widths) (sizes : Sizes) (v : Volume) (block : NamedBlock) → cleanAnswer widths sizes v block ≡ 0 → CleanTests widths sizes v block
-unfolding cleanAnswer tooFewBlank
+unfolding cleanOwn tooFewBlank
 clean-tests widths sizes v block e =
-    let a = held (volumeFits widths sizes v) _ _ e in
-    let s = held (startsOk (sizes .slots) (block .starts)) _ _ (a .1) in
-    let b = held (tableSound (sizes .pages) (sizes .slots) (slotAt (v .flash .words))) _ _ (s .1) in
-    let c = held (stateSound (sizes .pages) (stateAt (v .state))) _ _ (b .1) in
-    let d = held (blockOk block) _ _ (c .1) in
-    let f = passed (tooFewBlank sizes v (blockAt (sizes .slots) block)) _ _ (d .1) in
-    record { fits = fits-facts widths sizes v (a .0); table = b .0; sound = c .0; starts-sound = s .0; named = d .0; room = ltb-false _ _ (f .0) }
+    let parts = both-pass (blockJudged widths sizes v block) (cleanOwn sizes v block) (sym (clean-chain widths sizes v block) ∙ e) in
+    let j = block-judged-passed widths sizes v block (parts .0) in
+    let f = passed (tooFewBlank sizes v (blockAt (sizes .slots) block)) _ _ (parts .1) in
+    record { fits = fits-facts widths sizes v (j .fitting); table = j .table; sound = j .sound; starts-sound = j .starts-sound; named = j .named; room = ltb-false _ _ (f .0) }
 
 -- "the lowest": a slot that may be erased, and none below it may
 pub record Lowest (sizes : Sizes) (v : Volume) (slot : ℕ) : Type 0 where

@@ -20,7 +20,7 @@ use Rattle.record.specs.declared.Record.{Record}
 use Rattle.record.specs.declared.Slot.{Slot}
 use Rattle.record.specs.declared.Slot.the-variants.{Blank, Holds}
 use Rattle.record.specs.Slot.{slotAt, bytesAt, isBlank, recordSound, slotSound}
-use Rattle.record.specs.SlotLaws.{sound-facts, is-blank-exactly}
+use Rattle.record.specs.SlotLaws.{sound-facts, is-blank-exactly, not-blank-exactly}
 use Rattle.record.specs.Flash.{Flash, Step, applyAll}
 use Rattle.record.specs.FlashLaws.{SizedIn, SameSlot, Blanked, apply-append, blanks-sized, blanks-listed, blanks-unlisted}
 use Rattle.record.specs.BlankAgain.{blanks-again}
@@ -44,15 +44,6 @@ use Rattle.rules.specs.laws.Outcomes.{clean-done}
 holds-or-blank : {C : Type 0} (s : Slot) → (s ≡ Blank → C) → ((r : Record) → s ≡ Holds r → C) → C
 holds-or-blank Blank f g = f refl
 holds-or-blank (Holds r) f g = g r refl
-
-record-test : (s : Slot) → isBlank s ≡ false → (r : Record) × (s ≡ Holds r)
-unfolding isBlank
-record-test Blank e = absurd (never refl e)
-record-test (Holds r) e = (r, refl)
-
-holds-test : {s : Slot} {r : Record} → s ≡ Holds r → isBlank s ≡ false
-unfolding isBlank
-holds-test e = rw e
 
 -- a table is sound whose records are
 pub sound-slots : (P S : ℕ) (t : ℕ → Slot) → ((k : ℕ) (r : Record) → k < S → t k ≡ Holds r → recordSound P r ≡ true) → tableSound P S t ≡ true
@@ -138,7 +129,7 @@ module _ (sizes : Sizes) (v : Volume) (block : Block) (size : SizedIn FiveWords 
         copied-of j (record {
           below = omega arith;
           within = both-left (inside j) (twin j k) p;
-          full = holds-test (t .1);
+          full = not-blank-exactly _ .1 (_, t .1);
           barred = on-test (may j) (λ y. absurd (never (twin-may j k tj y) n)) (λ y. y);
           lowest = on-test (someBelow j (λ i. inside i && twin i j))
               (λ y. let w = some-at (λ i. inside i && twin i j) j y in
@@ -149,7 +140,7 @@ module _ (sizes : Sizes) (v : Volume) (block : Block) (size : SizedIn FiveWords 
         }),
         tj,
       ))
-      (λ s. (k, copied-of k (record { below = h; within = i; full = holds-test e; barred = n; lowest = s }), twins-self (sizes .width) (v .flash) k e))
+      (λ s. (k, copied-of k (record { below = h; within = i; full = not-blank-exactly (slots k) .1 (r, e); barred = n; lowest = s }), twins-self (sizes .width) (v .flash) k e))
     where
       test : ℕ → Bool
       test j = inside j && twin j k
@@ -181,7 +172,7 @@ module _ (sizes : Sizes) (v : Volume) (block : Block) (size : SizedIn FiveWords 
   ready =
       record {
         size = size;
-        sources = λ k m. let c = copied-facts k m in let r = record-test (slots k) (c .full) in
+        sources = λ k m. let c = copied-facts k m in let r = not-blank-exactly (slots k) .0 (c .full) in
             record { source-below = c .below; held = r .0; holds-it = r .1; storable = sound-facts (sizes .pages) (r .0) (sound-at slots (sizes .pages) (sizes .slots) k sound (c .below) (r .1)) .v-most };
         unaltered = λ k m. record { same-slot = refl; same-bytes = refl };
         blank = λ j m. free-facts j m .free-blank;

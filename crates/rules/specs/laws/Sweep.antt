@@ -13,7 +13,7 @@ use Rattle.bounded.specs.Below.{someBelow, firstBelow, listBelow}
 use Rattle.bounded.specs.BelowLaws.{some-of, some-none, first-found, first-passes, first-none-before}
 use Rattle.bounded.specs.Members.{entry-member, list-members}
 use Rattle.outcome.specs.Outcome.{Outcome}
-use Rattle.outcome.specs.OutcomeLaws.{held, settled-done}
+use Rattle.outcome.specs.OutcomeLaws.{settled-done}
 use Rattle.sizes.specs.declared.Layout.the-variants.{FiveWords}
 use Rattle.sizes.specs.declared.Sizes.{Sizes}
 use Rattle.sizes.specs.Sizes.{listOk, listed}
@@ -39,6 +39,7 @@ use Rattle.rules.specs.Sweep.{isSpareExposed, isObsoleteAt, isErasableOb
 use Rattle.rules.specs.Swept.{NoneOrErasable, SweepErases, SweptBare}
 use Rattle.rules.specs.laws.Volume.{Fits, bytes-whole, fits-facts, fits-test}
 use Rattle.rules.specs.laws.Permission.{Exposed, ExposedSpare, Needed, Erasable, obsolete-exactly, exposed-spare-exactly, needed-exactly, may-erase-exactly, may-erase-from, may-erase-all}
+use Rattle.rules.specs.laws.Chains.{judgedIn, Judged, judged-passed}
 use Rattle.rules.specs.laws.Clean.{sound-slots}
 
 -- ---- the slots that pass, blanked
@@ -174,18 +175,15 @@ module _ (widths : Widths) (sizes : Sizes) (v : Volume) (accepted : sweepAnswer 
   abbrev st : ℕ → PageState
   st = stateAt (v .state)
 
-  tests : (volumeFits widths sizes v ≡ true) × (tableSound (sizes .pages) S (slotAt (v .flash .words)) ≡ true) × (stateSound (sizes .pages) st ≡ true)
-  unfolding sweepAnswer
-  tests =
-      let a = held (volumeFits widths sizes v) _ _ accepted in
-      let b = held (tableSound (sizes .pages) (sizes .slots) (slotAt (v .flash .words))) _ _ (a .1) in
-      (a .0, b .0, held (stateSound (sizes .pages) (stateAt (v .state))) _ _ (b .1) .0)
+  tests : Judged FiveWords (volumeFits widths sizes v) (sizes .pages) S (v .flash .words) (v .state)
+  unfolding sweepAnswer judgedIn
+  tests = judged-passed FiveWords (volumeFits widths sizes v) (sizes .pages) S (v .flash .words) (v .state) accepted
 
   pub sweep-fits : Fits widths sizes v
-  sweep-fits = fits-facts widths sizes v (tests .0)
+  sweep-fits = fits-facts widths sizes v (tests .fitting)
 
   pub sweep-sound : stateSound (sizes .pages) st ≡ true
-  sweep-sound = tests .2
+  sweep-sound = tests .sound
 
   size0 : SizedIn FiveWords w S (v .flash)
   size0 = sweep-fits .flash-sized
@@ -199,7 +197,7 @@ module _ (widths : Widths) (sizes : Sizes) (v : Volume) (accepted : sweepAnswer 
 
   sound1 : tableSound (sizes .pages) S (slotAt (withoutExposed sizes v .words)) ≡ true
   unfolding withoutExposed sweptExposed
-  sound1 = without-sound w S (v .flash) size0 q1 (sizes .pages) (tests .1)
+  sound1 = without-sound w S (v .flash) size0 q1 (sizes .pages) (tests .table)
 
   held1 : (k : ℕ) (r : Record) → k < S → slotAt (withoutExposed sizes v .words) k ≡ Holds r → (q1 k ≡ false) × (slotAt (v .flash .words) k ≡ Holds r)
   unfolding withoutExposed sweptExposed
@@ -246,7 +244,7 @@ module _ (widths : Widths) (sizes : Sizes) (v : Volume) (accepted : sweepAnswer 
       × NoneOrErasable widths sizes v (withoutObsolete sizes v) (sweptTwins sizes v)
   unfolding sweptExposed sweptObsolete sweptTwins
   each-erasable = (
-    passing-erasable widths sizes v sweep-fits (tests .1) sweep-sound q1 (λ k h e. may-erase-from S _ st _ _ k .1 (inr (spare-may S (slotAt (v .flash .words)) st k e))),
+    passing-erasable widths sizes v sweep-fits (tests .table) sweep-sound q1 (λ k h e. may-erase-from S _ st _ _ k .1 (inr (spare-may S (slotAt (v .flash .words)) st k e))),
     passing-erasable widths sizes (at (withoutExposed sizes v)) fits1 sound1 sweep-sound q2
         (λ k h e. may-erase-from S _ st _ _ k .1
         (inr (both-right (isObsoleteAt (slotAt (withoutExposed sizes v .words)) st k) (mayErase S (slotAt (withoutExposed sizes v .words)) st k) (sym (erasable-obsolete w S (withoutExposed sizes v) st k) ∙ e)))),

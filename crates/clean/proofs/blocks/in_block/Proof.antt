@@ -1,6 +1,6 @@
 -- Not before its start, and before its end, tested in this order.
 use mathlib.Core.Path.{sym}
-use Rattle.judge.specs.BlockTwins.{before-block, behind-start}
+use Rattle.sizes.specs.BlocksLaws.{before-block, behind-start}
 use Rattle.clean.proofs.blocks.in_block.Statement.{statement}
 use Rattle.clean.proofs.blocks.in_block.Tie as tie
 

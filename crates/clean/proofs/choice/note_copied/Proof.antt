@@ -4,12 +4,12 @@ use native.Mathlib.Omega.{arith}
 use mathlib.Core.Path.{_≡_, refl}
 use Rattle.bounded.specs.Noted.{Noted, noted-none, noted-on}
 use Rattle.sizes.specs.Blocks.{inBlock}
+use Rattle.sizes.specs.BlocksLaws.{inside-block, before-block, behind-block}
 use Rattle.record.specs.Slot.{slotAt}
 use Rattle.record.specs.Flash.{flash}
 use Rattle.state.specs.State.{stateAt}
 use Rattle.twins.specs.Twins.{twins}
 use Rattle.rules.specs.Clean.{isCopied}
-use Rattle.judge.specs.BlockTwins.{inside-block, before-block, behind-block}
 use Rattle.clean.specs.Choosing.{outside-stays}
 use Rattle.clean.proofs.choice.note_copied.Statement.{statement}
 use Rattle.clean.proofs.choice.note_copied.Tie as tie

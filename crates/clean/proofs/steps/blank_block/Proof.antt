@@ -4,8 +4,8 @@ use native.Mathlib.Omega.{arith}
 use mathlib.Core.Path.{_≡_, refl, ap, _∙_}
 use lib.ListN.{length}
 use Rattle.bounded.specs.PartsLaws.{part-inside}
+use Rattle.sizes.specs.BlocksLaws.{inside-block}
 use Rattle.record.specs.Flash.{Flash, Step, apply, flash}
-use Rattle.judge.specs.BlockTwins.{inside-block}
 use Rattle.clean.specs.BlockLaws.{blankedUpTo, none-blanked, one-blanked, all-blanked}
 use Rattle.clean.proofs.steps.blank_block.Statement.{statement}
 use Rattle.clean.proofs.steps.blank_block.Tie as tie

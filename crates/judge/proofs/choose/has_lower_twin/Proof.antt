@@ -6,15 +6,17 @@ use mathlib.Core.Bool.{_&&_}
 use Rattle.bounded.specs.Choice.{both}
 use Rattle.bounded.specs.BelowLaws.{some-of}
 use Rattle.sizes.specs.Blocks.{inBlock}
+use Rattle.sizes.specs.BlocksLaws.{inside-block, before-block, block-facts}
 use Rattle.record.specs.declared.Record.{Record}
 use Rattle.record.specs.declared.Slot.the-variants.{Holds}
 use Rattle.record.specs.Slot.{slotAt}
+use Rattle.record.specs.SlotLaws.{not-blank-exactly}
 use Rattle.record.specs.Flash.{flash}
 use Rattle.twins.specs.Twins.{twins}
 use Rattle.chain.specs.Chain.{chainOf}
 use Rattle.chain.specs.ChainLaws.{Left, search-goes-on, search-falls}
 use Rattle.judge.specs.Judgeable.{slot-inside}
-use Rattle.judge.specs.BlockTwins.{inside-block, before-block, block-facts, holds-a-record, lowerTwin, lower-in-chain, lower-begins, lower-entry, not-lower, lower-ends}
+use Rattle.judge.specs.BlockTwins.{lowerTwin, lower-in-chain, lower-begins, lower-entry, not-lower, lower-ends}
 use Rattle.judge.proofs.choose.has_lower_twin.Statement.{statement}
 use Rattle.judge.proofs.choose.has_lower_twin.Tie as tie
 
@@ -36,7 +38,7 @@ loop-holds c =
     let p = c .before .before .before .pre in
     let a = c .before .before .before .args in
     let f = flash (a .words .now) (a .contents .now) in
-    let r = holds-a-record (slotAt (a .words .now) (a .slot)) (p .1 .1 .1) in
+    let r = not-blank-exactly (slotAt (a .words .now) (a .slot)) .0 (p .1 .1 .1) in
     let e = c .end-before .ensures in
     let l = lower-entry (a .sizes .width) f (inBlock (a .block)) (a .slot) (a .sizes .slots) (a .chains .now) (p .0 .chained) (p .1 .0) (r .1) in
     (omega arith, r .0, r .1, rw e (lower-begins (a .sizes .width) f (inBlock (a .block)) (a .slot) (a .sizes .slots) (a .chains .now) (p .0 .chained) (p .1 .0) (r .1)))

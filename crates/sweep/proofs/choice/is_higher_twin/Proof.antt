@@ -2,9 +2,9 @@
 use native.Mathlib.Omega.{arith}
 use borrow.Author.Needs.{needs}
 use mathlib.Core.Path.{sym, ap, _∙_}
+use Rattle.sizes.specs.BlocksLaws.{inside-block}
 use Rattle.record.specs.Slot.{isBlank}
 use Rattle.record.specs.Flash.{flash}
-use Rattle.judge.specs.BlockTwins.{inside-block}
 use Rattle.sweep.specs.Chosen.{blank-not-higher, lower-of-all}
 use Rattle.sweep.proofs.choice.is_higher_twin.Statement.{statement}
 use Rattle.sweep.proofs.choice.is_higher_twin.Tie as tie
