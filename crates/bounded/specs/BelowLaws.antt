@@ -6,7 +6,8 @@ use native.Mathlib.Numerals.{add-one}
 use mathlib.Core.Path.{_≡_, refl, sym, ap, ap₂, _∙_, subst}
 use mathlib.Core.Logic.{_⊎_, inl, inr, _↔_}
 use mathlib.Core.Bool.{Bool, true, false, _&&_, _||_}
-use borrow.Author.Tests.{lt-ltb, le-ltb}
+use lib.Dec.{eqb}
+use borrow.Author.Tests.{lt-ltb, le-ltb, eqb-true, eqb-false, eq-eqb, ne-eqb}
 use Rattle.bounded.specs.Choice.{on-lt, on-test, never, both, both-left, both-right, either-left, either-right}
 use Rattle.bounded.specs.Below.{allBelow, someBelow, sumBelow, maxBelow, firstBelow}
 
@@ -161,6 +162,58 @@ module _ (f : ℕ → ℕ) where
       let i = max-bound n b (λ k l. h k (omega arith)) in
       let j = h n (omega arith) in
       omega arith
+
+  -- it is reached
+  pub max-at : (n : ℕ) → (k : ℕ) × (k < suc n) × (f k ≡ maxBelow (suc n) f)
+  unfolding maxBelow
+  max-at zero = (0, omega arith, omega arith)
+  max-at (suc n) =
+      let w = max-at n in
+      on-lt (maxBelow (suc n) f) (f (suc n))
+      (λ l. (suc n, omega arith, omega arith))
+      (λ l. (w .0, let b = w .1 in omega arith, let e = w .2 in omega arith))
+
+  -- one number more: it is higher than those before it, or it is not
+  module _ (n : ℕ) where
+    pub max-here : maxBelow n f < f n → maxBelow (n + 1) f ≡ f n
+    unfolding maxBelow
+    max-here h = rw add-one (omega arith)
+
+    pub max-stays : f n ≤ maxBelow n f → maxBelow (n + 1) f ≡ maxBelow n f
+    unfolding maxBelow
+    max-stays h = rw add-one (omega arith)
+
+  -- where it is reached first
+  abbrev pub firstMost : ℕ → ℕ
+  firstMost n = firstBelow n (λ i. eqb (f i) (maxBelow n f))
+
+  pub first-most : (n : ℕ) → (firstMost (suc n) < suc n) × (f (firstMost (suc n)) ≡ maxBelow (suc n) f)
+  first-most n =
+      let w = max-at n in
+      let g : ℕ → Bool = λ i. eqb (f i) (maxBelow (suc n) f) in
+      let l = first-found g (suc n) (some-of g (suc n) (w .0) (w .1) (eq-eqb (f (w .0)) (maxBelow (suc n) f) (w .2))) in
+      (l, eqb-true _ _ (first-passes g (suc n) l))
+
+  pub before-first-most : (n k : ℕ) → k < firstMost n → f k < maxBelow n f
+  before-first-most n k h =
+      let g : ℕ → Bool = λ i. eqb (f i) (maxBelow n f) in
+      let a = max-above n k (let b = first-le g n in omega arith) in
+      let d = eqb-false (f k) (maxBelow n f) (first-none-before g n k h) in
+      omega arith
+
+  pub first-most-here : (n : ℕ) → maxBelow n f < f n → firstMost (n + 1) ≡ n
+  first-most-here n h =
+      let m = max-here n h in
+      first-is (λ i. eqb (f i) (maxBelow (n + 1) f)) (n + 1) n (omega arith) (eq-eqb (f n) (maxBelow (n + 1) f) (sym m)) (λ j l. ne-eqb (f j) (maxBelow (n + 1) f) (λ e. let a = max-above n j l in omega arith))
+
+  pub first-most-stays : (n : ℕ) → f n ≤ maxBelow n f → firstMost (n + 1) ≡ firstMost n
+  unfolding maxBelow firstBelow
+  first-most-stays zero h = let z : f 0 ≡ 0 = omega arith in rw z
+  first-most-stays (suc n) h =
+      let w = first-most n in
+      let m = max-stays (suc n) h in
+      first-is (λ i. eqb (f i) (maxBelow (suc n + 1) f)) (suc n + 1) (firstMost (suc n)) (let l = w .0 in omega arith) (eq-eqb (f (firstMost (suc n))) (maxBelow (suc n + 1) f) (w .1 ∙ sym m))
+      (λ j l. ne-eqb (f j) (maxBelow (suc n + 1) f) (λ e. let a = before-first-most (suc n) j l in omega arith))
 
 -- ---- what depends on the tests below n alone
 

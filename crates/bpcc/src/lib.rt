@@ -1,4 +1,4 @@
-// The C interface: every call, exported. The functions `star_cases`, `exposed_found`, `promise_3`, `cleaning`, `sweeping`, `two_widths` and `slowest_start` pin theorems in their contracts.
+// The C interface: every call, exported. The functions `star_cases`, `exposed_found`, `promise_3`, `cleaning`, `sweeping`, `picking`, `two_widths` and `slowest_start` pin theorems in their contracts.
 
 pub mod scc; // scc.rt: the second family
 
@@ -25,6 +25,7 @@ ghost use Rattle.rules.specs.Suggest.{suggestOutcome};
 ghost use Rattle.rules.specs.CheckBlocks.{checkBlocksOutcome};
 ghost use Rattle.rules.specs.Clean.{cleanOutcome};
 ghost use Rattle.rules.specs.Sweep.{sweepOutcome};
+ghost use Rattle.rules.specs.Pick.{pickOutcome};
 ghost use Rattle.rules.specs.Recover.{recoverOutcome};
 ghost use Rattle.rules.specs.Links.{backPointing, LinksAtMost, OneRingReaches, LinksAreSteps, LinksApart};
 ghost use Rattle.rules.specs.cases.Star.{starTable};
@@ -34,8 +35,10 @@ ghost use Rattle.rules.specs.cases.Width.{widthRows};
 ghost use Rattle.rules.specs.cases.Clean.{cleanRows};
 ghost use Rattle.rules.specs.cases.Blocks.{blockRows};
 ghost use Rattle.rules.specs.cases.Sweep.{sweepRows};
+ghost use Rattle.rules.specs.cases.Pick.{pickRows};
 ghost use Rattle.rules.specs.Cleaned.{Cleaned, CleanedAgain, CleanAccepted};
 ghost use Rattle.rules.specs.Swept.{SweepErases, SweptBare};
+ghost use Rattle.rules.specs.Picked.{GoingRound, Picked, LargerFindsNoLess};
 ghost use Rattle.rules.specs.laws.Found.{FoundExactly, JudgedByFound};
 ghost use Rattle.atomicity.specs.Family.{backPointer};
 ghost use Rattle.atomicity.specs.Promise.{PromiseAt, Promise3, OwnState};
@@ -243,6 +246,39 @@ pub extern "C" fn bpcc_clean(
     )
 }
 
+// Pick a block to clean, by a table of blocks.
+#[no_mangle]
+pub extern "C" fn bpcc_pick(
+    pages: u32,
+    slots: u32,
+    width: u32,
+    words: &[u32],
+    contents: &[u8],
+    state: &[u32],
+    starts: &[u32],
+    block: u32,
+    n: u32,
+    out: &mut [u32],
+) -> u64
+    ensures { λ r. ⌜ returned r (now (out .exit))
+        ≡ pickOutcome twoWidths (sizesOf pages slots width) (volume (now (words .entry)) (now (contents .entry)) (now (state .entry))) (named (now (starts .entry)) block) n (now (out .entry)) ⌝ }
+{
+    pick::pick(
+        Sizes {
+            pages,
+            slots,
+            width,
+        },
+        words,
+        contents,
+        state,
+        starts,
+        block,
+        n,
+        out,
+    )
+}
+
 // A full sweep.
 #[no_mangle]
 pub extern "C" fn bpcc_sweep(
@@ -366,6 +402,15 @@ pub fn sweeping()
     ensures bare { λ _. ⌜ SweptBare ⌝ }
     ensures left { λ _. ⌜ Sweeping ⌝ }
     ensures swept { λ _. ⌜ RowsHold sweepRows ⌝ }
+{}
+
+// Document 02, wish 9: going round shows each block once, from the named one on; the block that a pick names is the earliest seen of those that free most, and "no unseen block beats the number by more than that", which is the largest one's size less the number, or 0; "a larger n
+// never finds less"; and picks, computed.
+pub fn picking()
+    ensures round { λ _. ⌜ GoingRound ⌝ }
+    ensures picked { λ _. ⌜ Picked ⌝ }
+    ensures larger { λ _. ⌜ LargerFindsNoLess ⌝ }
+    ensures words { λ _. ⌜ RowsHold pickRows ⌝ }
 {}
 
 // Document 02, wish 10: promise 3, shown once for any width, used at the two that the calls take; and what the calls answer at these and at others, and

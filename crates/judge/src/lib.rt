@@ -137,7 +137,7 @@ fn all_permitted(
 }
 
 // The slot may be erased, "a list of one": its mark alone stands while it is judged.
-fn may_erase_alone(
+pub fn may_erase_alone(
     sizes: Sizes,
     words: &[u32],
     contents: &[u8],

@@ -7,7 +7,7 @@ use mathlib.Core.Bool.{Bool, true, false, cond, not, _&&_}
 use lib.Dec.{ltb, eqb}
 use borrow.Author.Tests.{lt-ltb, le-ltb}
 use Rattle.bounded.specs.Limits.{noNumber}
-use Rattle.bounded.specs.Choice.{on-test, never}
+use Rattle.bounded.specs.Choice.{on-test, never, and-false}
 use Rattle.sizes.specs.declared.Layout.{Layout}
 use Rattle.sizes.specs.declared.Layout.the-variants.{FiveWords, FourWords}
 use Rattle.record.specs.declared.Record.{Record}
@@ -116,10 +116,6 @@ isRise p v best r = eqb (r .p) p && (ltb (r .v) v && above best r)
 
 unfoldable pub risen : (p v : ℕ) → (best slot : Slot) → Slot
 risen p v best slot = cond (holds (isRise p v best) slot) slot best
-
-and-false : (x : Bool) → (x && false) ≡ false
-and-false true = refl
-and-false false = refl
 
 pub rises : (p v n : ℕ) (t : ℕ → Slot) → risen p v (highest n (under v t) p) (t n) ≡ highest (n + 1) (under v t) p
 unfolding risen isRise highest raised under holds better ofPage

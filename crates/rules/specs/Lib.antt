@@ -12,6 +12,8 @@ pub mod Cleaned
 pub mod Sweep
 pub mod Suggest
 pub mod Swept
+pub mod Pick
+pub mod Picked
 pub mod Verdict
 pub mod Recover
 pub mod Links

@@ -9,6 +9,7 @@ pub mod Suggest
 pub mod Clean
 pub mod Blocks
 pub mod Sweep
+pub mod Pick
 pub mod Recover
 pub mod Links
 pub mod Star

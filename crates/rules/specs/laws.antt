@@ -13,3 +13,4 @@ pub mod Simple
 pub mod SimpleAccepted
 pub mod Clean
 pub mod Sweep
+pub mod Pick
