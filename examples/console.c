@@ -9,7 +9,8 @@
  * Behind these may stand, in this order:
  *
  *   64       a piston has 64 bytes, 512 stops; else it has 32 bytes, 256 stops
- *   slots    the chip erases slots, and the console sweeps; else it erases blocks, and the console cleans
+ *   slots    the chip erases slots, and the console sweeps; else it erases blocks, and the console cleans the one that frees most of
+ *            the next few
  *
  * A FILE that is there and is no flash file of this console and this width, by its length, is left as it is. Both chips have the same
  * slots: a file of the one is a file of the other.
@@ -42,6 +43,10 @@ static const uint32_t starts[BLOCKS] = {0, 8, 16, 32, 64, 128};
 /* How many blank slots are kept in reserve for cleaning: as many as the largest block has slots. A block of m slots with n records has
  * m - n of them at most, so that n or more are outside it: enough to copy all its records, whatever they are. */
 enum { RESERVE = LARGEST_BLOCK };
+
+/* How many blocks are looked at for one to clean, while the organist waits. With time to spare a console may look on where
+ * BPCC_PICK_UNSEEN says that another block could free many more. */
+enum { LOOKED_AT = 3 };
 
 /* How few slots are blank where the chip of slots is swept. */
 enum { SWEPT_AT = 16 };
@@ -221,11 +226,11 @@ static void check_blocks(void) {
     }
 }
 
-/* The block that is cleaned next. */
+/* The first of the blocks that are looked at next: the one behind that which was cleaned last. */
 static uint32_t next_block;
 
 /* Power-up: check the table of blocks, load the flash, then recover. Nothing else is called before recovery has answered 0. Which block
- * is cleaned first is left to chance, so that the first ones do not wear faster where the power fails often. */
+ * is looked at first is left to chance, so that the first ones do not wear faster where the power fails often. */
 static void power_up(const char *path) {
     uint32_t k;
     check_blocks();
@@ -340,18 +345,21 @@ static void sweep(void) {
     tidied++;
 }
 
-/* Cleans blocks in turn, which wears them alike, until more slots are blank than the reserve. Copies that a power failure left beside
- * their originals may have used some of the reserve, so that a block has to wait; the one that was being cleaned never has to. */
+/* Cleans blocks until more slots are blank than the reserve: of the next few the one that frees most, and on from the one behind it,
+ * which spreads the wear. One that frees nothing is passed by: its cleaning gains no slot. Copies that a power failure left beside their
+ * originals may have used some of the reserve, so that a block has to wait; the one that was being cleaned never has to. So behind a
+ * block that is passed by or has to wait each is tried by itself. */
 static void clean_blocks(void) {
-    uint32_t refused = 0;
+    uint32_t picked[BPCC_PICK_WORDS], skipped = 0;
     while (blank_slots() <= RESERVE) {
-        if (clean(next_block)) {
+        done("pick", bpcc_pick(VOLUME, WORDS, CONTENTS, STATE, STARTS, next_block, skipped == 0 ? LOOKED_AT : 1, picked, BPCC_PICK_WORDS));
+        if (picked[BPCC_PICK_FREES] > 0 && clean(picked[BPCC_PICK_BLOCK])) {
             tidied++;
-            refused = 0;
-        } else if (++refused == BLOCKS) {
+            skipped = 0;
+        } else if (++skipped == BLOCKS) {
             fail("no block can be cleaned");
         }
-        next_block = (next_block + 1) % BLOCKS;
+        next_block = (picked[BPCC_PICK_BLOCK] + 1) % BLOCKS;
     }
 }
 

@@ -42,7 +42,7 @@ extern "C" {
 /* The interface's version: the major number rises where a caller must change, the minor where something is added, made
  * stricter, or costs otherwise (docs/CHANGES.md). */
 #define BPCC_VERSION_MAJOR 4
-#define BPCC_VERSION_MINOR 1
+#define BPCC_VERSION_MINOR 2
 
 /* The two widths: bytes of contents for each slot, and the length of what is written and read. */
 #define BPCC_WIDTH_32 32
@@ -67,9 +67,18 @@ extern "C" {
 #define BPCC_BLOCKS_OF_64 {0, 64, 128, 192, 256, 320, 384, 448, 512, 576, 640, 704, 768, 832, 896, 960}
 #define BPCC_BLOCKS_OF_64_LENGTH(slots) (((size_t)(slots) + 63) / 64)
 
-/* Words of a slot in the table, and of a page in the state. */
+/* Words of a slot in the table, of a page in the state, and of what bpcc_pick fills. */
 #define BPCC_SLOT_WORDS 5
 #define BPCC_PAGE_WORDS 4
+#define BPCC_PICK_WORDS 4
+
+/* The words that bpcc_pick fills. */
+enum bpcc_pick_words {
+    BPCC_PICK_BLOCK = 0,
+    BPCC_PICK_FREES = 1,
+    BPCC_PICK_LOOKED = 2,
+    BPCC_PICK_UNSEEN = 3
+};
 
 /* The lengths of words, contents and state for P pages, S slots and width W. */
 #define BPCC_TABLE_WORDS(slots) (BPCC_SLOT_WORDS * (size_t)(slots))
@@ -94,7 +103,8 @@ enum bpcc_answers {
     BPCC_NOTHING_TO_ERASE = 13,
     BPCC_NO_COMMITTED_RECORD = 14,
     BPCC_TOO_FEW_BLANK = 15,
-    BPCC_WRONG_BLOCKS = 17
+    BPCC_WRONG_BLOCKS = 17,
+    BPCC_NOTHING_TO_LOOK_AT = 18
 };
 
 /* The answer, 0 for done. */
@@ -123,6 +133,7 @@ static inline const char *bpcc_answer_text(uint32_t answer) {
     case BPCC_TOO_FEW_BLANK: return "too few blank slots outside the block";
     case 16: return "a record would be buried";
     case BPCC_WRONG_BLOCKS: return "block table wrong";
+    case BPCC_NOTHING_TO_LOOK_AT: return "no block to look at";
     default: return "no answer of this library";
     }
 }
@@ -219,6 +230,29 @@ uint64_t bpcc_clean(uint32_t pages, uint32_t slots, uint32_t width,
                     const uint32_t *state, size_t state_length,
                     const uint32_t *starts, size_t starts_length,
                     uint32_t block);
+
+/*
+ * Picks a block to clean: of n blocks, or of all where n is above the table's length, the one that frees most, the earliest looked at
+ * where several do. It looks at `block` first and then at those behind it, behind the last at block 0. What a block frees is the number
+ * of its slots that may be erased, each in a list of its own, as bpcc_suggest judges: of twins in one block all count, though cleaning
+ * keeps one of them where their record must stay. Alters out alone, BPCC_PICK_WORDS long:
+ *
+ *   BPCC_PICK_BLOCK   the block
+ *   BPCC_PICK_FREES   what it frees
+ *   BPCC_PICK_LOOKED  how many blocks were looked at: the smaller of n and the table's length
+ *   BPCC_PICK_UNSEEN  how much a block not looked at could beat it: the slots of the largest such block less BPCC_PICK_FREES, or 0
+ *
+ * No block not looked at frees more than the second and the last word together: the last says whether it is worth to look on, and
+ * where it is 0 no block of the table frees more. A larger n never finds less.
+ * Refuses: 1, 17, 2, 5, 6 (a block at or past the table's length), 18 (n is 0), in this order. Uses less than 8 KiB of stack.
+ */
+uint64_t bpcc_pick(uint32_t pages, uint32_t slots, uint32_t width,
+                   const uint32_t *words, size_t words_length,
+                   const uint8_t *contents, size_t contents_length,
+                   const uint32_t *state, size_t state_length,
+                   const uint32_t *starts, size_t starts_length,
+                   uint32_t block, uint32_t n,
+                   uint32_t *out, size_t out_length);
 
 /*
  * Sweeps the volume: three erasures in a row. First every exposed record goes (v above its page's committed version), other than one

@@ -257,7 +257,7 @@ LAYERS = [
     (84, 66, "Console's firmware", ["C, yours; owns all memory and lends it"],
      [("tested", "the example console, killed at random flash steps"),
       ("believed", "buffers as stated, none overlapping; P and S stay;", "after power-up no other call before recover is done")]),
-    (192, 118, "Library: nine calls", ["libbpcc.a; no heap, no static data,", "no operating system; keeps nothing", "between calls"],
+    (192, 118, "Library", ["libbpcc.a; no heap, no static data,", "no operating system; keeps nothing", "between calls"],
      [("proved", "for every input each call's whole outcome; for every", "list of calls and power cuts: sets come back whole"),
       ("tested", "the compiled archive, across the C boundary,", "against a second implementation"),
       ("believed", "the definitions; the kit's checker and compiler;", "one function stores to flash (read off the code)")]),
@@ -288,8 +288,8 @@ def layers():
     for (y, height, *_), (below, *_), (down, up) in zip(LAYERS, LAYERS[1:], flows):
         level = (y + height + below) / 2 + 4
         parts += [arrow([(136, y + height), (136, below)]), text(144, level, down), arrow([(238, below), (238, y + height)]), text(246, level, up)]
-    order = ["after each", "format,", "write or", "erase:", "program", "its slots,", "before the", "next call"]
-    note = ["At power-up the driver loads the images, and recover fills the state from words alone.",
+    order = ["after each", "call that", "alters", "slots:", "program", "them,", "before the", "next call"]
+    note = ["At power-up the driver loads the images, and recover fills the state from words and contents.",
             "The images are RAM on a chip that is mapped into memory, too: the driver programs a slot after the call that altered it."]
     return picture(678, "From the firmware to the chip: what is proved, tested, believed",
                    "Firmware, library, buffers in RAM, flash driver, chip. The library is proved and its compiled archive tested; what firmware, "

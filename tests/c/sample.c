@@ -1,7 +1,7 @@
 /*
  * Document 01's sample sequence over include/bpcc.h at both widths, every answer and every buffer checked; a volume cleaned, and
- * twins such as a cut in that leaves; tables of blocks; a volume swept; the links that recover follows and those of one that is
- * refused; every call with NULL, 0 for every choice of its buffers, and every call with widths that there are not. C99 and C++.
+ * twins such as a cut in that leaves; tables of blocks; blocks picked; a volume swept; the links that recover follows and those of one
+ * that is refused; every call with NULL, 0 for every choice of its buffers, and every call with widths that there are not. C99 and C++.
  * The last line of its output is 'N passed, M failed'.
  */
 #include "bpcc.h"
@@ -42,6 +42,11 @@ static uint64_t check_blocks(void) {
 static uint64_t clean(uint32_t block) {
     return bpcc_clean(PAGES, volume_slots, told, words, words_length, contents, contents_length, state, state_length, starts,
                       starts_length, block);
+}
+
+static uint64_t pick(uint32_t block, uint32_t n) {
+    return bpcc_pick(PAGES, volume_slots, told, words, words_length, contents, contents_length, state, state_length, starts, starts_length,
+                     block, n, picked, picked_length);
 }
 
 static uint64_t sweep(void) {
@@ -139,6 +144,7 @@ static void erasing(void) {
 
 #include "sample_blocks.h"
 #include "sample_sweep.h"
+#include "sample_pick.h"
 
 /* Recover refuses what is in the table now, has no links, and leaves every buffer. */
 static void expect_no_links(uint32_t answer, const char *name) {
@@ -175,7 +181,7 @@ static void links(void) {
     expect_no_links(BPCC_NO_COMMITTED_RECORD, "no links where a committed record is missing");
 }
 
-/* The twelve calls, and the buffers that each takes. */
+/* The thirteen calls, and the buffers that each takes. */
 static const struct taking calls[] = {
     {FORMAT, WORDS | CONTENTS | STATE, "format with NULL, 0 or another width"},
     {LAUNCH, STATE | LIST, "launch with NULL, 0 or another width"},
@@ -185,6 +191,7 @@ static const struct taking calls[] = {
     {SUGGEST, WORDS | CONTENTS | STATE, "suggest with NULL, 0 or another width"},
     {CHECK_BLOCKS, STARTS, "check_blocks with NULL, 0 or another width"},
     {CLEAN, WORDS | CONTENTS | STATE | STARTS, "clean with NULL, 0 or another width"},
+    {PICK, WORDS | CONTENTS | STATE | STARTS | PICKED, "pick with NULL, 0 or another width"},
     {SWEEP, WORDS | CONTENTS | STATE, "sweep with NULL, 0 or another width"},
     {RECOVER, WORDS | CONTENTS | STATE, "recover with NULL, 0 or another width"},
     {COUNT, BYTES, "count with NULL, 0"},
@@ -203,6 +210,7 @@ static uint64_t make(enum call call) {
     case SUGGEST: return suggest();
     case CHECK_BLOCKS: return check_blocks();
     case CLEAN: return clean(0);
+    case PICK: return pick(0, 2);
     case SWEEP: return sweep();
     case RECOVER: return recover();
     case COUNT: return bpcc_count(bytes, bytes_length);
@@ -237,7 +245,7 @@ static void counts(void) {
 
 /* Every answer, scc.h's 16 among them, has a text of its own, and no other number has one. */
 static void texts(void) {
-    const uint32_t last = BPCC_WRONG_BLOCKS, no_answer[] = {last + 1, BPCC_NONE};
+    const uint32_t last = BPCC_NOTHING_TO_LOOK_AT, no_answer[] = {last + 1, BPCC_NONE};
     const char *none = bpcc_answer_text(BPCC_NONE);
     uint32_t answer, other;
     size_t i;
@@ -265,6 +273,8 @@ static void at_width(uint32_t w) {
     blocks();
     sweep_refusals();
     sweeping();
+    pick_refusals();
+    picking();
     links();
     for (i = 0; i < CALLS; i++) {
         nulls(&calls[i]);

@@ -83,7 +83,7 @@ static void twins(void) {
     expect_kept("a cleaning with no blank slot outside leaves every buffer");
 }
 
-/* A table is refused by both calls that take it, leaving every buffer. */
+/* A table is refused by all calls that take it, leaving every buffer. */
 static void expect_no_table(uint32_t first, uint32_t second, size_t length, const char *name) {
     lend_two_blocks();
     starts[0] = first;
@@ -92,6 +92,7 @@ static void expect_no_table(uint32_t first, uint32_t second, size_t length, cons
     keep();
     expect(check_blocks(), BPCC_WRONG_BLOCKS, 0, name);
     expect(clean(0), BPCC_WRONG_BLOCKS, 0, name);
+    expect(pick(0, 1), BPCC_WRONG_BLOCKS, 0, name);
     expect_kept(name);
 }
 

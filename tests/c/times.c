@@ -3,12 +3,14 @@
  * at five sizes: a line for each kind says what it is and has its times, for recover also the links that it follows. Behind the
  * kinds of each width a table has the longest of each call of bpcc.h, in milliseconds, but for check_blocks, which takes less than
  * the clock tells, and one of its own the longest of those calls of scc.h that a table's records keep busy: its other calls do what
- * bpcc.h's do. No time is a failure; the last line is 'N passed, M failed', and a kind at a size passes if it could be made and each
- * call on it gave the answer, and recover the links, expected.
+ * bpcc.h's do. Pick has three rows: pick_1, pick_4 and pick_16 look at so many blocks of 64 slots, or at all where there are fewer.
+ * No time is a failure; the last line is 'N passed, M failed', and a kind at a size passes if it could be made and each call on it
+ * gave the answer, recover the links and pick the number of blocks looked at, expected.
  *
  * A time is the shortest of ROUNDS calls, each on the volume as it was made, less what reading the clock takes: what else the
- * machine does is left out. The calls themselves make the volumes, but for those made by hand, to which no list of calls leads:
- * erase, suggest, clean, sweep and recover accept any sound records, and search or follow longest on these.
+ * machine does is left out. (Where the linker lays an innermost loop across two cache lines, it is up to twice as long.) The calls
+ * themselves make the volumes, but for those made by hand, to which no list of calls leads: erase, suggest, clean, pick, sweep and
+ * recover accept any sound records, and search or follow longest on these.
  */
 #define _POSIX_C_SOURCE 200809L
 
@@ -20,10 +22,15 @@
 #include <time.h>
 
 enum { SIZES = 5, ROUNDS = 101 };
-enum call { FORMAT, LAUNCH, WRITE, WITHDRAW, ERASE, SUGGEST, CLEAN, SWEEP, RECOVER, COUNT, READ, SCC_WRITE, SCC_ERASE, SCC_RECOVER, CALLS };
+enum call {
+    FORMAT, LAUNCH, WRITE, WITHDRAW, ERASE, SUGGEST, CLEAN, PICK_1, PICK_4, PICK_16, SWEEP, RECOVER, COUNT, READ,
+    SCC_WRITE, SCC_ERASE, SCC_RECOVER, CALLS
+};
 
-static const char *const names[CALLS] = {"format", "launch",  "write", "withdraw", "erase",     "suggest",   "clean",
-                                         "sweep",  "recover", "count", "read",     "scc_write", "scc_erase", "scc_recover"};
+static const char *const names[CALLS] = {
+    "format", "launch", "write", "withdraw", "erase", "suggest", "clean", "pick_1", "pick_4", "pick_16", "sweep", "recover", "count", "read",
+    "scc_write", "scc_erase", "scc_recover"
+};
 static const uint32_t sizes[SIZES] = {64, 128, 256, 512, 1024};
 
 /* A volume. Calls on it are given its last page, its last slot, its table of blocks and block 0 of it, and the list of the `listed`
@@ -40,6 +47,8 @@ static uint32_t width; /* of all volumes at hand */
 static int four;       /* whether their records have four words: scc.h's calls are made on them */
 static uint32_t list[BPCC_MAX_SLOTS]; /* the numbers from 0 up */
 static uint8_t bytes[BPCC_MAX_WIDTH];
+static const uint32_t looked_at[] = {1, 4, 16}; /* how many blocks pick_1, pick_4 and pick_16 look at */
+static uint32_t picked[BPCC_PICK_WORDS];
 static unsigned passed, failed, wrong; /* wrong: answers not expected, on the volume at hand */
 
 #define FAMILY(call, ...) (four ? scc_##call(__VA_ARGS__) : bpcc_##call(__VA_ARGS__))
@@ -59,6 +68,10 @@ static uint64_t reply_of(enum call call) {
     case SCC_ERASE: return FAMILY(erase, VOLUME, WORDS, CONTENTS, STATE, list + v.first, v.listed);
     case SUGGEST: return bpcc_suggest(VOLUME, WORDS, CONTENTS, STATE);
     case CLEAN: return bpcc_clean(VOLUME, WORDS, CONTENTS, STATE, v.starts, v.blocks, 0);
+    case PICK_1:
+    case PICK_4:
+    case PICK_16:
+        return bpcc_pick(VOLUME, WORDS, CONTENTS, STATE, v.starts, v.blocks, 0, looked_at[call - PICK_1], picked, BPCC_PICK_WORDS);
     case SWEEP: return bpcc_sweep(VOLUME, WORDS, CONTENTS, STATE);
     case RECOVER: return bpcc_recover(VOLUME, WORDS, CONTENTS, STATE);
     case SCC_RECOVER: return scc_recover(VOLUME, WORDS, STATE);
@@ -409,6 +422,12 @@ static void half_needed(uint32_t slots) {
     set(room() - 1, 1, 1, 0, 0, 6);
 }
 
+/* By hand: block 0 is blank, and so has nothing to judge; rings of all pages are in the others. */
+static void block_blank(uint32_t slots) {
+    at_rest(slots);
+    memset(v.words, 0xFF, 4 * BPCC_TABLE_WORDS(64));
+}
+
 /* Each call on its kinds of volume, and the answer expected. */
 static const struct kind {
     enum call call;
@@ -435,6 +454,28 @@ static const struct kind {
     {CLEAN, BPCC_DONE, half_alike, "P = 1, by hand, a block of S/2 records alike but for their last bytes, all to copy"},
     {CLEAN, BPCC_DONE, half_needed, "P = S, by hand, a block of S/2-1 needed records of one chain and their link, all to copy"},
     {CLEAN, BPCC_TOO_FEW_BLANK, all_alike, "P = 1, by hand, one block of S records alike but for their last bytes"},
+    {PICK_1, BPCC_DONE, block_blank, "P = S, by hand, a blank block, rings of all in the others"},
+    {PICK_1, BPCC_DONE, at_rest, "P = S, rings of all, no slot blank"},
+    {PICK_1, BPCC_DONE, unstraddled, "P = 2, half of the slots obsolete, the others exposed"},
+    {PICK_1, BPCC_DONE, needed, "P = 2, S/2-2 needed records before their links"},
+    {PICK_1, BPCC_DONE, outdone, "P = 2, S-4 records, each outdone by those before it"},
+    {PICK_1, BPCC_DONE, chain_needed, "P = S, by hand, S-1 needed records of one chain"},
+    {PICK_1, BPCC_DONE, alike, "P = 1, by hand, S records alike but for their last bytes"},
+    {PICK_1, BPCC_DONE, needed_alike, "P = S, by hand, S-1 needed records alike but for their last bytes"},
+    {PICK_4, BPCC_DONE, at_rest, "P = S, rings of all, no slot blank"},
+    {PICK_4, BPCC_DONE, unstraddled, "P = 2, half of the slots obsolete, the others exposed"},
+    {PICK_4, BPCC_DONE, needed, "P = 2, S/2-2 needed records before their links"},
+    {PICK_4, BPCC_DONE, outdone, "P = 2, S-4 records, each outdone by those before it"},
+    {PICK_4, BPCC_DONE, chain_needed, "P = S, by hand, S-1 needed records of one chain"},
+    {PICK_4, BPCC_DONE, alike, "P = 1, by hand, S records alike but for their last bytes"},
+    {PICK_4, BPCC_DONE, needed_alike, "P = S, by hand, S-1 needed records alike but for their last bytes"},
+    {PICK_16, BPCC_DONE, at_rest, "P = S, rings of all, no slot blank"},
+    {PICK_16, BPCC_DONE, unstraddled, "P = 2, half of the slots obsolete, the others exposed"},
+    {PICK_16, BPCC_DONE, needed, "P = 2, S/2-2 needed records before their links"},
+    {PICK_16, BPCC_DONE, outdone, "P = 2, S-4 records, each outdone by those before it"},
+    {PICK_16, BPCC_DONE, chain_needed, "P = S, by hand, S-1 needed records of one chain"},
+    {PICK_16, BPCC_DONE, alike, "P = 1, by hand, S records alike but for their last bytes"},
+    {PICK_16, BPCC_DONE, needed_alike, "P = S, by hand, S-1 needed records alike but for their last bytes"},
     {SWEEP, BPCC_DONE, at_rest, "P = S, rings of all, no slot blank"},
     {SWEEP, BPCC_DONE, unstraddled, "P = 2, half of the slots obsolete, the others exposed"},
     {SWEEP, BPCC_DONE, needed, "P = 2, S/2-2 needed records before their links"},
@@ -465,6 +506,12 @@ static double milliseconds(void) {
     struct timespec t;
     clock_gettime(CLOCK_MONOTONIC, &t);
     return 1e3 * (double)t.tv_sec + 1e-6 * (double)t.tv_nsec;
+}
+
+/* A pick looked at as many blocks as it is to, or at all. */
+static void expect_looked_at(enum call call) {
+    const uint32_t n = looked_at[call - PICK_1];
+    wrong += picked[BPCC_PICK_LOOKED] != (n < v.blocks ? n : v.blocks);
 }
 
 /* The shortest time of a call on the volume made. */
@@ -519,6 +566,9 @@ static void measure(const struct kind *kind, double clock_time, double *longest)
         times[s] = shortest(kind->call, one_block(kind) ? BPCC_TOO_FEW_BLANK : kind->answer) - clock_time;
         longest[s] = times[s] > longest[s] ? times[s] : longest[s];
         links[s] = recovers ? followed(kind->call) : 0;
+        if (kind->call >= PICK_1 && kind->call <= PICK_16) {
+            expect_looked_at(kind->call);
+        }
         right += wrong == 0;
     }
     passed += right;

@@ -9,7 +9,7 @@ use crate::interface::{Family, NONE, WIDTHS};
 use crate::random::Random;
 use crate::rules::{set_entry, slot_bytes, slot_words, state_sound, Entry, Record, LAST_VERSION};
 use crate::volume::{Call, Layout, Sizes, Volume};
-pub use arguments::{blocks_to_clean, page_and_slot_to_write, page_to_take, pages_to_launch, slots_to_erase};
+pub use arguments::{blocks_to_clean, blocks_to_look_at, page_and_slot_to_write, page_to_take, pages_to_launch, slots_to_erase};
 
 /// Widths that no volume has.
 pub const WRONG_WIDTHS: [u32; 7] = [0, 31, 33, 63, 65, 96, NONE];

@@ -46,6 +46,9 @@ pub const PAGE_WORDS: usize = 4;
 /// The most blocks of a table.
 pub const MOST_BLOCKS: usize = 16;
 
+/// The words that a pick fills.
+pub const PICK_WORDS: usize = 4;
+
 /// Hands the calls to a macro, a row for each: its family, its name, its name in C, and what it takes in the order of the header. A
 /// name in brackets is a buffer, in C a pointer and then a length.
 macro_rules! calls {
@@ -59,6 +62,7 @@ macro_rules! calls {
             Bpcc Suggest     bpcc_suggest      (pages, slots, width, [words], [contents], [state])
             Bpcc CheckBlocks bpcc_check_blocks (pages, slots, width, [starts])
             Bpcc Clean       bpcc_clean        (pages, slots, width, [words], [contents], [state], [starts], block)
+            Bpcc Pick        bpcc_pick         (pages, slots, width, [words], [contents], [state], [starts], block, n, [picked])
             Bpcc Sweep       bpcc_sweep        (pages, slots, width, [words], [contents], [state])
             Bpcc Recover     bpcc_recover      (pages, slots, width, [words], [contents], [state])
             Bpcc Count       bpcc_count        ([bytes])
@@ -92,8 +96,10 @@ pub struct Arguments<'a> {
     pub list: &'a [u32],
     pub starts: &'a [u32],
     pub block: u32,
+    pub n: u32,
     pub bytes: &'a [u8],
     pub out: &'a mut [u8],
+    pub picked: &'a mut [u32],
 }
 
 /// Which call of a family.
@@ -107,6 +113,7 @@ pub enum Name {
     Suggest,
     CheckBlocks,
     Clean,
+    Pick,
     Sweep,
     Recover,
     Count,

@@ -8,6 +8,7 @@ pub mod implementations;
 pub mod inputs;
 pub mod interface;
 pub mod ledger;
+pub mod picking;
 pub mod random;
 pub mod rules;
 pub mod sweeping;

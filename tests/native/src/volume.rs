@@ -1,7 +1,8 @@
 //! A volume with its state, and the calls that a run makes on it.
 
 use crate::cleaning::{may_erase_alone, twins, View};
-use crate::interface::{Arguments, Calls, Family, Name, Reply, NONE, PAGE_WORDS};
+use crate::interface::{Arguments, Calls, Family, Name, Reply, NONE, PAGE_WORDS, PICK_WORDS};
+use crate::picking;
 use crate::rules::{is_exposed, old_rule, records, set_slot, slot, slot_bytes, slot_words, Record};
 use std::fmt;
 
@@ -76,6 +77,9 @@ pub enum Call {
     Sweep,
     Recover,
 }
+
+/// What stands in the words lent to a pick.
+pub const LENT: u32 = 0xA5A5_A5A5;
 
 #[derive(Clone, Debug, PartialEq, Eq)]
 pub struct Volume {
@@ -162,6 +166,23 @@ impl Volume {
 
     pub fn suggest(&mut self, calls: &dyn Calls) -> Reply {
         calls.call(Name::Suggest, &mut self.arguments())
+    }
+
+    /// What a pick says, and its words: those that it is lent where it is refused.
+    pub fn pick(&mut self, calls: &dyn Calls, starts: &[u32], block: u32, n: u32) -> (Reply, picking::Words) {
+        let mut picked = [LENT; PICK_WORDS];
+        let reply = calls.call(Name::Pick, &mut Arguments { starts, block, n, picked: &mut picked, ..self.arguments() });
+        (reply, picked)
+    }
+
+    /// The words of a pick that is done; it alters nothing, and what is shown of it holds.
+    pub fn picked(&self, calls: &dyn Calls, starts: &[u32], block: u32, n: u32) -> picking::Words {
+        let mut v = self.clone();
+        let (reply, mut picked) = v.pick(calls, starts, block, n);
+        assert_eq!(reply, Reply::done(0), "a pick from block {block} on, {n} of {starts:?}");
+        picking::assert_promised(calls, &mut Arguments { starts, block, n, picked: &mut picked, ..v.arguments() });
+        assert!(v == *self, "a pick altered the volume");
+        picked
     }
 
     pub fn read(&mut self, calls: &dyn Calls, page: u32, out: &mut [u8]) -> Reply {

@@ -78,14 +78,15 @@ const WRONG: [(Fault, Lent, u32); 4] = [
     (Fault::SweepTakesRecordsInFlight, Lent::OfTwo, 2),
 ];
 
-/// What loses a page, or leaves too many records, in a sweep behind case 6.
-const WRONG_SWEEPS: [Fault; 6] = [
+/// What loses a page, or leaves too many records, in a sweep behind case 6, or counts a needed straddler there.
+const WRONG_BEHIND_CASE_6: [Fault; 7] = [
     Fault::DriverSweepsRising,
     Fault::DriverSweepsObsoleteWithExposed,
     Fault::SweepJudgesBeforeItErases,
     Fault::SweepKeepsEveryTwin,
     Fault::SweepTakesAllTwins,
     Fault::SweepSaysNothingToErase,
+    Fault::PickCountsNeededRecords,
 ];
 
 pub fn tests(group: &mut Group, layout: Layout) {
@@ -115,7 +116,7 @@ pub fn tests(group: &mut Group, layout: Layout) {
             })
         });
     }
-    for fault in WRONG_SWEEPS {
+    for fault in WRONG_BEHIND_CASE_6 {
         group.test(&format!("{fault:?}: behind case 6, S = 6, launched versions up to 2, {} meets it", Lent::OfTwo), || {
             caught(|| {
                 let tables = Lent::OfTwo.tables(6);
@@ -139,8 +140,8 @@ fn case_6(layout: Layout) -> Vec<Call> {
 
 /// What a walk of so many states met.
 fn told_walk(found: Walk, expected: usize) -> String {
-    let Walk { states, depth, twinned, cleaned, copying, too_few, erasing } = found;
+    let Walk { states, depth, twinned, cleaned, copying, too_few, picked, erasing } = found;
     assert_eq!(states, expected, "states");
-    let cleaned = format!("{cleaned} cleanings, {copying} with copies, {too_few} refused by 15");
+    let cleaned = format!("{cleaned} cleanings, {copying} with copies, {too_few} refused by 15, {picked} picks");
     format!("{states} states, {twinned} with twins, depth {depth}, {cleaned}, {}", told_sweeps(states as u64, erasing))
 }

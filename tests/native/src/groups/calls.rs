@@ -5,6 +5,7 @@ pub mod cleanings;
 pub mod exhaustive;
 pub mod kinds;
 pub mod lengths;
+pub mod pickings;
 pub mod sweepings;
 pub mod volumes;
 
@@ -38,6 +39,7 @@ pub fn tests(group: &mut Group, layout: Layout) {
         group.plain("count of every bit and every byte", || lengths::compare_counts(&compared, layout));
         group.plain("count of every length", || lengths::compare_counted_lengths(&compared));
         blocks(group, &compared, layout);
+        picks(group, &compared, layout);
         sweeps(group, &compared, layout);
     }
     group.plain("the largest volume, one transaction over all pages", || volumes::compare_largest(&compared, layout));
@@ -79,20 +81,33 @@ fn blocks(group: &mut Group, compared: &Compared, layout: Layout) {
     for (pages, highest) in [(1, 2), (2, 1)] {
         let kinds = [(66, [0, 63, 64, 65], vec![vec![0, 64]], "at a block's end"), (4, [0, 1, 2, 3], every(4), "by every table of blocks")];
         for (slots, places, blocks, how) in kinds {
-            group.test(&format!("every table of four slots, P = {pages}, S = {slots}, versions up to {highest}, cleaned {how}"), || {
-                let sizes = layout.sizes(pages, slots);
-                format!("{} tables", exhaustive::cleaned_tables(compared, sizes, places, highest, &blocks))
-            });
+            group.test(
+                &format!("every table of four slots, P = {pages}, S = {slots}, versions up to {highest}, cleaned and picked {how}"),
+                || {
+                    let sizes = layout.sizes(pages, slots);
+                    let (tables, picks) = exhaustive::cleaned_tables(compared, sizes, places, highest, &blocks);
+                    format!("{tables} tables, {picks} picks")
+                },
+            );
         }
     }
+}
+
+/// Picks.
+fn picks(group: &mut Group, compared: &Compared, layout: Layout) {
+    group.test("picks of 40,000 volumes, every kind of pick met at least 100 times", || pickings::compare(compared, layout, 40_000));
+    group.plain("picks wrong in every choice of ways at once", || pickings::compare_refusals(compared, layout));
+    group.plain("picks from blocks and of numbers of every size", || pickings::compare_numbers(compared, layout));
+    group.plain("picks with words lent in every number", || pickings::compare_lengths(compared, layout));
 }
 
 /// Sweeps.
 fn sweeps(group: &mut Group, compared: &Compared, layout: Layout) {
     group.test("40,000 volumes swept, every kind of sweep met at least 100 times", || sweepings::compare(compared, layout, 40_000));
-    group.test("every two records of two pages, versions up to 2, and a twin, swept on every sound state, words up to 2", || {
-        format!("{} sweeps", exhaustive::swept_states(compared, layout))
-    });
+    group
+        .test("every two records of two pages, versions up to 2, and a twin, swept and picked on every sound state, words up to 2", || {
+            format!("{} sweeps", exhaustive::swept_states(compared, layout))
+        });
 }
 
 /// Slots, starts of a table, and how many sound ones there are: the first is 0, and the others are any of the slots behind it.

@@ -1,10 +1,11 @@
-//! Document 01's table of cases, document 02's sentences on twins, cleaning, tables of blocks and the sweep, and its four-word records, by
-//! the implementation under test and by the second one.
+//! Document 01's table of cases, document 02's sentences on twins, cleaning, tables of blocks, picking and the sweep, and its four-word
+//! records, by the implementation under test and by the second one.
 
 pub mod blocks;
 pub mod cleaning;
 pub mod five_words;
 pub mod four_words;
+pub mod picking;
 pub mod sweeping;
 pub mod twins;
 
@@ -35,6 +36,13 @@ const FIVE_WORDS: &[Case] = &[
     ("blocks: what cleaning refuses, in this order", blocks::order),
     ("blocks: small ones at the front, each cleaned", blocks::small_first),
     ("blocks: one volume, other tables", blocks::two_tables),
+    ("pick: from a named block on and round, no more than n", picking::going_round),
+    ("pick: the earliest seen on ties", picking::ties),
+    ("pick: how much an unseen block could beat it", picking::unseen),
+    ("pick: records judged one by one, twins too", picking::one_by_one),
+    ("pick: what may not be erased does not count", picking::kept),
+    ("pick: what it refuses, in this order", picking::refusals),
+    ("pick: block after block until nothing may be erased", picking::emptied),
     ("sweep: case 6's straddler goes behind the exposed record that needs it", sweeping::straddler),
     ("sweep: of twins that stay the lowest alone", sweeping::twins),
     ("sweep: a page in flight keeps its record at used, written or not", sweeping::in_flight),

@@ -5,7 +5,7 @@ use super::runs::run::Cleaning;
 use super::runs::{long_runs, small_runs};
 use crate::harness::{caught, Group};
 use crate::implementations::compared::Compared;
-use crate::implementations::impostors::faults::{faults, losing, losing_in_blocks, losing_in_sweeps};
+use crate::implementations::impostors::faults::{breaking_picks, faults, losing, losing_in_blocks, losing_in_sweeps, Fault};
 use crate::implementations::impostors::Impostor;
 use crate::volume::Layout;
 
@@ -13,6 +13,9 @@ pub fn tests(group: &mut Group, layout: Layout) {
     for fault in faults(layout.family) {
         group.test(&format!("{fault:?} differs"), || caught(|| volumes::compare(&Compared::new(&Impostor(fault)), layout, 100_000, 1)));
     }
+    group.plain("a driver's fault alone does not differ", || {
+        volumes::compare(&Compared::new(&Impostor(Fault::DriverSweepsRising)), layout, 40_000, 1)
+    });
     for fault in losing(layout.family, layout.width) {
         group.test(&format!("{fault:?} loses a page in runs with crashes"), || {
             caught(|| {
@@ -36,6 +39,15 @@ pub fn tests(group: &mut Group, layout: Layout) {
             caught(|| {
                 for pages in [6, 3, 1] {
                     small_runs(&Impostor(fault), layout, Cleaning::AnyBlocks, pages, 100, 400);
+                }
+            })
+        });
+    }
+    for &fault in breaking_picks(layout.family) {
+        group.test(&format!("{fault:?} is found in runs with picks"), || {
+            caught(|| {
+                for pages in [6, 3, 1] {
+                    small_runs(&Impostor(fault), layout, Cleaning::Often, pages, 100, 400);
                 }
             })
         });

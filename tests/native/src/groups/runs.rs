@@ -87,7 +87,8 @@ pub fn small_runs(calls: &dyn Calls, layout: Layout, cleaning: Cleaning, pages: 
 /// What runs met.
 pub fn told(all: Tally) -> String {
     let cured = if all.buried == 0 { String::new() } else { format!(" ({} by 16 and cured)", all.buried) };
-    let cleaned = if all.cleaned == 0 { String::new() } else { format!(" ({} cleanings, {} copies)", all.cleaned, all.copies) };
+    let cleaned =
+        if all.cleaned == 0 { String::new() } else { format!(" ({} cleanings, {} copies, {} picks)", all.cleaned, all.copies, all.picked) };
     let swept = if all.swept == 0 { String::new() } else { format!(" ({})", told_sweeps(all.swept, all.erasing)) };
     format!(
         "{} accepted{cleaned}{swept}, {} refused{cured}, {} crashes, {} completed, {} recoveries compared",

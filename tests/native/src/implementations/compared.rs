@@ -1,8 +1,9 @@
 //! Calls made twice, by the implementation under test and by the second one: same answer, same second number, same buffers,
-//! nothing touched beside them.
+//! nothing touched beside them; and of a pick what is shown of it.
 
 use super::reference::Reference;
 use crate::interface::{Arguments, Calls, Name, Reply};
+use crate::picking::assert_promised;
 use std::cell::RefCell;
 use std::collections::BTreeMap;
 use std::fmt::Debug;
@@ -55,6 +56,7 @@ struct Copies {
     starts: Guarded<u32>,
     bytes: Guarded<u8>,
     out: Guarded<u8>,
+    picked: Guarded<u32>,
 }
 
 impl Copies {
@@ -67,12 +69,13 @@ impl Copies {
             starts: Guarded::new(a.starts),
             bytes: Guarded::new(a.bytes),
             out: Guarded::new(a.out),
+            picked: Guarded::new(a.picked),
         }
     }
 
     /// The arguments with the copies in place of the buffers.
     fn lent(&mut self, a: &Arguments) -> Arguments<'_> {
-        let &Arguments { family, pages, slots, width, page, slot, block, .. } = a;
+        let &Arguments { family, pages, slots, width, page, slot, block, n, .. } = a;
         Arguments {
             family,
             pages,
@@ -81,6 +84,7 @@ impl Copies {
             page,
             slot,
             block,
+            n,
             words: self.words.lent(),
             contents: self.contents.lent(),
             state: self.state.lent(),
@@ -88,6 +92,7 @@ impl Copies {
             starts: self.starts.lent(),
             bytes: self.bytes.lent(),
             out: self.out.lent(),
+            picked: self.picked.lent(),
         }
     }
 
@@ -100,6 +105,7 @@ impl Copies {
         self.starts.assert_is(a.starts, call, "starts");
         self.bytes.assert_is(a.bytes, call, "bytes");
         self.out.assert_is(a.out, call, "out");
+        self.picked.assert_is(a.picked, call, "words picked");
     }
 }
 
@@ -140,6 +146,9 @@ impl Calls for Compared<'_> {
         copies.assert_are(a, name);
         assert!(got == expected, "{name} gives {got:?} for {expected:?}");
         *self.seen.borrow_mut().entry((name, got.answer, got.second)).or_default() += 1;
+        if name == Name::Pick && got.answer == 0 {
+            assert_promised(self.tested, a);
+        }
         got
     }
 }

@@ -4,6 +4,7 @@ mod blocks;
 mod cleaning;
 pub mod faults;
 mod judging;
+mod picking;
 mod recovering;
 mod sweeping;
 
@@ -30,6 +31,7 @@ impl Calls for Impostor {
             Some(twins) if WIDTHS.contains(&width) => return with(twins, name, a),
             _ if name == Name::CheckBlocks => return self.check_blocks(a),
             _ if name == Name::Clean => return self.clean(a),
+            _ if name == Name::Pick => return self.pick(a),
             _ if name == Name::Sweep => return self.sweep(a),
             _ => {}
         }

@@ -1,7 +1,8 @@
 //! The second implementation of the calls, written from documents 01 and 02 for clarity and not for speed.
 
 use crate::cleaning::{blank_outside, blankings, block, blocks_wrong, clash, copied, erasable, may_erase_alone, steps, twins, Step, Test};
-use crate::interface::{Arguments, Calls, Family, Name, Reply, NONE, WIDTHS};
+use crate::interface::{Arguments, Calls, Family, Name, Reply, NONE, PICK_WORDS, WIDTHS};
+use crate::picking::picked;
 use crate::rules::{
     committed_before, contents_fit, cycle, entry, follow, highest_records, list_wrong, lowest_slot, planned, records, set_entry, set_slot,
     sizes_fit, slot, slot_bytes, state_fits, state_sound, table_sound, used_version, words_fit, would_bury, End, Entry, Record, Walk,
@@ -35,6 +36,7 @@ pub fn with(twins: Test, name: Name, a: &mut Arguments) -> Reply {
         Name::Suggest => suggest(a, twins),
         Name::CheckBlocks => check_blocks(a),
         Name::Clean => clean(a, twins),
+        Name::Pick => pick(a, twins),
         Name::Sweep => sweep(a, twins),
         Name::Recover => recover(a, twins),
         Name::Count => count(a),
@@ -188,6 +190,19 @@ fn clean(a: &mut Arguments, twins: Test) -> Outcome {
     refuse(15, from.len() > to.len())?;
     let steps = steps(a.view(), &from, &to, block);
     take(a, &steps);
+    Ok(0)
+}
+
+/// "Refused: 18, n is 0, after 6; a start block at or past the table's length is 6; 1, 17, 2 and 5 as in cleaning."
+fn pick(a: &mut Arguments, twins: Test) -> Outcome {
+    refuse(1, volume_misfits(a) || a.picked.len() != PICK_WORDS)?;
+    refuse(17, blocks_wrong(a.slots, a.starts))?;
+    refuse(2, slot_unsound(a))?;
+    refuse(5, !state_sound(a.pages, a.state))?;
+    refuse(6, a.block >= a.starts.len() as u32)?;
+    refuse(18, a.n == 0)?;
+    let words = picked(a.view(), twins, a.starts, a.block, a.n);
+    a.picked.copy_from_slice(&words);
     Ok(0)
 }
 

@@ -2,7 +2,7 @@
 
 use super::{blocks, boundary};
 use crate::cleaning::twins;
-use crate::interface::NONE;
+use crate::interface::{MOST_BLOCKS, NONE};
 use crate::random::Random;
 use crate::rules::{entry, table_sound};
 use crate::volume::{Sizes, Volume};
@@ -90,4 +90,13 @@ pub fn blocks_to_clean(random: &mut Random, v: &Volume) -> (Vec<u32>, u32) {
         _ => random.below(blocks),
     };
     (starts, block)
+}
+
+/// How many blocks of a table a pick is to look at: up to two more than there are, now and then none or far more.
+pub fn blocks_to_look_at(random: &mut Random, starts: &[u32]) -> u32 {
+    match random.below(12) {
+        0 => 0,
+        1 => random.pick(&[MOST_BLOCKS as u32, MOST_BLOCKS as u32 + 1, 1 << 16, 1 << 31, NONE - 1, NONE]),
+        _ => 1 + random.below(starts.len() as u32 + 2),
+    }
 }

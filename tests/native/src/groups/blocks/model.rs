@@ -74,6 +74,7 @@ impl Model<'_> {
         self.launches(s, &mut next);
         self.writes_and_withdrawals(s, &mut next);
         self.erasures(s, &mut next);
+        self.picks(s, found);
         self.cleanings(s, &mut next, found);
         self.sweeps(s, &mut next, found);
         next
@@ -147,6 +148,23 @@ impl Model<'_> {
         }
     }
 
+    /// A pick by each table: it alters nothing, and what is shown of it holds.
+    fn picks(&self, s: &State, found: &mut Walk) {
+        for starts in &self.tables {
+            let blocks = starts.len() as u32;
+            s.volume.picked(self.calls, starts, found.picked % blocks, 1 + found.picked / blocks % (blocks + 1));
+            found.picked += 1;
+        }
+    }
+
+    /// A cleaning leaves more blank slots exactly where a pick of its block alone finds something to free.
+    fn check_gain(&self, s: &State, clean: &Call, done: &State) {
+        let Call::Clean { starts, block } = clean else { return };
+        let [before, after] = [s, done].map(|s| s.volume.blank_slots().len());
+        let [_, frees, ..] = s.volume.picked(self.calls, starts, *block, 1);
+        assert!(after >= before && (after > before) == (frees > 0), "{before} blank, {after} after {clean:?}, which frees {frees}");
+    }
+
     /// Each block of each table cleaned, with every crash: between the copies, and with any part of the block blanked.
     fn cleanings(&self, s: &State, next: &mut Vec<State>, found: &mut Walk) {
         for clean in each_cleaned(&self.tables) {
@@ -154,6 +172,7 @@ impl Model<'_> {
                 found.too_few += 1;
                 continue;
             };
+            self.check_gain(s, &clean, &done);
             let stages = self.calls.stages(&clean, &s.volume, &done.volume);
             found.cleaned += 1;
             found.copying += usize::from(stages.len() > 1);

@@ -17,6 +17,8 @@ pub struct Walk {
     pub cleaned: usize,
     pub copying: usize,
     pub too_few: usize,
+    /// Picks, from each block on and of each number in turn.
+    pub picked: u32,
     /// Sweeps that erased exposed records, obsolete ones and spare twins.
     pub erasing: [u64; 3],
 }

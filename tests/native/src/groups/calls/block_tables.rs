@@ -4,9 +4,9 @@ use super::volumes::SEEN;
 use crate::implementations::compared::Compared;
 use crate::implementations::reference::Reference;
 use crate::inputs::blocks::{broken, sound, BROKEN};
-use crate::interface::{Reply, MOST_BLOCKS, NONE};
+use crate::interface::{Reply, MOST_BLOCKS, NONE, PICK_WORDS};
 use crate::random::Random;
-use crate::volume::{Call, Layout, Sizes, Volume};
+use crate::volume::{Call, Layout, Sizes, Volume, LENT};
 
 /// Makes something else of a volume, or of the number of the block to clean.
 type Spoil = fn(&mut Volume, &mut u32);
@@ -34,6 +34,9 @@ pub fn compare_broken(compared: &Compared, layout: Layout) {
             spoil(&mut v, &mut block);
             let refused_by = |answer: u32, first: bool| Reply::refused(if first { 1 } else { answer });
             assert_eq!(clean(compared, &v, &wrong, block), refused_by(17, other == 1), "{wrong:?}, {how:?}, beside {other}");
+            for n in [0, 1, NONE] {
+                assert_eq!(pick(compared, &v, &wrong, block, n), refused_by(17, other == 1), "{wrong:?}, {how:?}, beside {other}");
+            }
             assert_eq!(v.sizes.check_blocks(compared, &wrong), refused_by(17, v.sizes.pages == 0), "{wrong:?}, {how:?}");
             assert_eq!(v.sizes.check_blocks(compared, &right), refused_by(0, v.sizes.pages == 0), "{right:?}");
             let reply = clean(compared, &v, &right, block);
@@ -50,6 +53,14 @@ fn clean(compared: &Compared, volume: &Volume, starts: &[u32], block: u32) -> Re
     reply
 }
 
+/// What a pick of n blocks says; one that is refused leaves its words, and each leaves the volume.
+fn pick(compared: &Compared, volume: &Volume, starts: &[u32], block: u32, n: u32) -> Reply {
+    let mut v = volume.clone();
+    let (reply, words) = v.pick(compared, starts, block, n);
+    assert!(v == *volume && (reply.answer == 0 || words == [LENT; PICK_WORDS]), "a pick that answers {} altered a buffer", reply.answer);
+    reply
+}
+
 /// Rising tables of every length: 1 to 16 starts are taken.
 pub fn compare_lengths(compared: &Compared, layout: Layout) {
     let v = Volume::formatted(&Reference, layout.sizes(1, 1024));
@@ -57,6 +68,7 @@ pub fn compare_lengths(compared: &Compared, layout: Layout) {
         let starts: Vec<u32> = (0..length).collect();
         let answer = if (1..=16).contains(&length) { 0 } else { 17 };
         assert_eq!(v.sizes.check_blocks(compared, &starts).answer, answer, "{length} starts");
+        assert_eq!(pick(compared, &v, &starts, 0, 1).answer, answer, "a pick by {length} starts");
         let answer = if length == 1 { 15 } else { answer };
         assert_eq!(clean(compared, &v, &starts, 0).answer, answer, "block 0 of {length} starts");
     }
@@ -72,6 +84,7 @@ pub fn every_small(compared: &Compared, sizes: Sizes) -> (u64, u64) {
         tables.1 += u64::from(sizes.check_blocks(compared, &list).answer == 0);
         for block in 0..=4 {
             clean(compared, &v, &list, block);
+            pick(compared, &v, &list, block, 1 + block);
         }
         if list.len() < 4 {
             lists.extend((0..=sizes.slots + 1).map(|next| [&list[..], &[next]].concat()));

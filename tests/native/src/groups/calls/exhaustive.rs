@@ -1,5 +1,6 @@
 //! The calls compared on all tables and all states of small kinds.
 
+use super::pickings;
 use super::sweepings::swept;
 use crate::implementations::compared::Compared;
 use crate::implementations::reference::Reference;
@@ -56,12 +57,14 @@ fn equal_bytes(mut v: Volume) -> Volume {
 }
 
 /// Recovery of every table of sound records and blank slots in four slots, all with equal bytes; where it answers 0, suggest, a sweep, the
-/// erasure of each and of each two, and the cleaning of each block of each of these tables of blocks. Gives the number of tables.
-pub fn cleaned_tables(compared: &Compared, sizes: Sizes, places: [u32; 4], highest: u32, blocks: &[Vec<u32>]) -> u64 {
+/// erasure of each and of each two, and by each of these tables of blocks the cleaning of each block and every pick. Gives the number of
+/// tables, and of picks.
+pub fn cleaned_tables(compared: &Compared, sizes: Sizes, places: [u32; 4], highest: u32, blocks: &[Vec<u32>]) -> (u64, u64) {
     let mut held = sound_records(sizes.family, sizes.pages, highest);
     held.push(Record::BLANK);
     let blank = equal_bytes(Volume::with_records(sizes, &[Record::BLANK]));
     let number = held.len().pow(places.len() as u32);
+    let mut picks = 0;
     for i in 0..number {
         let (mut v, mut rest) = (blank.clone(), i);
         for k in places {
@@ -77,9 +80,10 @@ pub fn cleaned_tables(compared: &Compared, sizes: Sizes, places: [u32; 4], highe
             for clean in each_cleaned(blocks) {
                 v.clone().call(compared, &clean);
             }
+            picks += pickings::every(compared, &v, blocks);
         }
     }
-    number as u64
+    (number as u64, picks)
 }
 
 fn one_table(compared: &Compared, mut v: Volume) {
@@ -138,7 +142,7 @@ pub fn states(compared: &Compared, layout: Layout) -> u64 {
 }
 
 /// Sweeps of every two sound records of two pages with versions up to 2, or one and a blank slot, with a twin of the first and without, on
-/// every sound state whose words are of a few values. Gives the number of sweeps.
+/// every sound state whose words are of a few values, and picks of each slot as a block and of all as one. Gives the number of sweeps.
 pub fn swept_states(compared: &Compared, layout: Layout) -> usize {
     let sizes = layout.sizes(2, 3);
     let mut held = sound_records(sizes.family, sizes.pages, 2);
@@ -151,6 +155,7 @@ pub fn swept_states(compared: &Compared, layout: Layout) -> usize {
             for state in &states {
                 v.state.clone_from(state);
                 swept(compared, &v).expect("a sweep of a sound volume");
+                [&[0, 1, 2][..], &[0]].iter().for_each(|starts| pickings::assert_judged(compared, &v, starts));
             }
             number += states.len();
         }

@@ -3,8 +3,8 @@
 use crate::implementations::compared::Compared;
 use crate::implementations::reference::{refusal, Reference};
 use crate::inputs::{is_short, WRONG_WIDTHS};
-use crate::interface::{other_width, Arguments, Calls, Family, Name, Reply, WIDTHS};
-use crate::volume::{Call, Layout, Volume};
+use crate::interface::{other_width, Arguments, Calls, Family, Name, Reply, PICK_WORDS, WIDTHS};
+use crate::volume::{Call, Layout, Volume, LENT};
 
 /// A volume on which every call of `reply` is done: page 1 is in flight, page 0 is not, slot 3 is blank, slot 0 may be erased, and the
 /// two slots behind block 0 take what stays of it.
@@ -20,10 +20,10 @@ fn ready(layout: Layout) -> Volume {
 /// What a call says, with so many bytes to write or count and room for as many to read; a refused one leaves every buffer.
 fn reply(compared: &Compared, call: Name, volume: &Volume, length: usize) -> Reply {
     let (bytes, before) = (vec![9; length], vec![5; length]);
-    let (mut v, mut out) = (volume.clone(), before.clone());
-    let own = Arguments { page: 1, slot: 3, list: &[0], starts: &[0, 4], bytes: &bytes, out: &mut out, ..v.arguments() };
-    let reply = compared.call(call, &mut { own });
-    assert!(reply.answer == 0 || (v == *volume && out == before), "a refused {call} altered a buffer");
+    let (mut v, mut out, mut picked) = (volume.clone(), before.clone(), [LENT; PICK_WORDS]);
+    let lent = Arguments { bytes: &bytes, out: &mut out, picked: &mut picked, ..v.arguments() };
+    let reply = compared.call(call, &mut Arguments { page: 1, slot: 3, list: &[0], starts: &[0, 4], n: 1, ..lent });
+    assert!(reply.answer == 0 || (v == *volume && out == before && picked == [LENT; PICK_WORDS]), "a refused {call} altered a buffer");
     reply
 }
 
@@ -39,7 +39,9 @@ fn assert_refused(compared: &Compared, volume: &Volume, length: usize, refused: 
 /// The calls that take the contents.
 fn of_contents(family: Family) -> &'static [Name] {
     match family {
-        Family::Bpcc => &[Name::Format, Name::Write, Name::Erase, Name::Suggest, Name::Clean, Name::Sweep, Name::Recover, Name::Read],
+        Family::Bpcc => {
+            &[Name::Format, Name::Write, Name::Erase, Name::Suggest, Name::Clean, Name::Pick, Name::Sweep, Name::Recover, Name::Read]
+        }
         Family::Scc => &[Name::Format, Name::Write, Name::Erase, Name::Read],
     }
 }

@@ -5,13 +5,13 @@ use crate::cleaning::blocks_of;
 use crate::harness::said;
 use crate::implementations::compared::Compared;
 use crate::inputs;
-use crate::interface::{Arguments, Calls, Family, Name, Reply, WIDTHS};
+use crate::interface::{Arguments, Calls, Family, Name, Reply, PICK_WORDS, WIDTHS};
 use crate::random::Random;
 use crate::sweeping::assert_left;
-use crate::volume::{Call, Layout, Volume};
+use crate::volume::{Call, Layout, Volume, LENT};
 use std::panic::{catch_unwind, AssertUnwindSafe};
 
-/// Document 01's table of which call gives which number, and document 02's 15, 16 and 17.
+/// Document 01's table of which call gives which number, and document 02's 15 to 18.
 pub fn answers(family: Family, call: Name) -> &'static [u32] {
     match call {
         Name::Write if family == Family::Scc => &[0, 1, 2, 5, 6, 9, 10, 11, 16],
@@ -23,6 +23,7 @@ pub fn answers(family: Family, call: Name) -> &'static [u32] {
         Name::Suggest => &[0, 1, 2, 5, 13],
         Name::CheckBlocks => &[0, 1, 17],
         Name::Clean => &[0, 1, 2, 5, 6, 15, 17],
+        Name::Pick => &[0, 1, 2, 5, 6, 17, 18],
         Name::Sweep => &[0, 1, 2, 5],
         Name::Recover => &[0, 1, 2, 3, 4, 14],
         Name::Count => &[0, 1],
@@ -73,10 +74,12 @@ struct Choices {
     erase: Vec<u32>,
     write: (u32, u32),
     clean: (Vec<u32>, u32),
+    pick: u32,
     withdraw: u32,
     read: u32,
     bytes: Vec<u8>,
     out: Vec<u8>,
+    picked: Vec<u32>,
 }
 
 impl Choices {
@@ -90,15 +93,19 @@ impl Choices {
             }
         };
         let (bytes, out) = (length(), length());
+        let picked = if random.one_in(30) { random.pick(&[0, 1, 3, 5, 8]) } else { PICK_WORDS };
+        let clean = inputs::blocks_to_clean(random, v);
         Choices {
             launch: inputs::pages_to_launch(random, v),
             erase: inputs::slots_to_erase(random, v),
             write: inputs::page_and_slot_to_write(random, v),
-            clean: inputs::blocks_to_clean(random, v),
+            pick: inputs::blocks_to_look_at(random, &clean.0),
+            clean,
             withdraw: inputs::page_to_take(random, v),
             read: inputs::page_to_take(random, v),
             bytes: random.bytes(bytes),
             out: random.bytes(out),
+            picked: vec![LENT; picked],
         }
     }
 
@@ -109,8 +116,8 @@ impl Choices {
         }
     }
 
-    /// The page, the slot and the list for a call: 0, 0 and none where it takes no such thing. The table of blocks
-    /// and the block are the same for all.
+    /// The page, the slot and the list for a call: 0, 0 and none where it takes no such thing. The table of blocks, the block and how
+    /// many are looked at are the same for all.
     fn of(&self, call: Name) -> (u32, u32, &[u32]) {
         match call {
             Name::Launch => (0, 0, &self.launch),
@@ -118,7 +125,8 @@ impl Choices {
             Name::Withdraw => (self.withdraw, 0, &[]),
             Name::Erase => (0, 0, &self.erase),
             Name::Read => (self.read, 0, &[]),
-            Name::Format | Name::Suggest | Name::CheckBlocks | Name::Clean | Name::Sweep | Name::Recover | Name::Count => (0, 0, &[]),
+            Name::Format | Name::Suggest | Name::CheckBlocks | Name::Clean | Name::Pick => (0, 0, &[]),
+            Name::Sweep | Name::Recover | Name::Count => (0, 0, &[]),
         }
     }
 }
@@ -126,13 +134,14 @@ impl Choices {
 /// Each call on a copy of the volume; a refused one leaves the copy as it was, a sweep that is done leaves nothing to erase.
 fn one_round(compared: &Compared, volume: &Volume, choices: &Choices) {
     for call in volume.sizes.family.calls() {
-        let (mut v, mut out) = (volume.clone(), choices.out.clone());
+        let (mut v, mut out, mut picked) = (volume.clone(), choices.out.clone(), choices.picked.clone());
         let (page, slot, list) = choices.of(call);
-        let ((starts, block), bytes) = (&choices.clean, &choices.bytes);
-        let own = Arguments { page, slot, list, starts, block: *block, bytes, out: &mut out, ..v.arguments() };
+        let ((starts, block), n, bytes) = (&choices.clean, choices.pick, &choices.bytes);
+        let own = Arguments { page, slot, list, starts, block: *block, n, bytes, out: &mut out, picked: &mut picked, ..v.arguments() };
         let reply = compared.call(call, &mut { own });
-        let same = v == *volume && out == choices.out;
+        let same = v == *volume && out == choices.out && picked == choices.picked;
         assert!(reply.answer == 0 || same, "a refused call altered a buffer");
+        assert!(call != Name::Pick || (v == *volume && out == choices.out), "a pick altered something else than its words");
         if call == Name::Sweep && reply.answer == 0 {
             assert_swept(compared, &v);
         }
@@ -173,6 +182,7 @@ pub fn compare_largest(compared: &Compared, layout: Layout) {
     if layout.family == Family::Bpcc {
         let starts = blocks_of(64, slots);
         for block in 0..16 {
+            [1, 4, 16].iter().for_each(|&n| assert_eq!(v.picked(compared, &starts, block, n)[2], n));
             assert_eq!(v.call(compared, &Call::Clean { starts: starts.clone(), block }).answer, 0);
         }
     }

@@ -2,6 +2,7 @@
 
 use super::model::{Model, Rule};
 use super::walk::arrangements;
+use crate::cleaning::{block, blocks_of};
 use crate::interface::{Family, Reply, NONE};
 use crate::rules::{cycle, entry};
 use crate::sweeping::assert_left;
@@ -107,7 +108,8 @@ impl Model<'_> {
         }
     }
 
-    /// Erase refuses exactly the slots that the listing does not collect, and suggest names the lowest that it does.
+    /// Erase refuses exactly the slots that the listing does not collect, suggest names the lowest that it does, and of blocks of two slots
+    /// pick names one that has as many of them as any.
     fn check_permission(&self, s: &Volume, collectable: &[u32]) {
         for k in (0..self.slots).filter(|k| !collectable.contains(k)) {
             let mut t = s.clone();
@@ -119,6 +121,14 @@ impl Model<'_> {
             let reply = s.clone().suggest(self.calls);
             let right = collectable.iter().min().map_or(Reply { answer: 13, second: NONE }, |&k| Reply::done(k));
             assert_eq!(reply, right, "suggest names the lowest collectable record");
+            let starts = blocks_of(2, self.slots);
+            let collected = |number: u32| {
+                let slots = block(self.slots, &starts, number).expect("a block");
+                collectable.iter().filter(|k| slots.contains(k)).count() as u32
+            };
+            let [named, frees, ..] = s.picked(self.calls, &starts, 0, NONE);
+            let most = (0..starts.len() as u32).map(collected).max();
+            assert_eq!((collected(named), Some(frees)), (frees, most), "pick counts the collectable records");
             self.check_sweep(s);
         }
     }

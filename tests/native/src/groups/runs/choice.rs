@@ -61,7 +61,8 @@ impl Run<'_> {
             }
             4 => {
                 let starts = self.blocks(blocks::sound);
-                let block = self.random.below(starts.len() as u32);
+                let from = self.random.below(starts.len() as u32);
+                let block = if self.random.one_in(2) { from } else { self.pick(&starts, from) };
                 Some(Call::Clean { starts, block })
             }
             5 => Some(Call::Sweep),

@@ -17,9 +17,10 @@ pub struct Tally {
     pub refused: u64,
     pub crashes: u64,
     pub completed: u64,
-    /// Cleanings done, and the copies that they made.
+    /// Cleanings done, the copies that they made, and picks of a block to clean.
     pub cleaned: u64,
     pub copies: u64,
+    pub picked: u64,
     /// Sweeps done, and those that erased exposed records, obsolete ones and spare twins.
     pub swept: u64,
     pub erasing: [u64; 3],
@@ -37,6 +38,7 @@ impl Tally {
         self.completed += other.completed;
         self.cleaned += other.cleaned;
         self.copies += other.copies;
+        self.picked += other.picked;
         self.swept += other.swept;
         self.erasing.iter_mut().zip(other.erasing).for_each(|(all, more)| *all += more);
         self.buried += other.buried;
@@ -121,6 +123,14 @@ impl Run<'_> {
         } else {
             self.make(&call);
         }
+    }
+
+    /// The block to clean that a pick names, of some from a block on. It alters nothing, and what is shown of picks holds.
+    pub fn pick(&mut self, starts: &[u32], from: u32) -> u32 {
+        let n = 1 + self.random.below(starts.len() as u32 + 1);
+        let [block, ..] = self.volume.picked(self.calls, starts, from, n);
+        self.tally.picked += 1;
+        block
     }
 
     /// Makes a call: one that is refused leaves the volume, one that would bury a record is done once that is erased.

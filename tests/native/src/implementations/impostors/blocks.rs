@@ -35,7 +35,7 @@ impl Impostor {
     }
 
     /// Whether a call refuses a table: it looks at one that is mended where the fault lets it be.
-    fn blocks_wrong(&self, name: Name, a: &Arguments) -> bool {
+    pub(super) fn blocks_wrong(&self, name: Name, a: &Arguments) -> bool {
         let mut starts = a.starts.to_vec();
         match self.0 {
             Fault::TakesNoStarts(of) if of == name && starts.is_empty() => starts.push(0),

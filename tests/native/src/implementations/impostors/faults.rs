@@ -82,6 +82,46 @@ faults! {
     CleanLooksAtTheStateBeforeTheTable Bpcc,
     CleanLooksAtTheBlockBeforeTheTable Bpcc,
     CleanLooksAtTheBlockBeforeSlots Bpcc,
+    PickDoesNothing Bpcc,
+    PickFillsBeforeItRefuses Bpcc,
+    PickErasesWhatItCounts Bpcc,
+    PickSaysWhatItFrees Bpcc,
+    PickTakesMoreWords Bpcc,
+    PickTakesFewerWords Bpcc,
+    PickLooksAtSlotsBeforeTheTable Bpcc,
+    PickLooksAtTheStateBeforeSlots Bpcc,
+    PickLooksAtTheBlockBeforeTheState Bpcc,
+    PickLooksAtTheNumberFirst Bpcc,
+    PickLooksAtTheNumberBeforeTheTable Bpcc,
+    PickLooksAtTheNumberBeforeTheBlock Bpcc,
+    PickLooksAtNoBlock Bpcc,
+    PickGoesRoundToTheStart Bpcc,
+    PickSkipsTheStart Bpcc,
+    PickStopsAtTheEnd Bpcc,
+    PickEndsAtTheEnd Bpcc,
+    PickStartsAtBlock0 Bpcc,
+    PickGoesBack Bpcc,
+    PickLooksAtOneMore Bpcc,
+    PickLooksAtAll Bpcc,
+    PickTakesTheLastOnTies Bpcc,
+    PickTakesTheLowestOnTies Bpcc,
+    PickTellsThePlace Bpcc,
+    PickTellsTheFirstSlot Bpcc,
+    PickTellsN Bpcc,
+    PickJudgesTheBlockAsOneList Bpcc,
+    PickCountsBlankSlots Bpcc,
+    PickCountsEveryRecord Bpcc,
+    PickCountsNeededRecords Bpcc,
+    PickCountsRecordsInFlight Bpcc,
+    PickCountsObsoleteRecordsAlone Bpcc,
+    PickCountsTwinsOnce Bpcc,
+    PickEndsTheLastBlockEarly Bpcc,
+    PickWrapsTheBound Bpcc,
+    PickTellsTheSize Bpcc,
+    PickTakesTheLargestOfAll Bpcc,
+    PickTakesTheSmallestUnseen Bpcc,
+    PickTakesTheFirstUnseen Bpcc,
+    PickLooksIntoUnseenBlocks Bpcc,
     SweepDoesNothing Bpcc,
     SweepKeepsExposedRecords Bpcc,
     SweepKeepsPagesInFlight Bpcc,
@@ -129,10 +169,10 @@ faults! {
 }
 
 /// The calls that look for twins.
-const OF_TWINS: [Name; 5] = [Name::Erase, Name::Suggest, Name::Clean, Name::Sweep, Name::Recover];
+const OF_TWINS: [Name; 6] = [Name::Erase, Name::Suggest, Name::Clean, Name::Pick, Name::Sweep, Name::Recover];
 
 /// The calls that take a table of blocks.
-const OF_BLOCKS: [Name; 2] = [Name::CheckBlocks, Name::Clean];
+const OF_BLOCKS: [Name; 3] = [Name::CheckBlocks, Name::Clean, Name::Pick];
 
 /// Every fault of a family's calls; those of a call for each of its calls that may have them.
 pub fn faults(family: Family) -> Vec<Fault> {
@@ -189,6 +229,42 @@ pub fn losing_in_sweeps(family: Family) -> &'static [Fault] {
         Family::Scc => &[],
     }
 }
+
+/// The faults of a pick that break what is shown of it, or alter something.
+pub fn breaking_picks(family: Family) -> &'static [Fault] {
+    match family {
+        Family::Bpcc => &BREAKING_PICKS,
+        Family::Scc => &[],
+    }
+}
+
+const BREAKING_PICKS: [Fault; 25] = [
+    Fault::PickDoesNothing,
+    Fault::PickErasesWhatItCounts,
+    Fault::PickSaysWhatItFrees,
+    Fault::PickSkipsTheStart,
+    Fault::PickStopsAtTheEnd,
+    Fault::PickEndsAtTheEnd,
+    Fault::PickStartsAtBlock0,
+    Fault::PickGoesBack,
+    Fault::PickLooksAtOneMore,
+    Fault::PickLooksAtAll,
+    Fault::PickTakesTheLastOnTies,
+    Fault::PickTakesTheLowestOnTies,
+    Fault::PickTellsThePlace,
+    Fault::PickTellsTheFirstSlot,
+    Fault::PickJudgesTheBlockAsOneList,
+    Fault::PickCountsBlankSlots,
+    Fault::PickCountsEveryRecord,
+    Fault::PickCountsRecordsInFlight,
+    Fault::PickCountsObsoleteRecordsAlone,
+    Fault::PickCountsTwinsOnce,
+    Fault::PickEndsTheLastBlockEarly,
+    Fault::PickTakesTheLargestOfAll,
+    Fault::PickTakesTheSmallestUnseen,
+    Fault::PickTakesTheFirstUnseen,
+    Fault::IgnoresTwins(Name::Pick),
+];
 
 const LOSING: [Fault; 8] = [
     Fault::RecoverCallsABrokenRingUncommitted,
