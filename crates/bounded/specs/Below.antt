@@ -1,6 +1,6 @@
--- "Each", "there is", "the sum", "the highest", "the first", "the last" and "those that" over the numbers below n.
+-- "Each", "there is", "the sum", "the highest", "the lowest", "the first", "the last" and "those that" over the numbers below n.
 -- A counting loop's invariant is the definition at its counter.
-use Prim.Native.Nat.{ℕ, zero, suc, _+_, max}
+use Prim.Native.Nat.{ℕ, zero, suc, _+_, min, max}
 use mathlib.Core.List.{List, [], _∷_, _++_}
 use mathlib.Core.Bool.{Bool, true, false, cond, _&&_, _||_}
 use lib.Dec.{ltb}
@@ -24,6 +24,11 @@ sumBelow (suc n) f = sumBelow n f + f n
 unfoldable pub maxBelow : ℕ → (ℕ → ℕ) → ℕ
 maxBelow zero f = 0
 maxBelow (suc n) f = max (maxBelow n f) (f n)
+
+-- the lowest of b and of f over the numbers below n
+unfoldable pub minBelow : (b : ℕ) → ℕ → (ℕ → ℕ) → ℕ
+minBelow b zero f = b
+minBelow b (suc n) f = min (minBelow b n f) (f n)
 
 -- one more number looked at: what was found below n, else n itself where it passes, else n + 1
 abbrev pub foundOr : ℕ → ℕ → Bool → ℕ

@@ -9,7 +9,7 @@ use mathlib.Core.Bool.{Bool, true, false, _&&_, _||_}
 use lib.Dec.{eqb}
 use borrow.Author.Tests.{lt-ltb, le-ltb, eqb-true, eqb-false, eq-eqb, ne-eqb}
 use Rattle.bounded.specs.Choice.{on-lt, on-test, never, both, both-left, both-right, either-left, either-right}
-use Rattle.bounded.specs.Below.{allBelow, someBelow, sumBelow, maxBelow, firstBelow}
+use Rattle.bounded.specs.Below.{allBelow, someBelow, sumBelow, maxBelow, minBelow, firstBelow}
 
 -- Each number below n + 1 is n or below n.
 pub below-suc {ℓ} : {C : Type ℓ} (k n : ℕ) → k < suc n → (k < n → C) → (k ≡ n → C) → C
@@ -214,6 +214,24 @@ module _ (f : ℕ → ℕ) where
       let m = max-stays (suc n) h in
       first-is (λ i. eqb (f i) (maxBelow (suc n + 1) f)) (suc n + 1) (firstMost (suc n)) (let l = w .0 in omega arith) (eq-eqb (f (firstMost (suc n))) (maxBelow (suc n + 1) f) (w .1 ∙ sym m))
       (λ j l. ne-eqb (f j) (maxBelow (suc n + 1) f) (λ e. let a = before-first-most (suc n) j l in omega arith))
+
+-- ---- the lowest
+
+module _ (b : ℕ) (f : ℕ → ℕ) where
+  pub min-below : (n k : ℕ) → k < n → minBelow b n f ≤ f k
+  unfolding minBelow
+  min-below zero k h = absurd (omega arith)
+  min-below (suc n) k h =
+      below-suc k n h (λ l. let i = min-below n k l in omega arith) (λ q. let i = ap f q in omega arith)
+
+  -- it is b, or reached
+  pub min-at : (n : ℕ) → minBelow b n f < b → (k : ℕ) × (k < n) × (f k ≡ minBelow b n f)
+  unfolding minBelow
+  min-at zero h = absurd (omega arith)
+  min-at (suc n) h =
+      on-lt (f n) (minBelow b n f)
+      (λ l. (n, omega arith, omega arith))
+      (λ l. let w = min-at n (omega arith) in (w .0, (let i = w .1 in omega arith), (let e = w .2 in omega arith)))
 
 -- ---- what depends on the tests below n alone
 

@@ -1,4 +1,4 @@
-// The C interface: every call, exported. The functions `star_cases`, `exposed_found`, `promise_3`, `cleaning`, `sweeping`, `picking`, `two_widths` and `slowest_start` pin theorems in their contracts.
+// The C interface: every call, exported. The functions `star_cases`, `exposed_found`, `promise_3`, `cleaning`, `sweeping`, `picking`, `doubting`, `two_widths` and `slowest_start` pin theorems in their contracts.
 
 pub mod scc; // scc.rt: the second family
 
@@ -27,6 +27,7 @@ ghost use Rattle.rules.specs.Clean.{cleanOutcome};
 ghost use Rattle.rules.specs.Sweep.{sweepOutcome};
 ghost use Rattle.rules.specs.Pick.{pickOutcome};
 ghost use Rattle.rules.specs.Recover.{recoverOutcome};
+ghost use Rattle.rules.specs.Doubtful.{doubtfulOutcome};
 ghost use Rattle.rules.specs.Links.{backPointing, LinksAtMost, OneRingReaches, LinksAreSteps, LinksApart};
 ghost use Rattle.rules.specs.cases.Star.{starTable};
 ghost use Rattle.rules.specs.cases.Found.{foundRows};
@@ -39,6 +40,8 @@ ghost use Rattle.rules.specs.cases.Pick.{pickRows};
 ghost use Rattle.rules.specs.Cleaned.{Cleaned, CleanedAgain, CleanAccepted};
 ghost use Rattle.rules.specs.Swept.{SweepErases, SweptBare};
 ghost use Rattle.rules.specs.Picked.{GoingRound, Picked, LargerFindsNoLess};
+ghost use Rattle.rules.specs.Doubted.{Fillings, Doubted, NoneRecovers, EmptyListRecovers};
+ghost use Rattle.cases.specs.Doubtful.{doubtfulRows};
 ghost use Rattle.rules.specs.laws.Found.{FoundExactly, JudgedByFound};
 ghost use Rattle.atomicity.specs.Family.{backPointer};
 ghost use Rattle.atomicity.specs.Promise.{PromiseAt, Promise3, OwnState};
@@ -329,6 +332,33 @@ pub extern "C" fn bpcc_recover(
     )
 }
 
+// The versions that each page may have, some slots being in doubt.
+#[no_mangle]
+pub extern "C" fn bpcc_doubtful(
+    pages: u32,
+    slots: u32,
+    width: u32,
+    words: &[u32],
+    contents: &[u8],
+    list: &[u32],
+    out: &mut [u32],
+) -> u64
+    ensures { λ r. ⌜ returned r (now (out .exit))
+        ≡ doubtfulOutcome twoWidths (sizesOf pages slots width) (flash (now (words .entry)) (now (contents .entry))) (now (list .entry)) (now (out .entry)) ⌝ }
+{
+    doubtful::doubtful(
+        Sizes {
+            pages,
+            slots,
+            width,
+        },
+        words,
+        contents,
+        list,
+        out,
+    )
+}
+
 // Count the set bits of a slot's contents.
 #[no_mangle]
 pub extern "C" fn bpcc_count(bytes: &[u8]) -> u64
@@ -411,6 +441,16 @@ pub fn picking()
     ensures picked { λ _. ⌜ Picked ⌝ }
     ensures larger { λ _. ⌜ LargerFindsNoLess ⌝ }
     ensures words { λ _. ⌜ RowsHold pickRows ⌝ }
+{}
+
+// Document 02, wish 11: the fillings are all ways to leave listed slots blank, each once; "Each end is reached by some filling", every filling whose recovery succeeds lies between, and so many they are as the number says; 20 exactly where there is none; "An empty
+// list gives recovery's own versions"; and doubtful slots, computed.
+pub fn doubting()
+    ensures fillings { λ _. ⌜ Fillings ⌝ }
+    ensures ends { λ _. ⌜ Doubted ⌝ }
+    ensures none { λ _. ⌜ NoneRecovers ⌝ }
+    ensures empty { λ _. ⌜ EmptyListRecovers ⌝ }
+    ensures doubted { λ _. ⌜ RowsHold doubtfulRows ⌝ }
 {}
 
 // Document 02, wish 10: promise 3, shown once for any width, used at the two that the calls take; and what the calls answer at these and at others, and

@@ -16,6 +16,8 @@ pub mod Pick
 pub mod Picked
 pub mod Verdict
 pub mod Recover
+pub mod Doubtful
+pub mod Doubted
 pub mod Links
 pub mod Simple
 pub mod SimpleCalls

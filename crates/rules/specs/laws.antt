@@ -8,6 +8,8 @@ pub mod Chains
 pub mod Permission
 pub mod Found
 pub mod Recover
+pub mod Fillings
+pub mod Doubtful
 pub mod Links
 pub mod Simple
 pub mod SimpleAccepted

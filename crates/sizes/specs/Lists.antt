@@ -73,14 +73,20 @@ module _ (n : ℕ) (list : List ℕ) where
   new-apart i j e l q =
       never (eq-eqb _ _ q) (not-true (eqb (getD list i 0) (getD list j 0)) (all-at (unlike list j) j i e l))
 
+  -- no two places with the same entry
+  pub no-repeats-apart : noRepeats list ≡ true → (i j : ℕ) → i < length list → j < length list → getD list i 0 ≡ getD list j 0 → i ≡ j
+  unfolding noRepeats newAt unlike
+  no-repeats-apart e i j hi hj q =
+      on-lt i j
+      (λ l. absurd (new-apart i j (all-at (newAt list) (length list) j e hj) l q))
+      (λ l. on-lt j i (λ m. absurd (new-apart j i (all-at (newAt list) (length list) i e hi) m (sym q))) (λ m. omega arith))
+
   pub list-facts : listOk n list ≡ true → Listed n list
   unfolding listOk rangedAt
   list-facts e = record {
     not-empty = leb-true 1 (length list) (both-left (leb 1 (length list)) (inRange n list && noRepeats list) e);
     in-range = λ i h. ltb-true _ _ (all-at (rangedAt n list) (length list) i (ranged-of e) h);
-    apart = λ i j hi hj q. on-lt i j
-        (λ l. absurd (new-apart i j (all-at (newAt list) (length list) j (new-of e) hj) l q))
-        (λ l. on-lt j i (λ m. absurd (new-apart j i (all-at (newAt list) (length list) i (new-of e) hi) m (sym q))) (λ m. omega arith));
+    apart = no-repeats-apart (both-right (inRange n list) (noRepeats list) (both-right (leb 1 (length list)) (inRange n list && noRepeats list) e));
   }
 
   pub list-test : Listed n list → listOk n list ≡ true

@@ -19,7 +19,7 @@ use Rattle.sizes.specs.SizesLaws.{state-fits-exactly}
 use Rattle.record.specs.declared.Slot.{Slot}
 use Rattle.record.specs.Slot.{slotAt, isBlank}
 use Rattle.state.specs.State.{stateAt, stateSound, inFlight, isWritten}
-use Rattle.table.specs.Table.{tableSound, hasRecord}
+use Rattle.table.specs.Table.{tableSound, hasRecord, hasVersion}
 use Rattle.twins.specs.Twins.{twins, someConflict}
 use Rattle.follow.specs.Follow.{isAstray}
 use Rattle.rules.specs.Volume.{Volume, volumeFits}
@@ -31,7 +31,7 @@ use Rattle.rules.specs.Permission.{mayEraseAll}
 use Rattle.rules.specs.Erase.{eraseAnswer}
 use Rattle.rules.specs.Suggest.{suggestible, suggestAnswer, suggestedSlot, suggestOutcome}
 use Rattle.rules.specs.Clean.{cleanFrom, cleanTo, tooFewBlank, cleanAnswer}
-use Rattle.rules.specs.Recover.{walkOf, recoverAnswer}
+use Rattle.rules.specs.Recover.{walkOf, committedOf, recoverAnswer}
 use Rattle.rules.specs.laws.Outcomes.{suggest-done}
 use Rattle.rules.specs.laws.Chains.{blockJudged, block-judged-passed, cleanOwn, clean-chain}
 
@@ -61,6 +61,7 @@ pub record WriteTests (widths : Widths) (sizes : Sizes) (v : Volume) (page slot 
 pub record RecoverTests (P S : ℕ) (t : ℕ → Slot) : Type 0 where
   pub sound : tableSound P S t ≡ true
   pub none-astray : someBelow P (λ p. isAstray (walkOf P S t p .end)) ≡ false
+  pub all-there : allBelow P (λ p. hasVersion S t p (committedOf P S t p)) ≡ true
 
 module _ (widths : Widths) (sizes : Sizes) (state : List ℕ) where
   -- the state's words are four for each of P pages
@@ -96,7 +97,7 @@ recover-tests widths sizes v z =
     let b = held (tableSound P S t) _ _ (a .1) in
     let c = passed (someConflict S t (twins (sizes .width) (v .flash)) || not (allBelow P (hasRecord S t))) _ _ (b .1) in
     let d = passed (someBelow P (λ p. isAstray (walkOf P S t p .end))) _ _ (c .1) in
-    record { sound = b .0; none-astray = d .0 }
+    record { sound = b .0; none-astray = d .0; all-there = held (allBelow P (λ p. hasVersion S t p (committedOf P S t p))) _ _ (d .1) .0 }
 
 pub write-tests : (widths : Widths) (sizes : Sizes) (v : Volume) (page slot : ℕ) (bytes : List ℕ) → writeAnswer widths sizes v page slot bytes ≡ 0 → WriteTests widths sizes v page slot bytes
 unfolding writeAnswer
