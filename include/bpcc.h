@@ -42,7 +42,7 @@ extern "C" {
 /* The interface's version: the major number rises where a caller must change, the minor where something is added, made
  * stricter, or costs otherwise (docs/CHANGES.md). */
 #define BPCC_VERSION_MAJOR 4
-#define BPCC_VERSION_MINOR 2
+#define BPCC_VERSION_MINOR 3
 
 /* The two widths: bytes of contents for each slot, and the length of what is written and read. */
 #define BPCC_WIDTH_32 32
@@ -56,8 +56,9 @@ extern "C" {
 #define BPCC_MAX_SLOTS 1024
 #define BPCC_MAX_WIDTH BPCC_WIDTH_64
 
-/* The most blocks of a table. */
+/* The most blocks of a table, and the most slots in doubt. */
 #define BPCC_MAX_BLOCKS 16
+#define BPCC_MAX_DOUBTFUL 8
 
 /* A sample of a table, as an initializer: blocks of 64 slots. A volume of S slots has the first BPCC_BLOCKS_OF_64_LENGTH(S) of them:
  *
@@ -80,10 +81,11 @@ enum bpcc_pick_words {
     BPCC_PICK_UNSEEN = 3
 };
 
-/* The lengths of words, contents and state for P pages, S slots and width W. */
+/* The lengths of words, contents and state for P pages, S slots and width W, and of what bpcc_doubtful fills. */
 #define BPCC_TABLE_WORDS(slots) (BPCC_SLOT_WORDS * (size_t)(slots))
 #define BPCC_CONTENTS_BYTES(slots, width) ((size_t)(width) * (size_t)(slots))
 #define BPCC_STATE_WORDS(pages) (BPCC_PAGE_WORDS * (size_t)(pages))
+#define BPCC_DOUBTFUL_WORDS(pages) (2 * (size_t)(pages))
 
 /* The answers. Each one's condition is in docs/SPEC.md, section 7; what to do about it in docs/INTEGRATION.md. */
 enum bpcc_answers {
@@ -104,7 +106,9 @@ enum bpcc_answers {
     BPCC_NO_COMMITTED_RECORD = 14,
     BPCC_TOO_FEW_BLANK = 15,
     BPCC_WRONG_BLOCKS = 17,
-    BPCC_NOTHING_TO_LOOK_AT = 18
+    BPCC_NOTHING_TO_LOOK_AT = 18,
+    BPCC_TOO_MANY_DOUBTFUL = 19,
+    BPCC_NO_FILLING_RECOVERS = 20
 };
 
 /* The answer, 0 for done. */
@@ -134,11 +138,14 @@ static inline const char *bpcc_answer_text(uint32_t answer) {
     case 16: return "a record would be buried";
     case BPCC_WRONG_BLOCKS: return "block table wrong";
     case BPCC_NOTHING_TO_LOOK_AT: return "no block to look at";
+    case BPCC_TOO_MANY_DOUBTFUL: return "too many doubtful slots";
+    case BPCC_NO_FILLING_RECOVERS: return "no filling recovers";
     default: return "no answer of this library";
     }
 }
 
-/* The second number: done of a write, the slot of a suggest, the links of a recover, the set bits of a count; else 0. */
+/* The second number: done of a write, the slot of a suggest, the links of a recover, the fillings of a doubtful that recover, the set
+ * bits of a count; else 0. */
 static inline uint32_t bpcc_second(uint64_t reply) {
     return (uint32_t)(reply >> 32);
 }
@@ -283,6 +290,30 @@ uint64_t bpcc_recover(uint32_t pages, uint32_t slots, uint32_t width,
                       const uint32_t *words, size_t words_length,
                       const uint8_t *contents, size_t contents_length,
                       uint32_t *state, size_t state_length);
+
+/*
+ * Tells for each page between which versions it comes back where the chip reads some records only now and then: the listed slots are in
+ * doubt, each there, as it is lent, or blank. A volume with d of them is one of 2^d fillings; one recovers if bpcc_recover would answer
+ * 0 on it, and its versions are those that it would give as last committed. The second number is the number of fillings that recover, 1
+ * to 2^d. Alters out alone, BPCC_DOUBTFUL_WORDS(P) long; page p has two words:
+ *
+ *   2p      its lowest version over the fillings that recover
+ *   2p + 1  its highest
+ *
+ * Each is its version in some filling that recovers, and in every other it lies between them. Where they are equal the page has this
+ * version whatever the doubtful slots hold, as long as the volume recovers, and where the second number is 2^d it does whatever
+ * they hold. An empty list gives the version of bpcc_recover twice for each page, and 1.
+ *
+ * The call is for a read of the flash that differs from the last: lend images in which each slot is a record that either read had, and
+ * list the slots that only one of them had. It takes no state.
+ * Refuses: 1, 2, 6 (a listed slot at or past S, listed twice, or blank; a list may be empty), 19 (more than BPCC_MAX_DOUBTFUL listed), 20
+ * (no filling recovers). Uses less than 28 KiB of stack.
+ */
+uint64_t bpcc_doubtful(uint32_t pages, uint32_t slots, uint32_t width,
+                       const uint32_t *words, size_t words_length,
+                       const uint8_t *contents, size_t contents_length,
+                       const uint32_t *list, size_t list_length,
+                       uint32_t *out, size_t out_length);
 
 /*
  * Counts, as the second number, the set bits of 32 or 64 bytes (the drawn stops: stop s is bit s mod 8 of byte s div 8, lowest

@@ -5,8 +5,8 @@
  *
  * A record here has no back pointer: a slot takes a word less, and any obsolete record may be erased at once. In return what an
  * unfinished set left in flash must be erased before a write would bury it (answer 16, below), where bpcc.h asks for no such order.
- * For a new volume use bpcc.h, which also has suggest, clean and sweep; these volumes are neither cleaned nor swept, and have no
- * twins. A volume keeps its family: its records are not those of the other.
+ * For a new volume use bpcc.h, which also has suggest, clean, pick, sweep and doubtful; these volumes are neither cleaned nor swept, and
+ * have no twins. A volume keeps its family: its records are not those of the other.
  *
  * The volume, the state, the widths, the buffers and the replies are as bpcc.h says at its head, but for the slot table:
  *

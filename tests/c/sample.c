@@ -1,7 +1,8 @@
 /*
  * Document 01's sample sequence over include/bpcc.h at both widths, every answer and every buffer checked; a volume cleaned, and
- * twins such as a cut in that leaves; tables of blocks; blocks picked; a volume swept; the links that recover follows and those of one
- * that is refused; every call with NULL, 0 for every choice of its buffers, and every call with widths that there are not. C99 and C++.
+ * twins such as a cut in that leaves; tables of blocks; blocks picked; a volume swept; slots in doubt; the links that recover follows and
+ * those of one that is refused; every call with NULL, 0 for every choice of its buffers, and every call with widths that there are not.
+ * C99 and C++.
  * The last line of its output is 'N passed, M failed'.
  */
 #include "bpcc.h"
@@ -55,6 +56,10 @@ static uint64_t sweep(void) {
 
 static uint64_t recover(void) {
     return bpcc_recover(PAGES, volume_slots, told, words, words_length, contents, contents_length, state, state_length);
+}
+
+static uint64_t doubtful(const uint32_t *slots, size_t length) {
+    return bpcc_doubtful(PAGES, volume_slots, told, words, words_length, contents, contents_length, slots, length, ends, ends_length);
 }
 
 static uint64_t read(uint32_t page, size_t length) {
@@ -145,6 +150,7 @@ static void erasing(void) {
 #include "sample_blocks.h"
 #include "sample_sweep.h"
 #include "sample_pick.h"
+#include "sample_doubtful.h"
 
 /* Recover refuses what is in the table now, has no links, and leaves every buffer. */
 static void expect_no_links(uint32_t answer, const char *name) {
@@ -181,7 +187,7 @@ static void links(void) {
     expect_no_links(BPCC_NO_COMMITTED_RECORD, "no links where a committed record is missing");
 }
 
-/* The thirteen calls, and the buffers that each takes. */
+/* The fourteen calls, and the buffers that each takes. */
 static const struct taking calls[] = {
     {FORMAT, WORDS | CONTENTS | STATE, "format with NULL, 0 or another width"},
     {LAUNCH, STATE | LIST, "launch with NULL, 0 or another width"},
@@ -194,6 +200,7 @@ static const struct taking calls[] = {
     {PICK, WORDS | CONTENTS | STATE | STARTS | PICKED, "pick with NULL, 0 or another width"},
     {SWEEP, WORDS | CONTENTS | STATE, "sweep with NULL, 0 or another width"},
     {RECOVER, WORDS | CONTENTS | STATE, "recover with NULL, 0 or another width"},
+    {DOUBTFUL, WORDS | CONTENTS | LIST | ENDS, "doubtful with NULL, 0 or another width"},
     {COUNT, BYTES, "count with NULL, 0"},
     {READ, WORDS | CONTENTS | STATE | OUT, "read with NULL, 0 or another width"},
 };
@@ -213,14 +220,15 @@ static uint64_t make(enum call call) {
     case PICK: return pick(0, 2);
     case SWEEP: return sweep();
     case RECOVER: return recover();
+    case DOUBTFUL: return doubtful(list, list_length);
     case COUNT: return bpcc_count(bytes, bytes_length);
     case READ: return read(0, out_length);
     }
     return BPCC_WRONG_SIZE;
 }
 
-/* The ready volume: page 1 is in flight, slot 3 blank, page 0 (the list) may be launched and slot 0 erased, and what stays of block 0
- * has room behind it; it is copied. */
+/* The ready volume: page 1 is in flight, slot 3 blank, page 0 (the list) may be launched, slot 0 erased or be in doubt, and what stays of
+ * block 0 has room behind it; it is copied. */
 static void ready(void) {
     const uint32_t one[] = {1};
     lend_two_blocks();
@@ -245,7 +253,7 @@ static void counts(void) {
 
 /* Every answer, scc.h's 16 among them, has a text of its own, and no other number has one. */
 static void texts(void) {
-    const uint32_t last = BPCC_NOTHING_TO_LOOK_AT, no_answer[] = {last + 1, BPCC_NONE};
+    const uint32_t last = BPCC_NO_FILLING_RECOVERS, no_answer[] = {last + 1, BPCC_NONE};
     const char *none = bpcc_answer_text(BPCC_NONE);
     uint32_t answer, other;
     size_t i;
@@ -275,6 +283,8 @@ static void at_width(uint32_t w) {
     sweeping();
     pick_refusals();
     picking();
+    doubtful_refusals();
+    doubting();
     links();
     for (i = 0; i < CALLS; i++) {
         nulls(&calls[i]);

@@ -4,13 +4,14 @@
  * kinds of each width a table has the longest of each call of bpcc.h, in milliseconds, but for check_blocks, which takes less than
  * the clock tells, and one of its own the longest of those calls of scc.h that a table's records keep busy: its other calls do what
  * bpcc.h's do. Pick has three rows: pick_1, pick_4 and pick_16 look at so many blocks of 64 slots, or at all where there are fewer.
+ * Doubtful has two: doubtful_0 has no slot in doubt, doubtful_8 has eight, and so 256 fillings to recover.
  * No time is a failure; the last line is 'N passed, M failed', and a kind at a size passes if it could be made and each call on it
- * gave the answer, recover the links and pick the number of blocks looked at, expected.
+ * gave the answer, recover the links, pick the number of blocks looked at and doubtful the number of fillings, expected.
  *
- * A time is the shortest of ROUNDS calls, each on the volume as it was made, less what reading the clock takes: what else the
- * machine does is left out. (Where the linker lays an innermost loop across two cache lines, it is up to twice as long.) The calls
- * themselves make the volumes, but for those made by hand, to which no list of calls leads: erase, suggest, clean, pick, sweep and
- * recover accept any sound records, and search or follow longest on these.
+ * A time is the shortest of ROUNDS calls, of doubtful_8 of FEW_ROUNDS, each on the volume as it was made, less what reading the clock
+ * takes: what else the machine does is left out. (Where the linker lays an innermost loop across two cache lines, it is up to twice as
+ * long.) The calls themselves make the volumes, but for those made by hand, to which no list of calls leads: erase, suggest, clean, pick,
+ * sweep, recover and doubtful accept any sound records, and search or follow longest on these.
  */
 #define _POSIX_C_SOURCE 200809L
 
@@ -21,14 +22,15 @@
 #include <string.h>
 #include <time.h>
 
-enum { SIZES = 5, ROUNDS = 101 };
+enum { SIZES = 5, ROUNDS = 101, FEW_ROUNDS = 3 };
 enum call {
-    FORMAT, LAUNCH, WRITE, WITHDRAW, ERASE, SUGGEST, CLEAN, PICK_1, PICK_4, PICK_16, SWEEP, RECOVER, COUNT, READ,
+    FORMAT, LAUNCH, WRITE, WITHDRAW, ERASE, SUGGEST, CLEAN, PICK_1, PICK_4, PICK_16, SWEEP, RECOVER, DOUBTFUL_0, DOUBTFUL_8, COUNT, READ,
     SCC_WRITE, SCC_ERASE, SCC_RECOVER, CALLS
 };
 
 static const char *const names[CALLS] = {
-    "format", "launch", "write", "withdraw", "erase", "suggest", "clean", "pick_1", "pick_4", "pick_16", "sweep", "recover", "count", "read",
+    "format", "launch", "write", "withdraw", "erase", "suggest", "clean", "pick_1", "pick_4", "pick_16", "sweep", "recover",
+    "doubtful_0", "doubtful_8", "count", "read",
     "scc_write", "scc_erase", "scc_recover"
 };
 static const uint32_t sizes[SIZES] = {64, 128, 256, 512, 1024};
@@ -48,7 +50,8 @@ static int four;       /* whether their records have four words: scc.h's calls a
 static uint32_t list[BPCC_MAX_SLOTS]; /* the numbers from 0 up */
 static uint8_t bytes[BPCC_MAX_WIDTH];
 static const uint32_t looked_at[] = {1, 4, 16}; /* how many blocks pick_1, pick_4 and pick_16 look at */
-static uint32_t picked[BPCC_PICK_WORDS];
+static const uint32_t in_doubt[] = {0, BPCC_MAX_DOUBTFUL}; /* how many slots doubtful_0 and doubtful_8 have in doubt, from 0 up */
+static uint32_t picked[BPCC_PICK_WORDS], ends[BPCC_DOUBTFUL_WORDS(BPCC_MAX_PAGES)];
 static unsigned passed, failed, wrong; /* wrong: answers not expected, on the volume at hand */
 
 #define FAMILY(call, ...) (four ? scc_##call(__VA_ARGS__) : bpcc_##call(__VA_ARGS__))
@@ -75,6 +78,9 @@ static uint64_t reply_of(enum call call) {
     case SWEEP: return bpcc_sweep(VOLUME, WORDS, CONTENTS, STATE);
     case RECOVER: return bpcc_recover(VOLUME, WORDS, CONTENTS, STATE);
     case SCC_RECOVER: return scc_recover(VOLUME, WORDS, STATE);
+    case DOUBTFUL_0:
+    case DOUBTFUL_8:
+        return bpcc_doubtful(VOLUME, WORDS, CONTENTS, list, in_doubt[call - DOUBTFUL_0], ends, BPCC_DOUBTFUL_WORDS(v.pages));
     case COUNT: return bpcc_count(bytes, width);
     case READ: return bpcc_read(VOLUME, WORDS, CONTENTS, STATE, v.pages - 1, bytes, width);
     default: return BPCC_DONE; /* no call: what reading the clock takes */
@@ -490,6 +496,11 @@ static const struct kind {
     {RECOVER, BPCC_DONE, one_ring, "P = S, by hand, a ring of all, no other record"},
     {RECOVER, BPCC_DONE, old_links, "P = S-2, links to older versions"},
     {RECOVER, BPCC_DONE, twins, "P = 1, by hand, S twins"},
+    {DOUBTFUL_0, BPCC_DONE, ring, "P = S/2, a ring of all, no slot blank, an empty list"},
+    {DOUBTFUL_0, BPCC_DONE, one_ring, "P = S, by hand, a ring of all, no other record, an empty list"},
+    {DOUBTFUL_0, BPCC_DONE, old_links, "P = S-2, links to older versions, an empty list"},
+    {DOUBTFUL_8, BPCC_DONE, ring, "P = S/2, a ring of all, no slot blank, eight older records in doubt"},
+    {DOUBTFUL_8, BPCC_DONE, twins, "P = 1, by hand, S twins, eight in doubt"},
     {COUNT, BPCC_DONE, at_rest, "the bytes of a page"},
     {READ, BPCC_DONE, in_flight, "P = S, all in flight"},
     {SCC_WRITE, BPCC_DONE, ring_but_one, "P = S/2, the last page of a ring of all"},
@@ -514,11 +525,17 @@ static void expect_looked_at(enum call call) {
     wrong += picked[BPCC_PICK_LOOKED] != (n < v.blocks ? n : v.blocks);
 }
 
+/* Of doubtful all fillings recover. */
+static void expect_fillings(enum call call, uint64_t reply) {
+    wrong += bpcc_second(reply) != UINT32_C(1) << in_doubt[call - DOUBTFUL_0];
+}
+
 /* The shortest time of a call on the volume made. */
 static double shortest(enum call call, uint32_t answer) {
+    const int rounds = call == DOUBTFUL_8 ? FEW_ROUNDS : ROUNDS;
     double best = 0;
     int i;
-    for (i = 0; i < ROUNDS; i++) {
+    for (i = 0; i < rounds; i++) {
         double started, took;
         uint64_t reply;
         v = made;
@@ -527,6 +544,9 @@ static double shortest(enum call call, uint32_t answer) {
         took = milliseconds() - started;
         best = i == 0 || took < best ? took : best;
         expect(answer, reply);
+        if (call == DOUBTFUL_0 || call == DOUBTFUL_8) {
+            expect_fillings(call, reply);
+        }
     }
     return best;
 }

@@ -9,7 +9,9 @@ use crate::interface::{Family, NONE, WIDTHS};
 use crate::random::Random;
 use crate::rules::{set_entry, slot_bytes, slot_words, state_sound, Entry, Record, LAST_VERSION};
 use crate::volume::{Call, Layout, Sizes, Volume};
-pub use arguments::{blocks_to_clean, blocks_to_look_at, page_and_slot_to_write, page_to_take, pages_to_launch, slots_to_erase};
+pub use arguments::{
+    blocks_to_clean, blocks_to_look_at, page_and_slot_to_write, page_to_take, pages_to_launch, slots_to_doubt, slots_to_erase,
+};
 
 /// Widths that no volume has.
 pub const WRONG_WIDTHS: [u32; 7] = [0, 31, 33, 63, 65, 96, NONE];
@@ -185,7 +187,7 @@ fn garbage(random: &mut Random, sizes: Sizes) -> Volume {
 }
 
 /// Copies some records to blank slots, if there are any, most as they are and some with another byte or another word.
-fn add_twins(random: &mut Random, v: &mut Volume) {
+pub fn add_twins(random: &mut Random, v: &mut Volume) {
     let Sizes { family, width, .. } = v.sizes;
     for _ in 0..1 + random.below(4) {
         let (held, blank) = (v.records(), v.blank_slots());

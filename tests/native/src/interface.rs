@@ -49,6 +49,10 @@ pub const MOST_BLOCKS: usize = 16;
 /// The words that a pick fills.
 pub const PICK_WORDS: usize = 4;
 
+/// The most slots in doubt, and the words that doubtful fills of each page.
+pub const MOST_DOUBTFUL: usize = 8;
+pub const END_WORDS: usize = 2;
+
 /// Hands the calls to a macro, a row for each: its family, its name, its name in C, and what it takes in the order of the header. A
 /// name in brackets is a buffer, in C a pointer and then a length.
 macro_rules! calls {
@@ -65,6 +69,7 @@ macro_rules! calls {
             Bpcc Pick        bpcc_pick         (pages, slots, width, [words], [contents], [state], [starts], block, n, [picked])
             Bpcc Sweep       bpcc_sweep        (pages, slots, width, [words], [contents], [state])
             Bpcc Recover     bpcc_recover      (pages, slots, width, [words], [contents], [state])
+            Bpcc Doubtful    bpcc_doubtful     (pages, slots, width, [words], [contents], [list], [ends])
             Bpcc Count       bpcc_count        ([bytes])
             Bpcc Read        bpcc_read         (pages, slots, width, [words], [contents], [state], page, [out])
             Scc  Format      scc_format        (pages, slots, width, [words], [contents], [state])
@@ -100,6 +105,7 @@ pub struct Arguments<'a> {
     pub bytes: &'a [u8],
     pub out: &'a mut [u8],
     pub picked: &'a mut [u32],
+    pub ends: &'a mut [u32],
 }
 
 /// Which call of a family.
@@ -116,6 +122,7 @@ pub enum Name {
     Pick,
     Sweep,
     Recover,
+    Doubtful,
     Count,
     Read,
 }

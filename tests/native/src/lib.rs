@@ -2,6 +2,7 @@
 
 pub mod cleaning;
 pub mod crash;
+pub mod doubting;
 pub mod groups;
 pub mod harness;
 pub mod implementations;

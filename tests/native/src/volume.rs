@@ -1,9 +1,9 @@
 //! A volume with its state, and the calls that a run makes on it.
 
 use crate::cleaning::{may_erase_alone, twins, View};
-use crate::interface::{Arguments, Calls, Family, Name, Reply, NONE, PAGE_WORDS, PICK_WORDS};
-use crate::picking;
-use crate::rules::{is_exposed, old_rule, records, set_slot, slot, slot_bytes, slot_words, Record};
+use crate::interface::{Arguments, Calls, Family, Name, Reply, END_WORDS, NONE, PAGE_WORDS, PICK_WORDS};
+use crate::rules::{entry, is_exposed, old_rule, records, set_slot, slot, slot_bytes, slot_words, Record};
+use crate::{doubting, picking};
 use std::fmt;
 
 /// How slots lie in a volume's buffers: the family, by which a record has five words or four, and the bytes of contents for each slot.
@@ -78,7 +78,7 @@ pub enum Call {
     Recover,
 }
 
-/// What stands in the words lent to a pick.
+/// What stands in the words lent to a pick, and to doubtful.
 pub const LENT: u32 = 0xA5A5_A5A5;
 
 #[derive(Clone, Debug, PartialEq, Eq)]
@@ -183,6 +183,28 @@ impl Volume {
         picking::assert_promised(calls, &mut Arguments { starts, block, n, picked: &mut picked, ..v.arguments() });
         assert!(v == *self, "a pick altered the volume");
         picked
+    }
+
+    /// What doubtful says of these slots, and its words: those that it is lent where it is refused.
+    pub fn doubtful(&mut self, calls: &dyn Calls, list: &[u32]) -> (Reply, Vec<u32>) {
+        let mut ends = vec![LENT; END_WORDS * self.sizes.pages as usize];
+        let reply = calls.call(Name::Doubtful, &mut Arguments { list, ends: &mut ends, ..self.arguments() });
+        (reply, ends)
+    }
+
+    /// How many fillings recover, and each page's ends, where doubtful is done; it alters nothing, and what is shown of it holds.
+    pub fn doubted(&self, calls: &dyn Calls, list: &[u32]) -> (u32, Vec<doubting::Ends>) {
+        let mut v = self.clone();
+        let (reply, mut words) = v.doubtful(calls, list);
+        assert_eq!(reply.answer, 0, "doubtful slots {list:?}");
+        doubting::assert_promised(calls, &mut Arguments { list, ends: &mut words, ..v.arguments() }, reply.second);
+        assert!(v == *self, "doubtful altered the volume");
+        (reply.second, words.chunks(END_WORDS).map(|ends| [ends[0], ends[1]]).collect())
+    }
+
+    /// The committed version of each page.
+    pub fn committed(&self) -> Vec<u32> {
+        (0..self.sizes.pages).map(|p| entry(&self.state, p).committed).collect()
     }
 
     pub fn read(&mut self, calls: &dyn Calls, page: u32, out: &mut [u8]) -> Reply {

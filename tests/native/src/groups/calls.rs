@@ -2,6 +2,7 @@
 
 pub mod block_tables;
 pub mod cleanings;
+pub mod doubtings;
 pub mod exhaustive;
 pub mod kinds;
 pub mod lengths;
@@ -41,6 +42,7 @@ pub fn tests(group: &mut Group, layout: Layout) {
         blocks(group, &compared, layout);
         picks(group, &compared, layout);
         sweeps(group, &compared, layout);
+        doubts(group, &compared, layout);
     }
     group.plain("the largest volume, one transaction over all pages", || volumes::compare_largest(&compared, layout));
     group.plain("lists of 100,001 entries", || volumes::compare_long_lists(&compared, layout));
@@ -108,6 +110,22 @@ fn sweeps(group: &mut Group, compared: &Compared, layout: Layout) {
         .test("every two records of two pages, versions up to 2, and a twin, swept and picked on every sound state, words up to 2", || {
             format!("{} sweeps", exhaustive::swept_states(compared, layout))
         });
+}
+
+/// Doubtful slots.
+fn doubts(group: &mut Group, compared: &Compared, layout: Layout) {
+    group.test("doubtful slots of 20,000 volumes, every kind met at least 100 times", || doubtings::compare(compared, layout, 20_000));
+    group.plain("doubtful slots wrong in every choice of ways at once", || doubtings::compare_refusals(compared, layout));
+    group.plain("doubtful slots in lists of every length", || doubtings::compare_list_lengths(compared, layout));
+    group.plain("doubtful slots with words lent in every number", || doubtings::compare_lengths(compared, layout));
+    for (pages, slots, highest, rising) in [(1, 4, 2, false), (2, 4, 1, false), (2, 3, 2, true)] {
+        let order = if rising { "rising" } else { "in every order" };
+        let name = format!("every table of P = {pages}, S = {slots}, versions up to {highest}, up to three slots in doubt, {order}");
+        group.test(&name, || {
+            let (tables, lists) = exhaustive::doubtful_tables(compared, layout.sizes(pages, slots), highest, rising);
+            format!("{tables} tables, {lists} lists each")
+        });
+    }
 }
 
 /// Slots, starts of a table, and how many sound ones there are: the first is 0, and the others are any of the slots behind it.

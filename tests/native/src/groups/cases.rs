@@ -1,8 +1,9 @@
-//! Document 01's table of cases, document 02's sentences on twins, cleaning, tables of blocks, picking and the sweep, and its four-word
-//! records, by the implementation under test and by the second one.
+//! Document 01's table of cases, document 02's sentences on twins, cleaning, tables of blocks, picking, the sweep and doubtful slots, and
+//! its four-word records, by the implementation under test and by the second one.
 
 pub mod blocks;
 pub mod cleaning;
+pub mod doubting;
 pub mod five_words;
 pub mod four_words;
 pub mod picking;
@@ -50,6 +51,14 @@ const FIVE_WORDS: &[Case] = &[
     ("sweep: a straddler stays with a record in flight that needs it", sweeping::kept_straddler),
     ("sweep: what it refuses, in this order", sweeping::refusals),
     ("sweep: cuts in each erasing", sweeping::cuts),
+    ("doubtful: an empty list gives recovery's own versions", doubting::empty),
+    ("doubtful: a set of two pages, whole or not at all", doubting::set),
+    ("doubtful: fillings that do not recover count for nothing", doubting::failing),
+    ("doubtful: twins, each in doubt by itself, and records that clash", doubting::twins),
+    ("doubtful: a straddler that is missing raises a version", doubting::straddlers),
+    ("doubtful: versions up to the last, each end reached", doubting::versions),
+    ("doubtful: eight slots are taken, nine are not", doubting::limit),
+    ("doubtful: what it refuses, in this order", doubting::refusals),
 ];
 
 const FOUR_WORDS: &[Case] = &[

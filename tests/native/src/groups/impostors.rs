@@ -5,7 +5,9 @@ use super::runs::run::Cleaning;
 use super::runs::{long_runs, small_runs};
 use crate::harness::{caught, Group};
 use crate::implementations::compared::Compared;
-use crate::implementations::impostors::faults::{breaking_picks, faults, losing, losing_in_blocks, losing_in_sweeps, Fault};
+use crate::implementations::impostors::faults::{
+    breaking_doubts, breaking_picks, faults, losing, losing_in_blocks, losing_in_sweeps, Fault,
+};
 use crate::implementations::impostors::Impostor;
 use crate::volume::Layout;
 
@@ -34,22 +36,19 @@ pub fn tests(group: &mut Group, layout: Layout) {
             })
         });
     }
-    for &fault in losing_in_sweeps(layout.family) {
-        group.test(&format!("{fault:?} is found in runs with sweeps and crashes"), || {
-            caught(|| {
-                for pages in [6, 3, 1] {
-                    small_runs(&Impostor(fault), layout, Cleaning::AnyBlocks, pages, 100, 400);
-                }
-            })
-        });
-    }
-    for &fault in breaking_picks(layout.family) {
-        group.test(&format!("{fault:?} is found in runs with picks"), || {
-            caught(|| {
-                for pages in [6, 3, 1] {
-                    small_runs(&Impostor(fault), layout, Cleaning::Often, pages, 100, 400);
-                }
-            })
-        });
+    for (faults, cleaning, with) in [
+        (losing_in_sweeps(layout.family), Cleaning::AnyBlocks, "sweeps and crashes"),
+        (breaking_picks(layout.family), Cleaning::Often, "picks"),
+        (breaking_doubts(layout.family), Cleaning::Never, "slots in doubt"),
+    ] {
+        for &fault in faults {
+            group.test(&format!("{fault:?} is found in runs with {with}"), || {
+                caught(|| {
+                    for pages in [6, 3, 1] {
+                        small_runs(&Impostor(fault), layout, cleaning, pages, 100, 400);
+                    }
+                })
+            });
+        }
     }
 }

@@ -89,9 +89,10 @@ pub fn told(all: Tally) -> String {
     let cured = if all.buried == 0 { String::new() } else { format!(" ({} by 16 and cured)", all.buried) };
     let cleaned =
         if all.cleaned == 0 { String::new() } else { format!(" ({} cleanings, {} copies, {} picks)", all.cleaned, all.copies, all.picked) };
+    let doubted = if all.doubted == 0 { String::new() } else { format!(" ({} in doubt)", all.doubted) };
     let swept = if all.swept == 0 { String::new() } else { format!(" ({})", told_sweeps(all.swept, all.erasing)) };
     format!(
-        "{} accepted{cleaned}{swept}, {} refused{cured}, {} crashes, {} completed, {} recoveries compared",
+        "{} accepted{doubted}{cleaned}{swept}, {} refused{cured}, {} crashes, {} completed, {} recoveries compared",
         all.accepted, all.refused, all.crashes, all.completed, all.checks
     )
 }

@@ -1,9 +1,9 @@
 //! Calls made twice, by the implementation under test and by the second one: same answer, same second number, same buffers,
-//! nothing touched beside them; and of a pick what is shown of it.
+//! nothing touched beside them; and of a pick and of doubtful what is shown of it.
 
 use super::reference::Reference;
 use crate::interface::{Arguments, Calls, Name, Reply};
-use crate::picking::assert_promised;
+use crate::{doubting, picking};
 use std::cell::RefCell;
 use std::collections::BTreeMap;
 use std::fmt::Debug;
@@ -57,6 +57,7 @@ struct Copies {
     bytes: Guarded<u8>,
     out: Guarded<u8>,
     picked: Guarded<u32>,
+    ends: Guarded<u32>,
 }
 
 impl Copies {
@@ -70,6 +71,7 @@ impl Copies {
             bytes: Guarded::new(a.bytes),
             out: Guarded::new(a.out),
             picked: Guarded::new(a.picked),
+            ends: Guarded::new(a.ends),
         }
     }
 
@@ -93,6 +95,7 @@ impl Copies {
             bytes: self.bytes.lent(),
             out: self.out.lent(),
             picked: self.picked.lent(),
+            ends: self.ends.lent(),
         }
     }
 
@@ -106,6 +109,7 @@ impl Copies {
         self.bytes.assert_is(a.bytes, call, "bytes");
         self.out.assert_is(a.out, call, "out");
         self.picked.assert_is(a.picked, call, "words picked");
+        self.ends.assert_is(a.ends, call, "ends");
     }
 }
 
@@ -146,8 +150,10 @@ impl Calls for Compared<'_> {
         copies.assert_are(a, name);
         assert!(got == expected, "{name} gives {got:?} for {expected:?}");
         *self.seen.borrow_mut().entry((name, got.answer, got.second)).or_default() += 1;
-        if name == Name::Pick && got.answer == 0 {
-            assert_promised(self.tested, a);
+        match (name, got.answer) {
+            (Name::Pick, 0) => picking::assert_promised(self.tested, a),
+            (Name::Doubtful, 0) => doubting::assert_promised(self.tested, a, got.second),
+            _ => {}
         }
         got
     }

@@ -2,6 +2,7 @@
 
 mod blocks;
 mod cleaning;
+mod doubting;
 pub mod faults;
 mod judging;
 mod picking;
@@ -33,6 +34,7 @@ impl Calls for Impostor {
             _ if name == Name::Clean => return self.clean(a),
             _ if name == Name::Pick => return self.pick(a),
             _ if name == Name::Sweep => return self.sweep(a),
+            _ if name == Name::Doubtful => return self.doubtful(a),
             _ => {}
         }
         let (before, out) = (Volume::copied(a), a.out.to_vec());

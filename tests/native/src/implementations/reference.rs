@@ -1,7 +1,8 @@
 //! The second implementation of the calls, written from documents 01 and 02 for clarity and not for speed.
 
 use crate::cleaning::{blank_outside, blankings, block, blocks_wrong, clash, copied, erasable, may_erase_alone, steps, twins, Step, Test};
-use crate::interface::{Arguments, Calls, Family, Name, Reply, NONE, PICK_WORDS, WIDTHS};
+use crate::doubting::{ends, lent, recovering};
+use crate::interface::{Arguments, Calls, Family, Name, Reply, END_WORDS, MOST_DOUBTFUL, NONE, PICK_WORDS, WIDTHS};
 use crate::picking::picked;
 use crate::rules::{
     committed_before, contents_fit, cycle, entry, follow, highest_records, list_wrong, lowest_slot, planned, records, set_entry, set_slot,
@@ -39,6 +40,7 @@ pub fn with(twins: Test, name: Name, a: &mut Arguments) -> Reply {
         Name::Pick => pick(a, twins),
         Name::Sweep => sweep(a, twins),
         Name::Recover => recover(a, twins),
+        Name::Doubtful => doubtful(a, twins),
         Name::Count => count(a),
         Name::Read => read(a),
     };
@@ -75,9 +77,14 @@ fn table_misfits(a: &Arguments) -> bool {
     state_misfits(a) || !words_fit(a.family, a.slots, a.words)
 }
 
-/// … and of one that takes the contents too.
+/// … of one that takes the contents too,
 pub fn volume_misfits(a: &Arguments) -> bool {
     table_misfits(a) || !contents_fit(a.slots, a.width, a.contents)
+}
+
+/// … and of one that takes the flash alone.
+pub fn flash_misfits(a: &Arguments) -> bool {
+    !sizes_fit(a.pages, a.slots) || !words_fit(a.family, a.slots, a.words) || !contents_fit(a.slots, a.width, a.contents)
 }
 
 /// "A slot neither blank nor sound."
@@ -241,6 +248,20 @@ fn recover(a: &mut Arguments, twins: Test) -> Outcome {
         set_entry(a.state, p, Entry { committed: committed[p as usize], used: used_version(&table, p), next: NONE, written: 0 });
     }
     Ok(walks.iter().map(|w| w.compared.len() as u32).sum())
+}
+
+/// "Refused: 1 and 2 as in recovery; 19, more than 8 doubtful slots, after 6 (whose empty-list rule does not apply here); 20, no filling
+/// recovers, after 19; a listed blank slot is 6."
+fn doubtful(a: &mut Arguments, twins: Test) -> Outcome {
+    refuse(1, flash_misfits(a) || a.ends.len() != END_WORDS * a.pages as usize)?;
+    refuse(2, slot_unsound(a))?;
+    refuse(6, !a.list.is_empty() && list_wrong(a.list, a.slots))?;
+    refuse(6, a.list.iter().any(|&k| slot(a.family, a.words, k).is_none()))?;
+    refuse(19, a.list.len() > MOST_DOUBTFUL)?;
+    let found = recovering(&lent(a), a.list, |filling| recover(&mut filling.arguments(), twins).is_ok());
+    refuse(20, found.is_empty())?;
+    a.ends.copy_from_slice(&ends(&found).concat());
+    Ok(found.len() as u32)
 }
 
 /// Of 32 or 64 bytes: "stop s … is bit s mod 8 of byte s div 8, lowest bit first; 1 means drawn."

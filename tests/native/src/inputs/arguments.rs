@@ -2,7 +2,7 @@
 
 use super::{blocks, boundary};
 use crate::cleaning::twins;
-use crate::interface::{MOST_BLOCKS, NONE};
+use crate::interface::{MOST_BLOCKS, MOST_DOUBTFUL, NONE};
 use crate::random::Random;
 use crate::rules::{entry, table_sound};
 use crate::volume::{Sizes, Volume};
@@ -78,6 +78,27 @@ fn twins_of(random: &mut Random, v: &Volume) -> Vec<u32> {
         list.pop();
     }
     list
+}
+
+/// Slots that hold records: most often none to two, now and then as many as are taken or more, on a large volume one at most; now and then
+/// with a blank one among them, or spoiled.
+pub fn slots_to_doubt(random: &mut Random, v: &Volume) -> Vec<u32> {
+    let slots = v.sizes.slots;
+    let (mut held, mut blank): (Vec<u32>, Vec<u32>) = (0..slots).partition(|&k| v.slot(k).is_some());
+    random.shuffle(&mut held);
+    let number = match random.below(1000) {
+        0..=19 => MOST_DOUBTFUL as u32 + 1 + random.below(3),
+        _ if slots > 200 => random.below(2),
+        20 => MOST_DOUBTFUL as u32,
+        21..=50 => 3 + random.below(3),
+        _ => random.below(3),
+    };
+    held.truncate(number as usize);
+    if random.one_in(16) {
+        held.extend(blank.pop());
+        random.shuffle(&mut held);
+    }
+    spoiled(random, held, slots)
 }
 
 /// A table of blocks, now and then a broken one, and a block of it, or now and then a number that is none.

@@ -27,10 +27,32 @@ fn sound_records(family: Family, pages: u32, highest: u32) -> Vec<Record> {
     all
 }
 
-/// Recovery of every table of sound records and blank slots, equal up to the slots' order, each slot with bytes of its own and, where
-/// records are equal, with equal bytes too; where it answers 0, the erasure of each slot, and suggest and a sweep or, where a write may be
-/// refused by the table, writes. Gives the number of tables.
+/// Recovery of every table; where it answers 0, the erasure of each slot, and suggest and a sweep or, where a write may be refused by the
+/// table, writes. Gives the number of tables.
 pub fn tables(compared: &Compared, sizes: Sizes, highest: u32) -> u64 {
+    each_table(sizes, highest, |v| one_table(compared, v))
+}
+
+/// Doubtful slots of every table, by lists of up to three slots, rising or in every order with repeats. Gives the number of tables, and of
+/// lists for each.
+pub fn doubtful_tables(compared: &Compared, sizes: Sizes, highest: u32, rising: bool) -> (u64, usize) {
+    let mut lists: Vec<Vec<u32>> = vec![Vec::new()];
+    for at in 0.. {
+        match lists.get(at).cloned() {
+            Some(list) if list.len() < 3 => {
+                let from = list.last().filter(|_| rising).map_or(0, |&last| last + 1);
+                lists.extend((from..sizes.slots).map(|next| [&list[..], &[next]].concat()));
+            }
+            Some(_) => {}
+            None => break,
+        }
+    }
+    (each_table(sizes, highest, |mut v| lists.iter().for_each(|list| drop(v.doubtful(compared, list)))), lists.len())
+}
+
+/// Every table of sound records and blank slots, equal up to the slots' order, each slot with bytes of its own and, where records are
+/// equal, with equal bytes too. Gives their number.
+fn each_table(sizes: Sizes, highest: u32, mut each: impl FnMut(Volume)) -> u64 {
     let mut held = sound_records(sizes.family, sizes.pages, highest);
     held.push(Record::BLANK);
     let mut chosen = vec![0; sizes.slots as usize];
@@ -39,9 +61,9 @@ pub fn tables(compared: &Compared, sizes: Sizes, highest: u32) -> u64 {
         let records: Vec<Record> = chosen.iter().map(|&i: &usize| held[i]).collect();
         let v = Volume::with_records(sizes, &records);
         if chosen.windows(2).any(|pair| pair[0] == pair[1] && pair[0] + 1 < held.len()) {
-            one_table(compared, equal_bytes(v.clone()));
+            each(equal_bytes(v.clone()));
         }
-        one_table(compared, v);
+        each(v);
         count += 1;
         // The next choice with rising indices.
         let Some(at) = chosen.iter().rposition(|&i| i + 1 < held.len()) else { return count };

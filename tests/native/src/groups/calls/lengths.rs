@@ -3,11 +3,11 @@
 use crate::implementations::compared::Compared;
 use crate::implementations::reference::{refusal, Reference};
 use crate::inputs::{is_short, WRONG_WIDTHS};
-use crate::interface::{other_width, Arguments, Calls, Family, Name, Reply, PICK_WORDS, WIDTHS};
+use crate::interface::{other_width, Arguments, Calls, Family, Name, Reply, END_WORDS, PICK_WORDS, WIDTHS};
 use crate::volume::{Call, Layout, Volume, LENT};
 
-/// A volume on which every call of `reply` is done: page 1 is in flight, page 0 is not, slot 3 is blank, slot 0 may be erased, and the
-/// two slots behind block 0 take what stays of it.
+/// A volume on which every call of `reply` is done: page 1 is in flight, page 0 is not, slot 3 is blank, slot 0 may be erased and be in
+/// doubt, and the two slots behind block 0 take what stays of it.
 fn ready(layout: Layout) -> Volume {
     let mut v = Volume::formatted(&Reference, layout.sizes(2, 6));
     let bytes = vec![3; layout.width as usize];
@@ -20,10 +20,11 @@ fn ready(layout: Layout) -> Volume {
 /// What a call says, with so many bytes to write or count and room for as many to read; a refused one leaves every buffer.
 fn reply(compared: &Compared, call: Name, volume: &Volume, length: usize) -> Reply {
     let (bytes, before) = (vec![9; length], vec![5; length]);
-    let (mut v, mut out, mut picked) = (volume.clone(), before.clone(), [LENT; PICK_WORDS]);
-    let lent = Arguments { bytes: &bytes, out: &mut out, picked: &mut picked, ..v.arguments() };
+    let (mut v, mut out, mut picked, mut ends) = (volume.clone(), before.clone(), [LENT; PICK_WORDS], [LENT; 2 * END_WORDS]);
+    let lent = Arguments { bytes: &bytes, out: &mut out, picked: &mut picked, ends: &mut ends, ..v.arguments() };
     let reply = compared.call(call, &mut Arguments { page: 1, slot: 3, list: &[0], starts: &[0, 4], n: 1, ..lent });
-    assert!(reply.answer == 0 || (v == *volume && out == before && picked == [LENT; PICK_WORDS]), "a refused {call} altered a buffer");
+    let words_kept = picked.iter().chain(&ends).all(|&word| word == LENT);
+    assert!(reply.answer == 0 || (v == *volume && out == before && words_kept), "a refused {call} altered a buffer");
     reply
 }
 
@@ -39,9 +40,18 @@ fn assert_refused(compared: &Compared, volume: &Volume, length: usize, refused: 
 /// The calls that take the contents.
 fn of_contents(family: Family) -> &'static [Name] {
     match family {
-        Family::Bpcc => {
-            &[Name::Format, Name::Write, Name::Erase, Name::Suggest, Name::Clean, Name::Pick, Name::Sweep, Name::Recover, Name::Read]
-        }
+        Family::Bpcc => &[
+            Name::Format,
+            Name::Write,
+            Name::Erase,
+            Name::Suggest,
+            Name::Clean,
+            Name::Pick,
+            Name::Sweep,
+            Name::Recover,
+            Name::Doubtful,
+            Name::Read,
+        ],
         Family::Scc => &[Name::Format, Name::Write, Name::Erase, Name::Read],
     }
 }

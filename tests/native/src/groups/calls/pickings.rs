@@ -186,8 +186,8 @@ pub fn compare_numbers(compared: &Compared, layout: Layout) {
     }
 }
 
-/// A volume of three pages, with versions of each in slots anywhere.
-fn stored(random: &mut Random, layout: Layout, slots: u32) -> Volume {
+/// A volume of three pages, with versions of each in slots anywhere and blank ones between them; slot 0 holds a record.
+pub fn stored(random: &mut Random, layout: Layout, slots: u32) -> Volume {
     let mut v = Volume::formatted(&Reference, layout.sizes(3, slots));
     for page in (0..3).cycle().take(20) {
         let slot = random.pick(&v.blank_slots());

@@ -5,13 +5,13 @@ use crate::cleaning::blocks_of;
 use crate::harness::said;
 use crate::implementations::compared::Compared;
 use crate::inputs;
-use crate::interface::{Arguments, Calls, Family, Name, Reply, PICK_WORDS, WIDTHS};
+use crate::interface::{Arguments, Calls, Family, Name, Reply, END_WORDS, PICK_WORDS, WIDTHS};
 use crate::random::Random;
 use crate::sweeping::assert_left;
 use crate::volume::{Call, Layout, Volume, LENT};
 use std::panic::{catch_unwind, AssertUnwindSafe};
 
-/// Document 01's table of which call gives which number, and document 02's 15 to 18.
+/// Document 01's table of which call gives which number, and document 02's 15 to 20.
 pub fn answers(family: Family, call: Name) -> &'static [u32] {
     match call {
         Name::Write if family == Family::Scc => &[0, 1, 2, 5, 6, 9, 10, 11, 16],
@@ -26,6 +26,7 @@ pub fn answers(family: Family, call: Name) -> &'static [u32] {
         Name::Pick => &[0, 1, 2, 5, 6, 17, 18],
         Name::Sweep => &[0, 1, 2, 5],
         Name::Recover => &[0, 1, 2, 3, 4, 14],
+        Name::Doubtful => &[0, 1, 2, 6, 19, 20],
         Name::Count => &[0, 1],
         Name::Read => &[0, 1, 2, 5, 6, 14],
     }
@@ -75,11 +76,14 @@ struct Choices {
     write: (u32, u32),
     clean: (Vec<u32>, u32),
     pick: u32,
+    /// In every other round, as all fillings of these slots are recovered.
+    doubtful: Option<Vec<u32>>,
     withdraw: u32,
     read: u32,
     bytes: Vec<u8>,
     out: Vec<u8>,
     picked: Vec<u32>,
+    ends: Vec<u32>,
 }
 
 impl Choices {
@@ -94,6 +98,8 @@ impl Choices {
         };
         let (bytes, out) = (length(), length());
         let picked = if random.one_in(30) { random.pick(&[0, 1, 3, 5, 8]) } else { PICK_WORDS };
+        let pages = v.sizes.pages as usize;
+        let ends = if random.one_in(30) { random.pick(&[0, 1, pages, 2 * pages - 1, 2 * pages + 1, 4 * pages]) } else { END_WORDS * pages };
         let clean = inputs::blocks_to_clean(random, v);
         Choices {
             launch: inputs::pages_to_launch(random, v),
@@ -101,11 +107,13 @@ impl Choices {
             write: inputs::page_and_slot_to_write(random, v),
             pick: inputs::blocks_to_look_at(random, &clean.0),
             clean,
+            doubtful: random.one_in(2).then(|| inputs::slots_to_doubt(random, v)),
             withdraw: inputs::page_to_take(random, v),
             read: inputs::page_to_take(random, v),
             bytes: random.bytes(bytes),
             out: random.bytes(out),
             picked: vec![LENT; picked],
+            ends: vec![LENT; ends],
         }
     }
 
@@ -124,6 +132,7 @@ impl Choices {
             Name::Write => (self.write.0, self.write.1, &[]),
             Name::Withdraw => (self.withdraw, 0, &[]),
             Name::Erase => (0, 0, &self.erase),
+            Name::Doubtful => (0, 0, self.doubtful.as_deref().unwrap_or_default()),
             Name::Read => (self.read, 0, &[]),
             Name::Format | Name::Suggest | Name::CheckBlocks | Name::Clean | Name::Pick => (0, 0, &[]),
             Name::Sweep | Name::Recover | Name::Count => (0, 0, &[]),
@@ -133,15 +142,20 @@ impl Choices {
 
 /// Each call on a copy of the volume; a refused one leaves the copy as it was, a sweep that is done leaves nothing to erase.
 fn one_round(compared: &Compared, volume: &Volume, choices: &Choices) {
-    for call in volume.sizes.family.calls() {
-        let (mut v, mut out, mut picked) = (volume.clone(), choices.out.clone(), choices.picked.clone());
+    for call in volume.sizes.family.calls().filter(|&call| call != Name::Doubtful || choices.doubtful.is_some()) {
+        let (mut v, mut out, mut picked, mut ends) = (volume.clone(), choices.out.clone(), choices.picked.clone(), choices.ends.clone());
         let (page, slot, list) = choices.of(call);
         let ((starts, block), n, bytes) = (&choices.clean, choices.pick, &choices.bytes);
-        let own = Arguments { page, slot, list, starts, block: *block, n, bytes, out: &mut out, picked: &mut picked, ..v.arguments() };
-        let reply = compared.call(call, &mut { own });
-        let same = v == *volume && out == choices.out && picked == choices.picked;
-        assert!(reply.answer == 0 || same, "a refused call altered a buffer");
-        assert!(call != Name::Pick || (v == *volume && out == choices.out), "a pick altered something else than its words");
+        let lent = Arguments { bytes, out: &mut out, picked: &mut picked, ends: &mut ends, ..v.arguments() };
+        let reply = compared.call(call, &mut Arguments { page, slot, list, starts, block: *block, n, ..lent });
+        let own = [picked != choices.picked, ends != choices.ends];
+        let others = v != *volume || out != choices.out;
+        assert!(reply.answer == 0 || (!others && own == [false; 2]), "a refused call altered a buffer");
+        match call {
+            Name::Pick => assert!(!others && !own[1], "a pick altered something else than its words"),
+            Name::Doubtful => assert!(!others && !own[0], "doubtful altered something else than its words"),
+            _ => {}
+        }
         if call == Name::Sweep && reply.answer == 0 {
             assert_swept(compared, &v);
         }
@@ -174,6 +188,10 @@ pub fn compare_largest(compared: &Compared, layout: Layout) {
             assert_left(&swept(compared, &v).expect("a sweep of rings"));
         }
         assert_eq!(v.clone().call(compared, &Call::Recover), Reply::done(pages * pages));
+        if layout.family == Family::Bpcc {
+            assert_eq!(v.doubted(compared, &[]), (1, vec![[round + 1; 2]; pages as usize]));
+            assert_eq!(v.doubted(compared, &[pages * (round + 2) - 1]), (2, vec![[round, round + 1]; pages as usize]));
+        }
     }
     let obsolete: Vec<u32> = (0..2 * pages).collect();
     assert_eq!(v.call(compared, &Call::Erase(obsolete)).answer, 0);
@@ -199,6 +217,9 @@ pub fn compare_long_lists(compared: &Compared, layout: Layout) {
         let mut list: Vec<u32> = (0..100_000).map(|i| i % pages).collect();
         list.push(last);
         assert_eq!(v.call(compared, &Call::Launch(list.clone())).answer, 6);
+        if layout.family == Family::Bpcc {
+            assert_eq!(v.doubtful(compared, &list).0.answer, 6);
+        }
         assert_eq!(v.call(compared, &Call::Erase(list)).answer, 6);
     }
 }

@@ -21,6 +21,8 @@ pub struct Tally {
     pub cleaned: u64,
     pub copies: u64,
     pub picked: u64,
+    /// Writes and erasures whose slots were in doubt.
+    pub doubted: u64,
     /// Sweeps done, and those that erased exposed records, obsolete ones and spare twins.
     pub swept: u64,
     pub erasing: [u64; 3],
@@ -39,6 +41,7 @@ impl Tally {
         self.cleaned += other.cleaned;
         self.copies += other.copies;
         self.picked += other.picked;
+        self.doubted += other.doubted;
         self.swept += other.swept;
         self.erasing.iter_mut().zip(other.erasing).for_each(|(all, more)| *all += more);
         self.buried += other.buried;
@@ -121,7 +124,7 @@ impl Run<'_> {
             self.volume = flash;
             self.lose_state();
         } else {
-            self.make(&call);
+            self.make(&call, check);
         }
     }
 
@@ -134,7 +137,7 @@ impl Run<'_> {
     }
 
     /// Makes a call: one that is refused leaves the volume, one that would bury a record is done once that is erased.
-    fn make(&mut self, call: &Call) {
+    fn make(&mut self, call: &Call, check: bool) {
         let before = self.volume.clone();
         let reply = self.volume.call(self.calls, call);
         self.ledger.called(call, reply.answer);
@@ -150,6 +153,9 @@ impl Run<'_> {
                 _ => {}
             }
             self.lost &= !matches!(call, Call::Recover);
+            if check && self.volume.sizes.family == Family::Bpcc {
+                self.check_doubts(&before, call);
+            }
         } else {
             self.tally.refused += 1;
             assert!(!matches!(call, Call::Sweep), "a sweep answered {}", reply.answer);
@@ -161,6 +167,20 @@ impl Run<'_> {
             }
         }
         assert!(!self.lost || !matches!(call, Call::Recover), "recover answered {}", reply.answer);
+    }
+
+    /// A call that was done, with the slots in doubt that it altered: all fillings recover. Of a write each page has the version before it
+    /// and the one behind it as its ends, so that the last record of a set decides between the old versions and the new ones; what may be
+    /// erased makes no difference to any page.
+    fn check_doubts(&mut self, before: &Volume, call: &Call) {
+        let (volume, list) = match call {
+            Call::Write { slot, .. } => (&self.volume, vec![*slot]),
+            Call::Erase(list) if list.len() <= 4 => (before, list.clone()),
+            _ => return,
+        };
+        let ends = before.committed().into_iter().zip(self.volume.committed()).map(|(old, new)| [old, new]).collect();
+        assert_eq!(volume.doubted(self.calls, &list), (1 << list.len(), ends), "slots {list:?} in doubt behind {call:?}");
+        self.tally.doubted += 1;
     }
 
     /// A sweep that was done left the state, as many records as it may, and to recovery the same contents of all pages.

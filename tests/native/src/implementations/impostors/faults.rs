@@ -158,6 +158,52 @@ faults! {
     RecoverCountsNoUncommittedEnd,
     RecoverCountsEachPageOnce,
     RecoverCountsLinksWhereItRefuses,
+    DoubtfulDoesNothing Bpcc,
+    DoubtfulLeavesAFilling Bpcc,
+    DoubtfulFillsBeforeItRefuses Bpcc,
+    DoubtfulCountsWhereItRefuses Bpcc,
+    DoubtfulTakesMoreWords Bpcc,
+    DoubtfulTakesFewerWords Bpcc,
+    DoubtfulLooksAtTheListBeforeSlots Bpcc,
+    DoubtfulLooksAtTheNumberFirst Bpcc,
+    DoubtfulLooksAtTheNumberBeforeSlots Bpcc,
+    DoubtfulLooksAtTheNumberBeforeTheList Bpcc,
+    DoubtfulRecoversBeforeItLooksAtTheList Bpcc,
+    DoubtfulRecoversBeforeItLooksAtTheNumber Bpcc,
+    DoubtfulRefusesAnEmptyList Bpcc,
+    DoubtfulFindsNothingInAnEmptyList Bpcc,
+    DoubtfulTakesBlankSlots Bpcc,
+    DoubtfulTakesASlotTwice Bpcc,
+    DoubtfulTakesSlotsPastS Bpcc,
+    DoubtfulTakesNineSlots Bpcc,
+    DoubtfulRefusesEightSlots Bpcc,
+    DoubtfulGivesRecoverysRefusal Bpcc,
+    DoubtfulNeedsTheVolumeItself Bpcc,
+    DoubtfulNeedsEveryFilling Bpcc,
+    DoubtfulBlanksEverySlot Bpcc,
+    DoubtfulBlanksNoSlot Bpcc,
+    DoubtfulBlanksOneSlotAtATime Bpcc,
+    DoubtfulBlanksInTheListsOrder Bpcc,
+    DoubtfulBlanksTwinsTogether Bpcc,
+    DoubtfulSkipsTheVolumeItself Bpcc,
+    DoubtfulSkipsAllBlank Bpcc,
+    DoubtfulStopsAtTheFirstFilling Bpcc,
+    DoubtfulCountsEveryFilling Bpcc,
+    DoubtfulCountsTwinsOnce Bpcc,
+    DoubtfulCountsOutcomes Bpcc,
+    DoubtfulCountsSlots Bpcc,
+    DoubtfulTakesTheHighestOfAll Bpcc,
+    DoubtfulTakesTheLowestOfAll Bpcc,
+    DoubtfulTakesTheFirstAndTheLast Bpcc,
+    DoubtfulTakesTheLowestFilling Bpcc,
+    DoubtfulStartsAtZero Bpcc,
+    DoubtfulComparesSigned Bpcc,
+    DoubtfulTellsUsedVersions Bpcc,
+    DoubtfulTellsHighestVersions Bpcc,
+    DoubtfulTellsTheLowestTwice Bpcc,
+    DoubtfulTellsTheHighestTwice Bpcc,
+    DoubtfulExchangesTheEnds Bpcc,
+    DoubtfulTellsAllLowestFirst Bpcc,
     CountGivesZero Bpcc,
     CountLooksAtOneBitOfEachByte Bpcc,
     CountStopsAt256 Bpcc,
@@ -169,7 +215,7 @@ faults! {
 }
 
 /// The calls that look for twins.
-const OF_TWINS: [Name; 6] = [Name::Erase, Name::Suggest, Name::Clean, Name::Pick, Name::Sweep, Name::Recover];
+const OF_TWINS: [Name; 7] = [Name::Erase, Name::Suggest, Name::Clean, Name::Pick, Name::Sweep, Name::Recover, Name::Doubtful];
 
 /// The calls that take a table of blocks.
 const OF_BLOCKS: [Name; 3] = [Name::CheckBlocks, Name::Clean, Name::Pick];
@@ -238,6 +284,14 @@ pub fn breaking_picks(family: Family) -> &'static [Fault] {
     }
 }
 
+/// The faults of doubtful that runs find: what a set's last record decides, and what may be erased, is told otherwise.
+pub fn breaking_doubts(family: Family) -> &'static [Fault] {
+    match family {
+        Family::Bpcc => &BREAKING_DOUBTS,
+        Family::Scc => &[],
+    }
+}
+
 const BREAKING_PICKS: [Fault; 25] = [
     Fault::PickDoesNothing,
     Fault::PickErasesWhatItCounts,
@@ -264,6 +318,28 @@ const BREAKING_PICKS: [Fault; 25] = [
     Fault::PickTakesTheSmallestUnseen,
     Fault::PickTakesTheFirstUnseen,
     Fault::IgnoresTwins(Name::Pick),
+];
+
+const BREAKING_DOUBTS: [Fault; 19] = [
+    Fault::DoubtfulDoesNothing,
+    Fault::DoubtfulLeavesAFilling,
+    Fault::DoubtfulBlanksEverySlot,
+    Fault::DoubtfulBlanksNoSlot,
+    Fault::DoubtfulBlanksOneSlotAtATime,
+    Fault::DoubtfulBlanksInTheListsOrder,
+    Fault::DoubtfulSkipsTheVolumeItself,
+    Fault::DoubtfulSkipsAllBlank,
+    Fault::DoubtfulStopsAtTheFirstFilling,
+    Fault::DoubtfulCountsOutcomes,
+    Fault::DoubtfulCountsSlots,
+    Fault::DoubtfulTakesTheFirstAndTheLast,
+    Fault::DoubtfulStartsAtZero,
+    Fault::DoubtfulTellsUsedVersions,
+    Fault::DoubtfulTellsHighestVersions,
+    Fault::DoubtfulTellsTheLowestTwice,
+    Fault::DoubtfulTellsTheHighestTwice,
+    Fault::DoubtfulExchangesTheEnds,
+    Fault::DoubtfulTellsAllLowestFirst,
 ];
 
 const LOSING: [Fault; 8] = [
