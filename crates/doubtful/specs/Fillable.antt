@@ -3,42 +3,19 @@ use Prim.Native.Nat.{ℕ, _+_, _*_, _≤_, _<_}
 use native.Mathlib.Omega.{arith}
 use mathlib.Core.Path.{_≡_}
 use mathlib.Core.List.{List}
-use mathlib.Core.Bool.{Bool, true, _&&_}
-use lib.Dec.{ltb, eqb}
+use mathlib.Core.Bool.{true}
+use lib.Dec.{ltb}
 use lib.ListN.{length, getD}
-use borrow.Author.Tests.{ltb-true, eqb-true}
+use borrow.Author.Tests.{ltb-true}
 use Rattle.bounded.specs.Limits.{Widths}
-use Rattle.bounded.specs.Choice.{both-left, both-right}
+use Rattle.bounded.specs.Choice.{both-left}
 use Rattle.bounded.specs.BelowLaws.{all-at}
 use Rattle.sizes.specs.declared.Sizes.{Sizes}
-use Rattle.sizes.specs.Sizes.{sizesOk, wordsFit, contentsFit, inRange}
-use Rattle.sizes.specs.SizesLaws.{SizesFacts, sizes-facts, words-fit-exactly, contents-fit-exactly}
+use Rattle.sizes.specs.Sizes.{inRange}
 use Rattle.record.specs.Flash.{Flash, flash}
 use Rattle.record.specs.FlashLaws.{Sized}
 use Rattle.rules.specs.Doubtful.{doubtfulFits, doubtfulListOk}
-
--- P, S and the lengths are right
-pub record FitsFacts (sizes : Sizes) (f : Flash) (out : List ℕ) : Type 0 where
-  pub bounds : SizesFacts (sizes .pages) (sizes .slots)
-  pub flash-sized : Sized (sizes .width) (sizes .slots) f
-  pub out-sized : length out ≡ 2 * sizes .pages
-
-pub fits-facts : (widths : Widths) (sizes : Sizes) (f : Flash) (out : List ℕ) → doubtfulFits widths sizes f out ≡ true → FitsFacts sizes f out
-unfolding doubtfulFits
-fits-facts widths sizes f out e =
-    let words-test : Bool = wordsFit (sizes .slots) (f .words) in
-    let contents-test : Bool = contentsFit (sizes .width) (sizes .slots) (f .contents) in
-    let out-test : Bool = eqb (length out) (2 * sizes .pages) in
-    let e1 = both-right (sizesOk widths sizes) (words-test && (contents-test && out-test)) e in
-    let e2 = both-right words-test (contents-test && out-test) e1 in
-    record {
-      bounds = sizes-facts widths sizes (both-left (sizesOk widths sizes) (words-test && (contents-test && out-test)) e) .0;
-      flash-sized = record {
-        words-sized = words-fit-exactly (sizes .slots) (f .words) .0 (both-left words-test (contents-test && out-test) e1);
-        contents-sized = contents-fit-exactly (sizes .width) (sizes .slots) (f .contents) .0 (both-left contents-test out-test e2);
-      };
-      out-sized = eqb-true (length out) (2 * sizes .pages) (both-right contents-test out-test e2);
-    }
+use Rattle.rules.specs.laws.Fillings.{FitsFacts, fits-facts}
 
 -- so many words have room for those of a filling and of its state
 module _ (sizes : Sizes) (f : Flash) (out : List ℕ) (facts : FitsFacts sizes f out) where

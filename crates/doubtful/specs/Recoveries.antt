@@ -4,12 +4,11 @@ use mathlib.Core.Path.{_≡_, refl, sym, ap, _∙_, fun-ext}
 use mathlib.Core.Logic.{_⊎_, inl, inr}
 use mathlib.Core.List.{List, [], _∷_, List·Memᴰ}
 use mathlib.Core.Bool.{Bool, true, false}
-use lib.ListN.{length, replicate, length-replicate}
+use lib.ListN.{length}
 use borrow.Author.Tests.{eq-eqb, ne-eqb}
 use Rattle.bounded.specs.Limits.{Widths}
 use Rattle.bounded.specs.Members.{listed?}
 use Rattle.outcome.specs.Outcome.{Outcome, returned}
-use Rattle.outcome.specs.OutcomeLaws.{settled-answer}
 use Rattle.sizes.specs.declared.Layout.the-variants.{FiveWords}
 use Rattle.sizes.specs.declared.Sizes.{Sizes}
 use Rattle.record.specs.declared.Slot.{Slot}
@@ -18,12 +17,13 @@ use Rattle.record.specs.Slot.{slotAt, bytesAt, holds}
 use Rattle.record.specs.Flash.{Flash, Step, flash, putSlotIn, applyIn, applyAllIn}
 use Rattle.record.specs.FlashLaws.{Sized, members-below, blanks-sized, blanks-listed, blanks-unlisted}
 use Rattle.twins.specs.Twins.{sameRecord, twins}
-use Rattle.rules.specs.Volume.{Volume, volume}
+use Rattle.rules.specs.Volume.{volume}
 use Rattle.rules.specs.Erase.{eraseSteps}
-use Rattle.rules.specs.Recover.{recoverAnswer, recoverOutcome}
+use Rattle.rules.specs.Recover.{recoverOutcome}
 use Rattle.rules.specs.Doubtful.{absentIn, filledWith, recoveryOf, recovers}
-use Rattle.rules.specs.laws.Recover.{recover-answer-reads, recover-fills, recover-reads-twins}
+use Rattle.rules.specs.laws.Recover.{recover-reads-twins}
 use Rattle.rules.specs.laws.Fillings.{absent-listed}
+use Rattle.rules.specs.laws.Doubtful.{any-sheet-answer, any-sheet-left}
 use Rattle.doubtful.specs.Fillable.{Fillable}
 use Rattle.doubtful.specs.Filled.{blankedWords}
 use Rattle.doubtful.specs.Versions.{versionsNoted, fillingNoted}
@@ -94,27 +94,13 @@ module _ (widths : Widths) (sizes : Sizes) (words contents list : List ℕ) (fil
         (same-twins (sizes .width) (sizes .slots) (flash words contents) size (absentIn list m) absent-inside)
 
     module _ (state-sized : length state ≡ 4 * sizes .pages) where
-      abbrev zeros : Volume
-      zeros = record { flash = fillingAt; state = replicate (4 * sizes .pages) 0 }
-
-      same-answer : recoverAnswer widths sizes (record { flash = fillingAt; state = state }) ≡ recoverAnswer widths sizes zeros
-      same-answer = recover-answer-reads widths sizes fillingAt state (replicate (4 * sizes .pages) 0) (state-sized ∙ sym (length-replicate (4 * sizes .pages) 0))
-
       -- into whatever state of that length it gives the same answer,
-      answered : recoverOutcome widths sizes (volume filled contents state) .answer ≡ recoverAnswer widths sizes (record { flash = fillingAt; state = state })
-      unfolding recoverOutcome
-      answered = ap (λ (o : Outcome (List ℕ)). o .answer) by-twins ∙ settled-answer _ _ _ _ _
-
       filling-answers : recoverOutcome widths sizes (volume filled contents state) .answer ≡ recoveryOf widths sizes fillingAt .answer
-      unfolding recoveryOf recoverOutcome
-      filling-answers = answered ∙ same-answer ∙ sym (settled-answer _ _ _ _ _)
+      filling-answers = ap (λ (o : Outcome (List ℕ)). o .answer) by-twins ∙ sym (any-sheet-answer widths sizes fillingAt state state-sized)
 
       -- and where that is 0 leaves the same words
       filling-leaves : recoverOutcome widths sizes (volume filled contents state) .answer ≡ 0 → recoverOutcome widths sizes (volume filled contents state) .left ≡ recoveryOf widths sizes fillingAt .left
-      unfolding recoveryOf
-      filling-leaves e =
-          let done = sym answered ∙ e in
-          ap (λ (o : Outcome (List ℕ)). o .left) (by-twins ∙ recover-fills widths sizes (record { flash = fillingAt; state = state }) done ∙ sym (recover-fills widths sizes zeros (sym same-answer ∙ done)))
+      filling-leaves e = ap (λ (o : Outcome (List ℕ)). o .left) by-twins ∙ sym (any-sheet-left widths sizes fillingAt state state-sized (sym filling-answers ∙ e))
 
       -- so its reply says whether the filling recovers, and the versions that it leaves are the filling's
       module _ (r : ℕ) (left : List ℕ) (says : returned r left ≡ recoverOutcome widths sizes (volume filled contents state)) (first : Bool) (out : List ℕ) where

@@ -19,7 +19,8 @@ use Rattle.record.specs.Slot.{slotAt, isBlank}
 use Rattle.record.specs.Flash.{Flash}
 use Rattle.table.specs.Table.{tableSound}
 use Rattle.rules.specs.Doubtful.{maxDoubtful, recovering, doubtfulListOk, doubtfulFits, doubtfulAnswer}
-use Rattle.doubtful.specs.Fillable.{FitsFacts, fits-facts, Fillable, fillable}
+use Rattle.rules.specs.laws.Fillings.{FitsFacts, fits-facts}
+use Rattle.doubtful.specs.Fillable.{Fillable, fillable}
 
 -- ---- the list
 

@@ -75,6 +75,21 @@ module _ (widths : Widths) (sizes : Sizes) (g : Flash) (done : recoveryOf widths
       let c = commits-version p h in
       omega arith
 
+-- recovery on any sheet of the right length says the same as on one of zeros
+module _ (widths : Widths) (sizes : Sizes) (g : Flash) (state : List ℕ) (sized : length state ≡ 4 * sizes .pages) where
+  pub any-sheet-answer : recoveryOf widths sizes g .answer ≡ recoverOutcome widths sizes (record { flash = g; state = state }) .answer
+  unfolding recoveryOf
+  any-sheet-answer =
+      recover-answers widths sizes g (replicate (4 * sizes .pages) 0)
+      ∙ recover-answer-reads widths sizes g (replicate (4 * sizes .pages) 0) state (length-replicate (4 * sizes .pages) 0 ∙ sym sized)
+      ∙ sym (recover-answers widths sizes g state)
+
+  pub any-sheet-left : recoveryOf widths sizes g .answer ≡ 0 → recoveryOf widths sizes g .left ≡ recoverOutcome widths sizes (record { flash = g; state = state }) .left
+  unfolding recoveryOf
+  any-sheet-left e =
+      ap (λ (o : Outcome (List ℕ)). o .left) (recover-fills widths sizes (sheeted sizes g) (answers widths sizes g e)
+      ∙ sym (recover-fills widths sizes (record { flash = g; state = state }) (sym (recover-answers widths sizes g state) ∙ sym any-sheet-answer ∙ e)))
+
 -- ---- the two ends
 
 module _ (widths : Widths) (sizes : Sizes) (f : Flash) (slots : List ℕ) where
@@ -108,23 +123,16 @@ module _ (widths : Widths) (sizes : Sizes) (f : Flash) (slots : List ℕ) where
       pub high-is : high m ≡ versionFilled widths sizes f slots m p
       high-is = rw e
 
-  -- recovery on any sheet of the right length says the same as on one of zeros
+  -- recovery on any sheet of the right length says the same
   module _ (state : List ℕ) (sized : length state ≡ 4 * sizes .pages) where
     abbrev byState : List ℕ → Outcome (List ℕ)
     byState absent = recoverOutcome widths sizes (record { flash = filledWith (sizes .width) f absent; state = state })
 
     same-answer : (absent : List ℕ) → filledBy absent .answer ≡ byState absent .answer
-    unfolding recoveryOf
-    same-answer absent =
-        recover-answers widths sizes (filledWith (sizes .width) f absent) (replicate (4 * sizes .pages) 0)
-        ∙ recover-answer-reads widths sizes (filledWith (sizes .width) f absent) (replicate (4 * sizes .pages) 0) state (length-replicate (4 * sizes .pages) 0 ∙ sym sized)
-        ∙ sym (recover-answers widths sizes (filledWith (sizes .width) f absent) state)
+    same-answer absent = any-sheet-answer widths sizes (filledWith (sizes .width) f absent) state sized
 
     same-left : (absent : List ℕ) → filledBy absent .answer ≡ 0 → filledBy absent .left ≡ byState absent .left
-    unfolding recoveryOf
-    same-left absent e =
-        ap (λ (o : Outcome (List ℕ)). o .left) (recover-fills widths sizes (sheeted sizes (filledWith (sizes .width) f absent)) (answers widths sizes (filledWith (sizes .width) f absent) e)
-        ∙ sym (recover-fills widths sizes (record { flash = filledWith (sizes .width) f absent; state = state }) (sym (recover-answers widths sizes (filledWith (sizes .width) f absent) state) ∙ sym (same-answer absent) ∙ e)))
+    same-left absent = any-sheet-left widths sizes (filledWith (sizes .width) f absent) state sized
 
     -- a number's filling recovers exactly where the choice that leaves the same slots does
     by-choice : (m : ℕ) (q : ℕ → Bool) → absentIn slots m ≡ passing q slots → recovers widths sizes f slots m ≡ true → filledRecovery widths sizes f slots state q .answer ≡ 0

@@ -5,7 +5,7 @@ use native.Mathlib.Omega.{arith}
 use mathlib.Core.Path.{_≡_, refl, sym, ap, _∙_, subst}
 use mathlib.Core.Logic.{_⊎_, inl, inr, ⊎-elim, _↔_}
 use mathlib.Core.List.{List, [], _∷_, List·Memᴰ, List·Memᴰ·head, List·Memᴰ·tail, List·Memᴰ·not-nil, List·Memᴰ·cases-cons}
-use mathlib.Core.Bool.{Bool, true, false}
+use mathlib.Core.Bool.{Bool, true, false, _&&_}
 use lib.Dec.{ltb, eqb}
 use lib.ListN.{length, getD}
 use borrow.Author.Tests.{ltb-true, eqb-true, eq-eqb, ne-eqb}
@@ -15,7 +15,8 @@ use Rattle.bounded.specs.BelowLaws.{all-at, some-of, some-at}
 use Rattle.bounded.specs.Members.{listed?, member-at, entry-member}
 use Rattle.sizes.specs.declared.Layout.the-variants.{FiveWords}
 use Rattle.sizes.specs.declared.Sizes.{Sizes}
-use Rattle.sizes.specs.Sizes.{sizesOk, wordsFitIn, wordsFit, contentsFit, inRange, noRepeats, listed}
+use Rattle.sizes.specs.Sizes.{sizesOk, wordsFit, contentsFit, inRange, noRepeats, listed}
+use Rattle.sizes.specs.SizesLaws.{SizesFacts, sizes-facts, words-fit-exactly, contents-fit-exactly}
 use Rattle.sizes.specs.Lists.{no-repeats-apart}
 use Rattle.record.specs.Flash.{Flash}
 use Rattle.record.specs.FlashLaws.{SizedIn, blanks-listed, blanks-unlisted}
@@ -179,7 +180,30 @@ module _ (l : List ℕ) (k : ℕ) where
   unfolding listed
   listed-member e = let w = some-at (λ i. eqb (getD l i 0) k) (length l) e in entry-member l (w .0) k (w .1) (eqb-true (getD l (w .0) 0) k (w .2))
 
--- what the tests of the lengths and of the list say
+-- P, S and the lengths are right
+pub record FitsFacts (sizes : Sizes) (f : Flash) (out : List ℕ) : Type 0 where
+  pub bounds : SizesFacts (sizes .pages) (sizes .slots)
+  pub flash-sized : SizedIn FiveWords (sizes .width) (sizes .slots) f
+  pub out-sized : length out ≡ 2 * sizes .pages
+
+pub fits-facts : (widths : Widths) (sizes : Sizes) (f : Flash) (out : List ℕ) → doubtfulFits widths sizes f out ≡ true → FitsFacts sizes f out
+unfolding doubtfulFits
+fits-facts widths sizes f out e =
+    let words-test : Bool = wordsFit (sizes .slots) (f .words) in
+    let contents-test : Bool = contentsFit (sizes .width) (sizes .slots) (f .contents) in
+    let out-test : Bool = eqb (length out) (2 * sizes .pages) in
+    let e1 = both-right (sizesOk widths sizes) (words-test && (contents-test && out-test)) e in
+    let e2 = both-right words-test (contents-test && out-test) e1 in
+    record {
+      bounds = sizes-facts widths sizes (both-left (sizesOk widths sizes) (words-test && (contents-test && out-test)) e) .0;
+      flash-sized = record {
+        words-sized = words-fit-exactly (sizes .slots) (f .words) .0 (both-left words-test (contents-test && out-test) e1);
+        contents-sized = contents-fit-exactly (sizes .width) (sizes .slots) (f .contents) .0 (both-left contents-test out-test e2);
+      };
+      out-sized = eqb-true (length out) (2 * sizes .pages) (both-right contents-test out-test e2);
+    }
+
+-- … and a list of slots
 pub record Listable (sizes : Sizes) (f : Flash) (slots : List ℕ) : Type 0 where
   pub sized : SizedIn FiveWords (sizes .width) (sizes .slots) f
   pub in-range : (k : ℕ) → List·Memᴰ k slots → k < sizes .slots
@@ -187,15 +211,10 @@ pub record Listable (sizes : Sizes) (f : Flash) (slots : List ℕ) : Type 0 wher
 
 module _ (widths : Widths) (sizes : Sizes) (f : Flash) (slots out : List ℕ) (fits : doubtfulFits widths sizes f out ≡ true) (ok : doubtfulListOk (sizes .slots) (f .words) slots ≡ true) where
   pub listable : Listable sizes f slots
-  unfolding doubtfulFits doubtfulListOk wordsFitIn contentsFit inRange
+  unfolding doubtfulListOk inRange
   listable =
-      let b = both-right (sizesOk widths sizes) _ fits in
-      let c = both-right (wordsFit (sizes .slots) (f .words)) _ b in
       record {
-        sized = record {
-          words-sized = eqb-true (length (f .words)) (5 * sizes .slots) (both-left (wordsFit (sizes .slots) (f .words)) _ b);
-          contents-sized = eqb-true (length (f .contents)) (sizes .width * sizes .slots) (both-left (contentsFit (sizes .width) (sizes .slots) (f .contents)) _ c);
-        };
+        sized = fits-facts widths sizes f out fits .flash-sized;
         in-range = λ k m. let w = member-at slots k m in let h = ltb-true _ _ (all-at (λ i. ltb (getD slots i 0) (sizes .slots)) (length slots) (w .0) (both-left (inRange (sizes .slots) slots) _ ok) (w .1)) in subst (λ (j : ℕ). j < sizes .slots) (w .2) h;
         new = both-left (noRepeats slots) _ (both-right (inRange (sizes .slots) slots) _ ok);
       }
