@@ -1,20 +1,39 @@
--- Laws of a line's call: a state that is lost word by word, and a write of equal bytes.
+-- Laws of a line and its call: a line that is no format, a state that is lost word by word, and a write of equal bytes.
 use Prim.Native.Nat.{ℕ, _-_, _≤_, _<_, min}
 use native.Mathlib.Omega.{arith}
-use mathlib.Core.Path.{_≡_, sym, _∙_}
-use mathlib.Core.List.{List}
+use mathlib.Core.Path.{_≡_, refl, sym, _∙_}
+use mathlib.Core.List.{List, [], _∷_}
 use mathlib.Core.Bool.{true, false}
 use lib.ListN.{length, take, drop, length-replicate, getD-replicate, replicate}
+use types.Run.{OneOf, miss}
+use denote.Enum.Declared.{tagOf}
 use Rattle.bounded.specs.Limits.{Widths}
 use Rattle.bounded.specs.Choice.{on-lt, on-test}
 use Rattle.bounded.specs.Entries.{stored, stored-all}
 use Rattle.bounded.specs.Fronts.{equal-lent}
 use Rattle.outcome.specs.Outcome.{settled}
 use Rattle.sizes.specs.declared.Sizes.{Sizes}
+use Rattle.line.specs.declared.Line.{Line}
+use Rattle.line.specs.declared.Line.the-variants as lines
+use Rattle.line.specs.Line.{said, onFormat}
+use Rattle.line.proofs.Line.{the-type}
 use Rattle.rules.specs.Volume.{Volume, volumeFits}
 use Rattle.rules.specs.Write.{writeAnswer, writeOutcome}
 use Rattle.rules.specs.laws.Volume.{fits-facts}
 use Rattle.dispatch.specs.Dispatch.{lost}
+
+-- a line of another key than format's
+pub other-line : {A : Type 0} (line : Line) (list : List ℕ) (f : Sizes → A) (other : A) → OneOf (1 ∷ 2 ∷ 3 ∷ 4 ∷ 5 ∷ 6 ∷ 7 ∷ 8 ∷ []) (tagOf the-type line) → onFormat (said line list) f other ≡ other
+unfolding onFormat said
+other-line (lines.Format sizes) list f other k = absurd (miss (1 ∷ 2 ∷ 3 ∷ 4 ∷ 5 ∷ 6 ∷ 7 ∷ 8 ∷ []) 0 tt k)
+other-line (lines.Launch count) list f other k = refl
+other-line (lines.Write page slot fill) list f other k = refl
+other-line (lines.Withdraw page) list f other k = refl
+other-line (lines.Erase count) list f other k = refl
+other-line lines.Recover list f other k = refl
+other-line lines.Cut list f other k = refl
+other-line lines.List list f other k = refl
+other-line lines.Malformed list f other k = refl
 
 -- the word of a lost state
 abbrev pub noWord : ℕ → ℕ

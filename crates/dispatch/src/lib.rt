@@ -23,7 +23,7 @@ pub fn least(a: usize, b: usize) -> usize
 }
 
 // "cut sets every sheet word to 4,294,967,295"
-fn lose(state: &mut [u32])
+pub fn lose(state: &mut [u32])
     ensures { λ _. ⌜ now (state .exit) ≡ lost (now (state .entry)) ⌝ }
 {
     let mut i = 0;

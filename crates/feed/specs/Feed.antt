@@ -5,13 +5,9 @@ use mathlib.Core.Bool.{cond}
 use lib.Dec.{eqb}
 use lib.ListN.{take}
 use Rattle.bounded.specs.Limits.{Widths}
-use Rattle.line.specs.Line.{lineMeans}
+use Rattle.line.specs.Line.{maxEntries, lineMeans}
 use Rattle.report.specs.Report.{Standing, Turn, idleTurn}
 use Rattle.script.specs.Script.{turn}
-
--- "lists 1 to 64 entries"
-abbrev pub maxEntries : ℕ
-maxEntries = 64
 
 -- what a line of these bytes does: by `turn`, nothing once the run is over
 unfoldable pub carried : Widths → Standing → List ℕ → Turn

@@ -13,13 +13,13 @@ use Rattle.bounded.specs.Choice.{on-lt}
 use Rattle.bounded.specs.Fronts.{front-lent}
 use Rattle.text.specs.Print.{shown, added}
 use Rattle.text.specs.PrintLaws.{added-none}
-use Rattle.line.specs.Line.{Said, lineMeans}
+use Rattle.line.specs.Line.{Said, maxEntries, lineMeans}
 use Rattle.rules.specs.Volume.{Volume}
 use Rattle.report.specs.declared.Run.{Run}
 use Rattle.report.specs.Report.{Standing, standing, printing, idleTurn}
 use Rattle.report.specs.ReportLaws.{Went}
 use Rattle.script.specs.Script.{turn}
-use Rattle.feed.specs.Feed.{maxEntries, carried, fed}
+use Rattle.feed.specs.Feed.{carried, fed}
 
 -- The first 513 bytes of a line say what the line says: more than 512 are malformed, whatever they are.
 pub enough-held : (k : ℕ) (line : List ℕ) → lineMeans k (take 513 line) ≡ lineMeans k line

@@ -23,6 +23,18 @@ pub data Said : Type 0 where
   Listing : Said
   Malformed : Said
 
+-- one thing of a format line, by its sizes, and another of every other line
+unfoldable pub onFormat : {A : Type 0} → Said → (Sizes → A) → A → A
+onFormat (Format z) f other = f z
+onFormat (Launch pages) f other = other
+onFormat (Write page slot fill) f other = other
+onFormat (Withdraw page) f other = other
+onFormat (Erase slots) f other = other
+onFormat Recover f other = other
+onFormat Cut f other = other
+onFormat Listing f other = other
+onFormat Malformed f other = other
+
 -- what the program's enum says, with the list that stands beside it
 unfoldable pub said : Line → List ℕ → Said
 said (lines.Format sizes) list = Format sizes
@@ -137,6 +149,10 @@ callMeans k s =
     onText (behind (bytes "op=withdraw page=") s) withdrawMeans (
     onText (behind (bytes "op=erase slots=") s) (eraseMeans k) (
     plainMeans s)))))
+
+-- "lists 1 to 64 entries"
+abbrev pub maxEntries : ℕ
+maxEntries = 64
 
 -- What a line says, where lists have at most k entries. "Lines have at most 512 bytes".
 unfoldable pub lineMeans : ℕ → List ℕ → Said

@@ -3,7 +3,7 @@ use Prim.Native.Nat.{ℕ, zero, suc, _+_, _*_, _≤_, _<_}
 use native.Mathlib.Omega.{arith}
 use native.Mathlib.Numerals.{add-one}
 use mathlib.Core.Path.{_≡_, refl, sym, ap, _∙_}
-use mathlib.Core.List.{List, _++_, append-assoc}
+use mathlib.Core.List.{List}
 use mathlib.Core.Bool.{Bool, true, _&&_}
 use lib.Dec.{ltb, eqb}
 use lib.ListN.{length, replicate, length-replicate}
@@ -17,7 +17,7 @@ use Rattle.outcome.specs.OutcomeLaws.{held, settled-answer, settled-done}
 use Rattle.outcome.specs.Chain.{firstOf, both-pass}
 use Rattle.sizes.specs.declared.Layout.the-variants.{FiveWords}
 use Rattle.sizes.specs.declared.Sizes.{Sizes}
-use Rattle.text.specs.Print.{shown, added, decimal}
+use Rattle.text.specs.Print.{shown, added}
 use Rattle.text.specs.PrintLaws.{added-next}
 use Rattle.record.specs.Slot.{bytesAt}
 use Rattle.bits.specs.Bits.{countOutcome}
@@ -53,13 +53,6 @@ module _ (answers : ℕ → ℕ) where
       on-eq (firstRefusal n answers) 0
       (λ z. on-lt page n (all-accepted n page z) (λ (q : n ≤ page). let k : page ≡ n = omega arith in rw k (rw (eq-eqb (firstRefusal n answers) 0 z) at e)))
       (λ d. absurd (d (rw (ne-eqb (firstRefusal n answers) 0 d) at e)))
-
--- text behind a field
-pub field-next :
-    (out out₁ : List ℕ) (at at₁ : ℕ) (name : List ℕ) (n : ℕ) (text : List ℕ) → shown out₁ at₁ ≡ added out at (name ++ decimal n) → length out₁ ≡ length out
-    → added out₁ at₁ text ≡ added out at (name ++ (decimal n ++ text))
-field-next out out₁ at at₁ name n text e l =
-    added-next out out₁ at at₁ (name ++ decimal n) text e l ∙ ap (added out at) (append-assoc name (decimal n) text)
 
 -- one text more, behind those joined
 pub parts-next :

@@ -12,14 +12,13 @@ use Rattle.bounded.specs.Limits.{Widths}
 use Rattle.sizes.specs.declared.Sizes.{Sizes}
 use Rattle.text.specs.Scan.{bytes}
 use Rattle.text.specs.Print.{shown, added, decimal}
-use Rattle.text.specs.PrintLaws.{added-none}
+use Rattle.text.specs.PrintLaws.{added-none, field-next}
 use Rattle.line.specs.declared.Line.{Line}
 use Rattle.line.specs.declared.Line.the-variants as lines
 use Rattle.line.specs.Line.{said}
 use Rattle.line.proofs.Line.{the-type}
 use Rattle.rules.specs.Volume.{Volume}
 use Rattle.listing.specs.Listing.{answerText}
-use Rattle.listing.specs.ListingLaws.{field-next}
 use Rattle.report.specs.declared.Run.{Run}
 use Rattle.report.specs.Report.{Standing, standing, Turn, printing, idleTurn, refusedTurn, doneText, formatted, told}
 

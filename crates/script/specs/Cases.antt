@@ -6,14 +6,14 @@ use mathlib.Core.List.{List, [], _∷_, _++_}
 use lib.ListN.{replicate}
 use Rattle.bounded.specs.Limits.{twoWidths}
 use Rattle.text.specs.Scan.{bytes}
-use Rattle.line.specs.Line.{lineMeans}
+use Rattle.line.specs.Line.{lineMeans, onFormat}
 use Rattle.line.specs.Computing.{computing as line-computing}
 use Rattle.rules.specs.Volume.{volume}
 use Rattle.listing.specs.Computing.{computing as listing-computing}
 use Rattle.dispatch.specs.Computing.{computing as dispatch-computing}
-use Rattle.report.specs.Report.{Standing, Turn, standing, startRun, withMemory, printing, idleTurn, refusedTurn, doneText, formatted, told}
+use Rattle.report.specs.Report.{Standing, standing, startRun, withMemory, printing, idleTurn, refusedTurn, doneText, formatted, told}
 use Rattle.script.specs.Memory.{inUse, volumeBack}
-use Rattle.script.specs.Script.{volumeTurn, onFormat, sizesFor, inFront, lineTurn, isFormat, isEarly, turn}
+use Rattle.script.specs.Script.{volumeTurn, sizesFor, inFront, lineTurn, isFormat, isEarly, turn}
 
 -- what the lines print, one after the other, from where a run stands
 unfoldable pub printed : Standing → List String → List ℕ

@@ -1,10 +1,10 @@
 -- A turn prints at most 20,498 bytes, so that a buffer with that much room left holds all of it.
-use Prim.Native.Nat.{ℕ, zero, suc, _+_, _*_, _/_, _%_, _≤_}
+use Prim.Native.Nat.{ℕ, zero, suc, _+_, _*_, _≤_}
 use native.Mathlib.Omega.{arith}
 use mathlib.Core.Path.{_≡_, sym, _∙_}
-use mathlib.Core.List.{List, [], _∷_, _++_}
+use mathlib.Core.List.{List, _++_}
 use mathlib.Core.Bool.{Bool, true, false, cond}
-use lib.Dec.{ltb, eqb}
+use lib.Dec.{eqb}
 use lib.ListN.{length, take, length-append, length-take}
 use lib.Seq.{take-all}
 use borrow.Author.Tests.{eq-eqb, ne-eqb}
@@ -15,8 +15,9 @@ use Rattle.outcome.specs.Outcome.{Outcome}
 use Rattle.outcome.specs.OutcomeLaws.{held, settled-answer}
 use Rattle.sizes.specs.declared.Sizes.{Sizes}
 use Rattle.text.specs.Scan.{bytes}
-use Rattle.text.specs.Print.{shown, added, decimalIn, decimal}
-use Rattle.line.specs.Line.{Said}
+use Rattle.text.specs.Print.{shown, added, decimal}
+use Rattle.text.specs.PrintLaws.{field-room}
+use Rattle.line.specs.Line.{Said, onFormat}
 use Rattle.rules.specs.Volume.{Volume, volumeFits}
 use Rattle.rules.specs.Format.{formatted as formattedVolume, formatAnswerIn, formatAnswer, formatOutcomeIn, formatOutcome}
 use Rattle.rules.specs.laws.Volume.{fits-facts}
@@ -24,7 +25,7 @@ use Rattle.listing.specs.Listing.{answerText, stateText, fieldsText, pageText, 
 use Rattle.dispatch.specs.Dispatch.{lineOutcome}
 use Rattle.report.specs.Report.{Standing, Turn, withMemory, printing, idleTurn, refusedTurn, doneText, formatted, told}
 use Rattle.script.specs.Memory.{inUse}
-use Rattle.script.specs.Script.{volumeTurn, onFormat, sizesFor, inFront, lineTurn, isEarly, turn}
+use Rattle.script.specs.Script.{volumeTurn, sizesFor, inFront, lineTurn, isEarly, turn}
 
 -- the most bytes that a turn prints
 abbrev pub mostPrinted : ℕ
@@ -35,26 +36,6 @@ module _ {A : Type 0} where
   pub either-way : (b : Bool) (Q : A → Type 0) (x y : A) → Q x → Q y → Q (cond b x y)
   either-way true Q x y p q = p
   either-way false Q x y p q = q
-
-digits-room : (k n : ℕ) → length (decimalIn k n) ≤ k
-unfolding decimalIn
-digits-room zero n = omega arith
-digits-room (suc k) n =
-    let h = digits-room k (n / 10) in
-    let e = length-append (decimalIn k (n / 10)) ((48 + n % 10) ∷ []) in
-    either-way (ltb n 10) (λ (l : List ℕ). length l ≤ suc k) ((48 + n) ∷ []) (decimalIn k (n / 10) ++ ((48 + n % 10) ∷ [])) (omega arith) (omega arith)
-
-decimal-room : (n : ℕ) → length (decimal n) ≤ 10
-unfolding decimal
-decimal-room n = digits-room 10 n
-
--- a name, a number of 32 bits and a text behind them
-field-room : (name text : List ℕ) (n : ℕ) → length (name ++ (decimal n ++ text)) ≤ length name + (10 + length text)
-field-room name text n =
-    let e = length-append name (decimal n ++ text) in
-    let f = length-append (decimal n) text in
-    let h = decimal-room n in
-    omega arith
 
 pub answer-room : (n : ℕ) → length (answerText n) ≤ 18
 unfolding answerText bytes

@@ -5,7 +5,7 @@ use lib.Dec.{eqb}
 use Rattle.bounded.specs.Limits.{Widths}
 use Rattle.outcome.specs.Outcome.{Outcome}
 use Rattle.sizes.specs.declared.Sizes.{Sizes}
-use Rattle.line.specs.Line.{Said}
+use Rattle.line.specs.Line.{Said, onFormat}
 use Rattle.rules.specs.Volume.{Volume}
 use Rattle.dispatch.specs.Dispatch.{lineOutcome}
 use Rattle.report.specs.Report.{Standing, Turn, withMemory, idleTurn, refusedTurn, told}
@@ -17,18 +17,6 @@ volumeTurn widths z s says = tell (lineOutcome widths z (s .memory) says)
   where
     tell : Outcome Volume → Turn
     tell o = told widths (withMemory s (o .left)) says (o .answer) (o .second)
-
--- what is said of a format by its sizes, and of another line
-unfoldable pub onFormat : {A : Type 0} → Said → (Sizes → A) → A → A
-onFormat (Said.Format z) f other = f z
-onFormat (Said.Launch pages) f other = other
-onFormat (Said.Write page slot fill) f other = other
-onFormat (Said.Withdraw page) f other = other
-onFormat (Said.Erase slots) f other = other
-onFormat Said.Recover f other = other
-onFormat Said.Cut f other = other
-onFormat Said.Listing f other = other
-onFormat Said.Malformed f other = other
 
 -- the sizes of the volume that a line works on: a format's own, else the run's
 unfoldable pub sizesFor : Standing → Said → Sizes

@@ -1,23 +1,18 @@
 -- Laws of a line's turn.
 use Prim.Native.Nat.{ℕ, _*_, _-_, _^_, _/_, _%_, _≤_, _<_, min}
 use native.Mathlib.Omega.{arith}
-use mathlib.Core.Path.{_≡_, refl, sym, ap, _∙_}
-use mathlib.Core.List.{List, [], _∷_}
+use mathlib.Core.Path.{_≡_, sym, ap, _∙_}
+use mathlib.Core.List.{List}
 use mathlib.Core.Bool.{Bool, true, false, cond}
 use lib.Dec.{eqb}
 use lib.ListN.{length, take, drop}
-use types.Run.{OneOf, miss}
-use denote.Enum.Declared.{tagOf}
 use borrow.Rule.Slice.PartMut.{putMid}
 use borrow.Author.Tests.{ne-eqb, eq-eqb}
 use Rattle.bounded.specs.Limits.{Widths}
 use Rattle.bounded.specs.Choice.{on-test}
 use Rattle.outcome.specs.Outcome.{returned}
 use Rattle.sizes.specs.declared.Sizes.{Sizes}
-use Rattle.line.specs.declared.Line.{Line}
-use Rattle.line.specs.declared.Line.the-variants as lines
-use Rattle.line.specs.Line.{Said, said}
-use Rattle.line.proofs.Line.{the-type}
+use Rattle.line.specs.Line.{Said, onFormat}
 use Rattle.rules.specs.Volume.{Volume, volume}
 use Rattle.rules.specs.Format.{formatAnswer}
 use Rattle.sizes.specs.declared.Layout.the-variants.{FiveWords}
@@ -28,7 +23,7 @@ use Rattle.report.specs.Report.{Standing, standing, withMemory, idleTurn, refus
 use Rattle.report.specs.ReportLaws.{Went, went-idle}
 use Rattle.script.specs.Memory.{inUse, volumeBack}
 use Rattle.script.specs.MemoryLaws.{volume-same, volume-lent, volume-put}
-use Rattle.script.specs.Script.{volumeTurn, onFormat, sizesFor, inFront, lineTurn, isFormat, isEarly, turn}
+use Rattle.script.specs.Script.{volumeTurn, sizesFor, inFront, lineTurn, isFormat, isEarly, turn}
 
 module _ (run s : Run) (m : Volume) (out out₁ : List ℕ) where
   -- a line's call, and what is said of it
@@ -52,19 +47,6 @@ module _ (run s : Run) (m : Volume) (out out₁ : List ℕ) where
       let g = rw lent at h in
       rw (volume-put z m kw kb ks ew eb es words contents state)
       (ap (λ (x : Standing). withMemory x (volumeBack z m (x .memory))) (g .0), g .1)
-
--- a line of another key than format's
-pub other-line : {A : Type 0} (line : Line) (list : List ℕ) (f : Sizes → A) (other : A) → OneOf (1 ∷ 2 ∷ 3 ∷ 4 ∷ 5 ∷ 6 ∷ 7 ∷ 8 ∷ []) (tagOf the-type line) → onFormat (said line list) f other ≡ other
-unfolding onFormat said
-other-line (lines.Format sizes) list f other k = absurd (miss (1 ∷ 2 ∷ 3 ∷ 4 ∷ 5 ∷ 6 ∷ 7 ∷ 8 ∷ []) 0 tt k)
-other-line (lines.Launch count) list f other k = refl
-other-line (lines.Write page slot fill) list f other k = refl
-other-line (lines.Withdraw page) list f other k = refl
-other-line (lines.Erase count) list f other k = refl
-other-line lines.Recover list f other k = refl
-other-line lines.Cut list f other k = refl
-other-line lines.List list f other k = refl
-other-line lines.Malformed list f other k = refl
 
 -- a line that comes too early is a malformed one
 unfoldable pub inTime : ℕ → Said → Said

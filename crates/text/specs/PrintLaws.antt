@@ -25,6 +25,13 @@ pub added-next : (out out₁ : List ℕ) (at at₁ : ℕ) (s t : List ℕ) → s
 unfolding added
 added-next out out₁ at at₁ s t e l = rw (e, l, take-twice (length out) (shown out at ++ s) t, append-assoc (shown out at) s t)
 
+-- text behind a field
+pub field-next :
+    (out out₁ : List ℕ) (at at₁ : ℕ) (name : List ℕ) (n : ℕ) (text : List ℕ) → shown out₁ at₁ ≡ added out at (name ++ decimal n) → length out₁ ≡ length out
+    → added out₁ at₁ text ≡ added out at (name ++ (decimal n ++ text))
+field-next out out₁ at at₁ name n text e l =
+    added-next out out₁ at at₁ (name ++ decimal n) text e l ∙ ap (added out at) (append-assoc name (decimal n) text)
+
 -- no text added
 pub added-none : (out : List ℕ) (at : ℕ) → shown out at ≡ added out at []
 unfolding shown added
@@ -90,6 +97,35 @@ module _ (digits : List ℕ) where
   digits-all (suc i) rest h = absurd (omega arith)
 
 -- A number has a digit, so the place of the first is before the end.
+-- a number of 32 bits has at most ten digits
+digits-room : (k n : ℕ) → length (decimalIn k n) ≤ k
+unfolding decimalIn
+digits-room zero n = omega arith
+digits-room (suc k) n =
+    let h = digits-room k (n / 10) in
+    on-lt n 10 (λ l. rw (decimal-short k n l) (omega arith)) (λ l. rw (decimal-long k n l) (simp length-append (omega arith)))
+
+decimal-room : (n : ℕ) → length (decimal n) ≤ 10
+unfolding decimal
+decimal-room n = digits-room 10 n
+
+-- a name, a number of 32 bits and a text behind them
+pub field-room : (name text : List ℕ) (n : ℕ) → length (name ++ (decimal n ++ text)) ≤ length name + (10 + length text)
+field-room name text n =
+    let e = length-append name (decimal n ++ text) in
+    let f = length-append (decimal n) text in
+    let h = decimal-room n in
+    omega arith
+
+-- a text for which a buffer has more than enough room is put whole
+pub all-put : (out left text : List ℕ) (r : ℕ) → length text < length out → length left ≡ length out → shown left r ≡ added out 0 text → (shown left r ≡ text) × (r ≡ length text)
+unfolding shown added
+all-put out left text r h l e =
+    let whole = e ∙ take-all (length out) text (omega arith) in
+    let n = length-take r left in
+    let k = ap length whole in
+    (whole, omega arith)
+
 pub decimal-one : (k n : ℕ) → 0 < length (decimalIn (suc k) n)
 decimal-one k n =
     on-lt n 10 (λ h. rw (decimal-short k n h) (omega arith)) (λ h. rw (decimal-long k n h) (simp length-append (omega arith)))

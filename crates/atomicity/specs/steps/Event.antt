@@ -35,7 +35,7 @@ unfolding learns
 learns-accepted m call zero e = refl
 learns-accepted m call (suc a) e = absurd (omega arith)
 
-learns-refused : (m : Model) (call : Call) (a : ℕ) → ¬ (a ≡ 0) → learns m (Told.Answered call a) ≡ m
+pub learns-refused : (m : Model) (call : Call) (a : ℕ) → ¬ (a ≡ 0) → learns m (Told.Answered call a) ≡ m
 unfolding learns
 learns-refused m call zero n = absurd (n refl)
 learns-refused m call (suc a) n = refl

@@ -35,12 +35,12 @@ module _ {F : Family} (T : Theory F) (widths : Widths) (sizes : Sizes) where
       (both-right (keepsTo (sizes .pages) x e) (keepsPremises F widths sizes (happens F widths sizes x e) events) k)
 
   -- under the invariant promise 3's conclusion holds
-  holding-recovers : (x : World) (m : Model) → Holding T widths sizes x m → (state : List ℕ) → length state ≡ 4 * (sizes .pages) → Recovers F widths sizes (x .volume .flash) (m .kept) state
+  pub holding-recovers : (x : World) (m : Model) → Holding T widths sizes x m → (state : List ℕ) → length state ≡ 4 * (sizes .pages) → Recovers F widths sizes (x .volume .flash) (m .kept) state
   holding-recovers x m (known found fits live) state long = recovers T widths sizes (x .volume .flash) (fits .bounds) (fits .allowed) (fits .flash-sized) (live .apart) (live .core) state long
   holding-recovers x m (unknown lost fits l) state long = recovers T widths sizes (x .volume .flash) (fits .bounds) (fits .allowed) (fits .flash-sized) (l .apart) (l .core) state long
 
   -- the start
-  starts : (v : Volume) → formatOutcomeIn (F .layout) widths sizes v .answer ≡ 0 → Holding T widths sizes (started F widths sizes v) (freshModel (sizes .width))
+  pub starts : (v : Volume) → formatOutcomeIn (F .layout) widths sizes v .answer ≡ 0 → Holding T widths sizes (started F widths sizes v) (freshModel (sizes .width))
   unfolding started formatAnswerIn formatOutcomeIn
   starts v e =
       let a : formatAnswerIn (F .layout) widths sizes v ≡ 0 = sym (settled-answer (formatAnswerIn (F .layout) widths sizes v) 0 0 v (formattedIn (F .layout) sizes)) ∙ e in

@@ -8,7 +8,7 @@ use Rattle.atomicity.specs.Promise.{toldOfCrash, told, modelAfter}
 use Rattle.atomicity.specs.Runs.{oneByte, blankBuffers, fourBuffers, lostState, every, none, runCompleted, runErased, runPast, runClosed, runCopied, runCleaned, runSweeping, runSwept, runExposed, runBuried, keptAfter, wordsAfter, RunsComputed, SimpleRunsComputed}
 
 -- A name for "these definitions compute": a declaration that unfolds it unfolds them all.
-unfoldable computing : Unit {0}
+unfoldable pub computing : Unit {0}
 unfolding rules-computing withState withFlash perform plannedStages flashStages doneOf cutShort wasDone isRecover stillLost happens started after keepsTo keepsPremises freshModel entryPage hasBytes inRing allEntered newRing enterIn keep withRing settleRing enter closeRing closeAll accept learns toldOfCrash told modelAfter
 computing = tt
 

@@ -2,7 +2,7 @@ use mathlib.Core.Path.{_∙_}
 use borrow.Author.Needs.{needs}
 use Rattle.text.specs.Scan.{bytes}
 use Rattle.listing.specs.Listing.{answerText}
-use Rattle.listing.specs.ListingLaws.{field-next}
+use Rattle.text.specs.PrintLaws.{field-next}
 use Rattle.listing.proofs.put_answer.Statement.{statement}
 use Rattle.listing.proofs.put_answer.Tie as tie
 

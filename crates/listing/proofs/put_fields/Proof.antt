@@ -2,7 +2,7 @@ use mathlib.Core.Path.{_∙_}
 use borrow.Author.Needs.{needs}
 use Rattle.text.specs.Scan.{bytes}
 use Rattle.listing.specs.Listing.{fieldsText}
-use Rattle.listing.specs.ListingLaws.{field-next}
+use Rattle.text.specs.PrintLaws.{field-next}
 use Rattle.listing.proofs.put_fields.Statement.{statement}
 use Rattle.listing.proofs.put_fields.Tie as tie
 

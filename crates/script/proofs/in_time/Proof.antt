@@ -2,9 +2,10 @@ use Prim.Native.Nat.{ℕ}
 use mathlib.Core.Path.{refl}
 use mathlib.Core.List.{List}
 use borrow.Author.Needs.{needs}
-use Rattle.line.specs.Line.{said}
-use Rattle.script.specs.Script.{onFormat, isFormat}
-use Rattle.script.specs.StepLaws.{other-line, in-time-later, in-time-first, too-early}
+use Rattle.line.specs.Line.{said, onFormat}
+use Rattle.script.specs.Script.{isFormat}
+use Rattle.dispatch.specs.DispatchLaws.{other-line}
+use Rattle.script.specs.StepLaws.{in-time-later, in-time-first, too-early}
 use Rattle.script.proofs.in_time.Statement.{statement}
 use Rattle.script.proofs.in_time.Tie as tie
 

@@ -2,11 +2,11 @@ use Prim.Native.Nat.{ℕ}
 use mathlib.Core.Path.{refl, sym}
 use mathlib.Core.List.{List}
 use borrow.Author.Needs.{needs}
-use Rattle.line.specs.Line.{said}
+use Rattle.line.specs.Line.{said, onFormat}
 use Rattle.rules.specs.Volume.{Volume}
 use Rattle.report.specs.Report.{standing}
-use Rattle.script.specs.Script.{onFormat, sizesFor}
-use Rattle.script.specs.StepLaws.{other-line}
+use Rattle.script.specs.Script.{sizesFor}
+use Rattle.dispatch.specs.DispatchLaws.{other-line}
 use Rattle.script.proofs.sizes_for.Statement.{statement}
 use Rattle.script.proofs.sizes_for.Tie as tie
 

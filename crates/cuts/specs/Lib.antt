@@ -1,0 +1,15 @@
+pub mod Recording
+pub mod Cases
+pub mod Lines
+pub mod Follows
+pub mod Followed
+pub mod Stored
+pub mod Steps
+pub mod Run
+pub mod RunLaws
+pub mod Reported
+pub mod Begun
+pub mod Ran
+pub mod ReportLaws
+pub mod Shown
+pub mod ShownLaws

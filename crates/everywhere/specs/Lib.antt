@@ -1,0 +1,4 @@
+pub mod Cuts
+pub mod Shown
+pub mod Laws
+pub mod Cases

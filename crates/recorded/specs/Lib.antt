@@ -1,0 +1,4 @@
+pub mod Desk
+pub mod Buffers
+pub mod TrialLaws
+pub mod StepLaws
