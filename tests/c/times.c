@@ -8,10 +8,12 @@
  * No time is a failure; the last line is 'N passed, M failed', and a kind at a size passes if it could be made and each call on it
  * gave the answer, recover the links, pick the number of blocks looked at and doubtful the number of fillings, expected.
  *
- * A time is the shortest of ROUNDS calls, of doubtful_8 of FEW_ROUNDS, each on the volume as it was made, less what reading the clock
- * takes: what else the machine does is left out. (Where the linker lays an innermost loop across two cache lines, it is up to twice as
- * long.) The calls themselves make the volumes, but for those made by hand, to which no list of calls leads: erase, suggest, clean, pick,
- * sweep, recover and doubtful accept any sound records, and search or follow longest on these.
+ *   times [ROUNDS]
+ *
+ * A time is the shortest of ROUNDS calls, 101 where no number is given, of doubtful_8 of FEW_ROUNDS at most, each on the volume as it
+ * was made, less what reading the clock takes: what else the machine does is left out. (Where the linker lays an innermost loop across
+ * two cache lines, it is up to twice as long.) The calls themselves make the volumes, but for those made by hand, to which no list of
+ * calls leads: erase, suggest, clean, pick, sweep, recover and doubtful accept any sound records, and search or follow longest on these.
  */
 #define _POSIX_C_SOURCE 200809L
 
@@ -22,7 +24,7 @@
 #include <string.h>
 #include <time.h>
 
-enum { SIZES = 5, ROUNDS = 101, FEW_ROUNDS = 3 };
+enum { SIZES = 5, FEW_ROUNDS = 3, MOST_ROUNDS = 1000000 };
 enum call {
     FORMAT, LAUNCH, WRITE, WITHDRAW, ERASE, SUGGEST, CLEAN, PICK_1, PICK_4, PICK_16, SWEEP, RECOVER, DOUBTFUL_0, DOUBTFUL_8, COUNT, READ,
     SCC_WRITE, SCC_ERASE, SCC_RECOVER, CALLS
@@ -45,6 +47,7 @@ static struct volume {
     uint32_t state[BPCC_PAGE_WORDS * BPCC_MAX_PAGES];
 } v, made;
 
+static long rounds = 101; /* how often each call is made on a volume */
 static uint32_t width; /* of all volumes at hand */
 static int four;       /* whether their records have four words: scc.h's calls are made on them */
 static uint32_t list[BPCC_MAX_SLOTS]; /* the numbers from 0 up */
@@ -532,10 +535,10 @@ static void expect_fillings(enum call call, uint64_t reply) {
 
 /* The shortest time of a call on the volume made. */
 static double shortest(enum call call, uint32_t answer) {
-    const int rounds = call == DOUBTFUL_8 ? FEW_ROUNDS : ROUNDS;
+    const long times = call == DOUBTFUL_8 && rounds > FEW_ROUNDS ? FEW_ROUNDS : rounds;
     double best = 0;
-    int i;
-    for (i = 0; i < rounds; i++) {
+    long i;
+    for (i = 0; i < times; i++) {
         double started, took;
         uint64_t reply;
         v = made;
@@ -628,11 +631,18 @@ static void measure_all(uint32_t at, double clock_time) {
     print_table("scc.h, ", longest, SCC_WRITE, CALLS);
 }
 
+/* Takes the number of rounds, if it is one. */
+static int takes_rounds(const char *word) {
+    char *end;
+    rounds = strtol(word, &end, 10);
+    return *word != 0 && *end == 0 && rounds >= 1 && rounds <= MOST_ROUNDS;
+}
+
 int main(int argc, char **argv) {
     double clock_time;
     size_t i;
-    if (argc > 1) {
-        fprintf(stderr, "usage: %s\n", argv[0]);
+    if (argc > 2 || (argc == 2 && !takes_rounds(argv[1]))) {
+        fprintf(stderr, "usage: %s [ROUNDS]\n", argv[0]);
         return 2;
     }
     for (i = 0; i < BPCC_MAX_SLOTS; i++) {

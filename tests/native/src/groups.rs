@@ -3,6 +3,7 @@
 pub mod blocks;
 pub mod calls;
 pub mod cases;
+pub mod cuts;
 pub mod impostors;
 pub mod links;
 pub mod models;
@@ -17,7 +18,7 @@ use crate::volume::Layout;
 pub type Tests = fn(&mut Group, Layout);
 
 /// Every group by its name, with the families that have it, in the order in which they run.
-pub const GROUPS: [(&str, &[Family], Tests); 8] = [
+pub const GROUPS: [(&str, &[Family], Tests); 9] = [
     ("cases", BOTH, cases::tests),
     ("calls", BOTH, calls::tests),
     ("links", BOTH, links::tests),
@@ -25,6 +26,7 @@ pub const GROUPS: [(&str, &[Family], Tests); 8] = [
     ("models", BOTH, models::tests),
     ("blocks", &[Family::Bpcc], blocks::tests),
     ("scripts", &[Family::Bpcc], scripts::tests),
+    ("cuts", &[Family::Bpcc], cuts::tests),
     ("impostors", BOTH, impostors::tests),
 ];
 

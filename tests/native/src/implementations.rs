@@ -1,6 +1,7 @@
 //! What has the interface: the C library, the second implementation, both side by side, and wrong ones.
 
 pub mod compared;
+pub mod cuts_program;
 #[cfg(feature = "exports")]
 pub mod exports;
 pub mod impostors;

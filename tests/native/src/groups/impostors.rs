@@ -1,14 +1,19 @@
 //! Implementations that are wrong in one way are told from a right one.
 
 use super::calls::volumes;
+use super::cuts;
 use super::runs::run::Cleaning;
 use super::runs::{long_runs, small_runs};
 use crate::harness::{caught, Group};
 use crate::implementations::compared::Compared;
+use crate::implementations::cuts_program;
+use crate::implementations::impostors::cutting::WRONG;
 use crate::implementations::impostors::faults::{
     breaking_doubts, breaking_picks, faults, losing, losing_in_blocks, losing_in_sweeps, Fault,
 };
 use crate::implementations::impostors::Impostor;
+use crate::implementations::reference::Reference;
+use crate::interface::Family;
 use crate::volume::Layout;
 
 pub fn tests(group: &mut Group, layout: Layout) {
@@ -50,5 +55,11 @@ pub fn tests(group: &mut Group, layout: Layout) {
                 })
             });
         }
+    }
+    for wrong in WRONG.iter().filter(|_| layout.family == Family::Bpcc) {
+        group.test(&format!("a program that cuts everywhere, {wrong:?}, differs"), || {
+            let prints = |trial: bool, input: &[u8]| cuts_program::run_as(wrong, &Reference, trial, input);
+            cuts::told_from_right(&prints, layout.width).expect("not found")
+        });
     }
 }

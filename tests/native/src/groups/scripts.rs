@@ -13,6 +13,7 @@ use crate::random::Random;
 use crate::volume::Layout;
 use by_hand::by_hand;
 use printed::{assert_prints, printed_by, printed_in_pieces};
+use std::process::Command;
 use std::time::Instant;
 
 pub fn tests(group: &mut Group, layout: Layout) {
@@ -51,7 +52,7 @@ pub fn tests(group: &mut Group, layout: Layout) {
         for piece in [1, 7, 100] {
             group.plain(&format!("input in pieces of {piece} bytes"), || {
                 for s in by_hand(width).into_iter().filter(|s| s.input.len() < 2000) {
-                    assert_prints(&s.name, &s.input, &printed_in_pieces(program, &s.input, piece), &s.output);
+                    assert_prints(&s.name, &s.input, &printed_in_pieces(&mut Command::new(program), &s.input, piece), &s.output);
                 }
             });
         }
@@ -67,6 +68,6 @@ fn compare(program: &Option<String>, input: &[u8]) {
 fn assert_all_print(program: &Option<String>, input: &[u8], expected: &[u8]) {
     assert_prints("over the calls under test", input, &script_program::run(TESTED, input), expected);
     if let Some(program) = program {
-        assert_prints("the program", input, &printed_by(program, input), expected);
+        assert_prints("the program", input, &printed_by(&mut Command::new(program), input), expected);
     }
 }

@@ -2,6 +2,7 @@
 
 mod blocks;
 mod cleaning;
+pub mod cutting;
 mod doubting;
 pub mod faults;
 mod judging;

@@ -13,7 +13,7 @@ const LIST_ENTRIES: usize = 64;
 
 /// A line of a script.
 #[derive(Debug, PartialEq, Eq)]
-enum Line {
+pub enum Line {
     Format(Sizes),
     Launch(Vec<u32>),
     Write { page: u32, slot: u32, fill: u8 },
@@ -22,6 +22,20 @@ enum Line {
     Cut,
     Recover,
     List,
+}
+
+impl Line {
+    /// The call that the line makes on a volume of the width, if it makes one.
+    pub fn call(&self, width: u32) -> Option<Call> {
+        match *self {
+            Line::Launch(ref pages) => Some(Call::Launch(pages.clone())),
+            Line::Write { page, slot, fill } => Some(Call::Write { page, slot, bytes: vec![fill; width as usize] }),
+            Line::Withdraw(page) => Some(Call::Withdraw(page)),
+            Line::Erase(ref slots) => Some(Call::Erase(slots.clone())),
+            Line::Recover => Some(Call::Recover),
+            Line::Format(_) | Line::Cut | Line::List => None,
+        }
+    }
 }
 
 /// A decimal number of at most 4,294,967,295; leading zeros count for nothing.
@@ -51,7 +65,7 @@ fn sizes(pages: u32, slots: u32, ending: Option<&&str>) -> Option<Sizes> {
 }
 
 /// The line's meaning, if it has one: fields as shown, one space between, nothing after the last.
-fn parse(line: &[u8]) -> Option<Line> {
+pub fn parse(line: &[u8]) -> Option<Line> {
     if line.len() > LINE_BYTES {
         return None;
     }
@@ -101,35 +115,40 @@ pub fn run_through(calls: &dyn Calls, mut input: impl BufRead, mut output: impl 
 
 /// "A refused later format leaves the volume as it was", its width too.
 fn format(calls: &dyn Calls, sizes: Sizes, volume: &mut Option<Volume>) -> String {
+    let answer = match formatted(calls, sizes) {
+        Ok(new) => {
+            *volume = Some(new);
+            0
+        }
+        Err(answer) => answer,
+    };
+    format!("answer={answer}\n")
+}
+
+/// The volume that a format line makes, or the number that refuses it.
+pub fn formatted(calls: &dyn Calls, sizes: Sizes) -> Result<Volume, u32> {
     // Memory for the largest sizes at most: format refuses what is above.
     let mut new = Volume { sizes, ..Volume::zeroed(Sizes { pages: sizes.pages.min(256), slots: sizes.slots.min(1024), ..sizes }) };
-    let answer = new.format(calls).answer;
-    if answer == 0 {
-        *volume = Some(new);
+    match new.format(calls).answer {
+        0 => Ok(new),
+        answer => Err(answer),
     }
-    format!("answer={answer}\n")
 }
 
 /// What a line other than format does and prints.
 fn step(calls: &dyn Calls, volume: &mut Volume, line: Line) -> String {
-    let call = match line {
-        Line::Launch(pages) => Call::Launch(pages),
-        Line::Write { page, slot, fill } => {
-            let bytes = vec![fill; volume.sizes.width as usize];
-            let reply = volume.call(calls, &Call::Write { page, slot, bytes });
-            return format!("answer={} done={}\n", reply.answer, reply.second);
+    match (&line, line.call(volume.sizes.width)) {
+        (Line::Write { .. }, Some(call)) => {
+            let reply = volume.call(calls, &call);
+            format!("answer={} done={}\n", reply.answer, reply.second)
         }
-        Line::Withdraw(page) => Call::Withdraw(page),
-        Line::Erase(slots) => Call::Erase(slots),
-        Line::Recover => Call::Recover,
-        Line::Cut => {
+        (_, Some(call)) => format!("answer={}\n", volume.call(calls, &call).answer),
+        (Line::Cut, None) => {
             volume.state.fill(NONE);
-            return String::from("answer=0\n");
+            String::from("answer=0\n")
         }
-        Line::List => return listing(calls, volume).unwrap_or_else(|answer| format!("answer={answer}\n")),
-        Line::Format(_) => unreachable!("format makes the volume"),
-    };
-    format!("answer={}\n", volume.call(calls, &call).answer)
+        (_, None) => listing(calls, volume).unwrap_or_else(|answer| format!("answer={answer}\n")),
+    }
 }
 
 /// One line for each page, or the number of the first read that is refused.

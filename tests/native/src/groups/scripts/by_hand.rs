@@ -10,7 +10,7 @@ const SAMPLE: (&str, &str) = (
 );
 
 /// Lines that mean nothing after an accepted format; each prints answer=line and ends the run.
-const MALFORMED: [&str; 63] = [
+pub const MALFORMED: [&str; 63] = [
     "",
     " ",
     "op",

@@ -3,7 +3,7 @@
 use super::template::ending;
 use crate::implementations::reference::Reference;
 use crate::inputs;
-use crate::interface::{Family, WIDTHS};
+use crate::interface::{Calls, Family, WIDTHS};
 use crate::random::Random;
 use crate::volume::{Call, Sizes, Volume};
 
@@ -14,7 +14,7 @@ pub fn script(random: &mut Random, width: u32, lines: u32) -> Vec<u8> {
     let most_pages = if random.one_in(20) { 256 } else { 6 };
     for _ in 0..lines {
         let line = match &mut volume {
-            Some(v) if !random.one_in(40) => next_line(random, v),
+            Some(v) if !random.one_in(40) => next_line(random, &Reference, v),
             _ => {
                 let pages = 1 + random.below(most_pages);
                 let slots = pages.saturating_add(random.below(12)).saturating_sub(random.below(6) / 5);
@@ -42,7 +42,7 @@ pub fn repeated(width: u32, lines: usize) -> Vec<u8> {
 }
 
 /// Chooses a line for the volume as it is, and does it there.
-fn next_line(random: &mut Random, v: &mut Volume) -> String {
+pub fn next_line(random: &mut Random, calls: &dyn Calls, v: &mut Volume) -> String {
     let joined = |list: &[u32]| list.iter().map(u32::to_string).collect::<Vec<_>>().join(",");
     let lost = v.state[0] == u32::MAX;
     let call = match random.below(if lost { 16 } else { 24 }) {
@@ -61,7 +61,7 @@ fn next_line(random: &mut Random, v: &mut Volume) -> String {
             Call::Write { page, slot, bytes: vec![random.number() as u8; v.sizes.width as usize] }
         }
     };
-    v.call(&Reference, &call);
+    v.call(calls, &call);
     match call {
         Call::Launch(list) => format!("op=launch pages={}", joined(&list)),
         Call::Write { page, slot, bytes } => format!("op=write page={page} slot={slot} fill={}", bytes[0]),
@@ -82,7 +82,7 @@ fn shortened(mut list: Vec<u32>) -> Vec<u32> {
 }
 
 /// Alters, inserts, removes or repeats one byte in the second half.
-fn spoil(random: &mut Random, bytes: &mut Vec<u8>) {
+pub fn spoil(random: &mut Random, bytes: &mut Vec<u8>) {
     let at = bytes.len() / 2 + random.below(bytes.len() as u32 / 2) as usize;
     let byte = if random.one_in(2) { random.number() as u8 } else { random.pick(b" ,=0123456789\n\r\t\0opz") };
     match random.below(4) {

@@ -1,16 +1,21 @@
 //! What a program prints on a script.
 
 use std::io::Write;
-use std::process::{Command, Stdio};
+use std::process::{Command, Output, Stdio};
 
 /// What a program prints on an input that it is given whole.
-pub fn printed_by(program: &str, input: &[u8]) -> Vec<u8> {
+pub fn printed_by(program: &mut Command, input: &[u8]) -> Vec<u8> {
     printed_in_pieces(program, input, input.len().max(1))
 }
 
 /// What a program prints on an input that reaches it in pieces of so many bytes.
-pub fn printed_in_pieces(program: &str, input: &[u8], piece: usize) -> Vec<u8> {
-    let mut child = Command::new(program).stdin(Stdio::piped()).stdout(Stdio::piped()).spawn().unwrap_or_else(|e| panic!("{program}: {e}"));
+pub fn printed_in_pieces(program: &mut Command, input: &[u8], piece: usize) -> Vec<u8> {
+    output_in_pieces(program, input, piece).stdout
+}
+
+/// How a program that is not ended by a signal ends on such an input.
+pub fn output_in_pieces(program: &mut Command, input: &[u8], piece: usize) -> Output {
+    let mut child = program.stdin(Stdio::piped()).stdout(Stdio::piped()).spawn().unwrap_or_else(|e| panic!("{program:?}: {e}"));
     let mut stdin = child.stdin.take().unwrap();
     let output = std::thread::scope(|scope| {
         scope.spawn(move || {
@@ -26,8 +31,8 @@ pub fn printed_in_pieces(program: &str, input: &[u8], piece: usize) -> Vec<u8> {
         });
         child.wait_with_output().expect("the program runs")
     });
-    assert!(output.status.code().is_some(), "{program} was ended by a signal");
-    output.stdout
+    assert!(output.status.code().is_some(), "{program:?} was ended by a signal");
+    output
 }
 
 /// Asserts equal outputs and shows the first line that differs.
