@@ -14,8 +14,8 @@ use Rattle.record.specs.Flash.{Step, applyAllIn}
 use Rattle.rules.specs.Volume.{Volume}
 use Rattle.rules.specs.Write.{planOf, writeAnswer, writeStep, writeChange, writeOutcome}
 use Rattle.rules.specs.Erase.{eraseSteps, eraseAnswer, eraseOutcome}
-use Rattle.rules.specs.Sweep.{sweepSteps, sweepAnswer, sweepOutcome}
-use Rattle.rules.specs.Clean.{cleanCopies, cleanBlanks, cleanSteps, cleanStages, cleanAnswer, cleanOutcome}
+use Rattle.upkeep.specs.Sweep.{sweepSteps, sweepAnswer, sweepOutcome}
+use Rattle.upkeep.specs.Clean.{cleanCopies, cleanBlanks, cleanSteps, cleanStages, cleanAnswer, cleanOutcome}
 use Rattle.rules.specs.Recover.{linksOf, recovered, recoverAnswer, recoverOutcome}
 use Rattle.rules.specs.laws.Accepted.{write-tests}
 use Rattle.protocol.specs.View.{recordView}

@@ -16,8 +16,8 @@ use Rattle.table.specs.Table.{versionIn}
 use Rattle.rules.specs.Volume.{Volume}
 use Rattle.rules.specs.Write.{planOf, writeOutcome}
 use Rattle.rules.specs.Erase.{eraseOutcome}
-use Rattle.rules.specs.Clean.{cleanStages, cleanOutcome}
-use Rattle.rules.specs.Sweep.{sweepStages, sweepOutcome}
+use Rattle.upkeep.specs.Clean.{cleanStages, cleanOutcome}
+use Rattle.upkeep.specs.Sweep.{sweepStages, sweepOutcome}
 use Rattle.rules.specs.Recover.{committedOf, recoverOutcome}
 use Rattle.rules.specs.Simple.{committedSlotOf}
 use Rattle.rules.specs.SimpleCalls.{simplePlanOf, simpleWriteOutcome, simpleEraseOutcome, simpleRecoverOutcome}

@@ -23,24 +23,25 @@ ghost use Rattle.rules.specs.Withdraw.{withdrawOutcome};
 ghost use Rattle.rules.specs.Erase.{eraseOutcome};
 ghost use Rattle.rules.specs.Suggest.{suggestOutcome};
 ghost use Rattle.rules.specs.CheckBlocks.{checkBlocksOutcome};
-ghost use Rattle.rules.specs.Clean.{cleanOutcome};
-ghost use Rattle.rules.specs.Sweep.{sweepOutcome};
-ghost use Rattle.rules.specs.Pick.{pickOutcome};
+ghost use Rattle.upkeep.specs.Clean.{cleanOutcome};
+ghost use Rattle.upkeep.specs.Sweep.{sweepOutcome};
+ghost use Rattle.upkeep.specs.Pick.{pickOutcome};
 ghost use Rattle.rules.specs.Recover.{recoverOutcome};
-ghost use Rattle.rules.specs.Doubtful.{doubtfulOutcome};
+ghost use Rattle.upkeep.specs.Doubtful.{doubtfulOutcome};
 ghost use Rattle.rules.specs.Links.{backPointing, LinksAtMost, OneRingReaches, LinksAreSteps, LinksApart};
 ghost use Rattle.rules.specs.cases.Star.{starTable};
 ghost use Rattle.rules.specs.cases.Found.{foundRows};
 ghost use Rattle.rules.specs.cases.Links.{linkRows};
+ghost use Rattle.rules.specs.cases.Twins.{twinRows};
 ghost use Rattle.rules.specs.cases.Width.{widthRows};
-ghost use Rattle.rules.specs.cases.Clean.{cleanRows};
-ghost use Rattle.rules.specs.cases.Blocks.{blockRows};
-ghost use Rattle.rules.specs.cases.Sweep.{sweepRows};
-ghost use Rattle.rules.specs.cases.Pick.{pickRows};
-ghost use Rattle.rules.specs.Cleaned.{Cleaned, CleanedAgain, CleanAccepted};
-ghost use Rattle.rules.specs.Swept.{SweepErases, SweptBare};
-ghost use Rattle.rules.specs.Picked.{GoingRound, Picked, LargerFindsNoLess};
-ghost use Rattle.rules.specs.Doubted.{Fillings, Doubted, NoneRecovers, EmptyListRecovers};
+ghost use Rattle.upkeep.specs.cases.Clean.{cleanRows, cleanWidthRows};
+ghost use Rattle.upkeep.specs.cases.Blocks.{blockRows};
+ghost use Rattle.upkeep.specs.cases.Sweep.{sweepRows};
+ghost use Rattle.upkeep.specs.cases.Pick.{pickRows};
+ghost use Rattle.upkeep.specs.Cleaned.{Cleaned, CleanedAgain, CleanAccepted};
+ghost use Rattle.upkeep.specs.Swept.{SweepErases, SweptBare};
+ghost use Rattle.upkeep.specs.Picked.{GoingRound, Picked, LargerFindsNoLess};
+ghost use Rattle.upkeep.specs.Doubted.{Fillings, Doubted, NoneRecovers, EmptyListRecovers};
 ghost use Rattle.cases.specs.Doubtful.{doubtfulRows};
 ghost use Rattle.rules.specs.laws.Found.{FoundExactly, JudgedByFound};
 ghost use Rattle.atomicity.specs.Family.{backPointer};
@@ -421,6 +422,7 @@ pub fn cleaning()
     ensures again { λ _. ⌜ CleanedAgain ⌝ }
     ensures room { λ _. ⌜ CleanAccepted ⌝ }
     ensures unseen { λ _. ⌜ CleaningUnseen backPointer ⌝ }
+    ensures twins { λ _. ⌜ RowsHold twinRows ⌝ }
     ensures cleaned { λ _. ⌜ RowsHold cleanRows ⌝ }
     ensures blocks { λ _. ⌜ RowsHold blockRows ⌝ }
 {}
@@ -458,6 +460,7 @@ pub fn doubting()
 pub fn two_widths()
     ensures promise { λ _. ⌜ PromiseAt backPointer twoWidths ⌝ }
     ensures widths { λ _. ⌜ RowsHold widthRows ⌝ }
+    ensures cleans { λ _. ⌜ RowsHold cleanWidthRows ⌝ }
     ensures counts { λ _. ⌜ RowsHold countRows ⌝ }
 {}
 

@@ -11,9 +11,9 @@ use Rattle.sizes.specs.Sizes.{sizesOf}
 use Rattle.record.specs.declared.Record.{Record}
 use Rattle.record.specs.Flash.{Flash, flash}
 use Rattle.table.specs.Given.{given, formattedRecords, tableOf}
-use Rattle.rules.specs.Doubtful.{absentIn, fillings, filledWith, recoveryOf, recovers, versionFilled, recovering, lowestFilled, highestFilled, doubtfulWords, doubtfulListOk, doubtfulFits, doubtfulAnswer, doubtfulOutcome}
 use Rattle.rules.specs.cases.Computing.{computing}
-use Rattle.rules.specs.cases.Clean.{byteWide}
+use Rattle.rules.specs.cases.Twins.{byteWide}
+use Rattle.upkeep.specs.Doubtful.{absentIn, fillings, filledWith, recoveryOf, recovers, versionFilled, recovering, lowestFilled, highestFilled, doubtfulWords, doubtfulListOk, doubtfulFits, doubtfulAnswer, doubtfulOutcome}
 
 -- five slots of 1 byte that hold these records, with the byte 5, but for the third slot, whose byte is given
 unfoldable pub five : (third : ℕ) → List Record → Flash

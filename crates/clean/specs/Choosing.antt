@@ -16,7 +16,7 @@ use Rattle.state.specs.State.{stateAt}
 use Rattle.twins.specs.Twins.{twins}
 use Rattle.rules.specs.Permission.{mayEraseFrom}
 use Rattle.rules.specs.Found.{exposedSlots, mayEraseFromBy}
-use Rattle.rules.specs.Clean.{isCopied}
+use Rattle.upkeep.specs.Clean.{isCopied}
 use Rattle.rules.specs.laws.Found.{judged-from-found}
 use Rattle.judge.specs.Marked.{marked}
 use Rattle.judge.specs.Judgeable.{Judgeable}

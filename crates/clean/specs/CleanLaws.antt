@@ -17,10 +17,11 @@ use Rattle.record.specs.Flash.{Flash, flash, applyAll}
 use Rattle.record.specs.FlashLaws.{apply-append}
 use Rattle.rules.specs.Volume.{Volume, volume}
 use Rattle.rules.specs.Erase.{eraseSteps}
-use Rattle.rules.specs.Clean.{copySteps, cleanFrom, cleanTo, cleanCopies, cleanBlanks, cleanSteps, cleanAnswer, tooFewBlank}
-use Rattle.rules.specs.laws.Chains.{blockJudged, block-judged-passed, volume-spans, cleanOwn, clean-chain}
-use Rattle.rules.specs.laws.Copies.{Ready}
-use Rattle.rules.specs.laws.Clean.{ready}
+use Rattle.upkeep.specs.Clean.{copySteps, cleanFrom, cleanTo, cleanCopies, cleanBlanks, cleanSteps, cleanAnswer, tooFewBlank}
+use Rattle.rules.specs.laws.Chains.{blockJudged, block-judged-passed, volume-spans}
+use Rattle.upkeep.specs.laws.Tests.{cleanOwn, clean-chain}
+use Rattle.upkeep.specs.laws.Copies.{Ready}
+use Rattle.upkeep.specs.laws.Clean.{ready}
 use Rattle.judge.specs.Judgeable.{SoundFlash, sound-flash}
 use Rattle.clean.specs.Copying.{Copying, copying-begins}
 

@@ -13,8 +13,8 @@ use Rattle.record.specs.declared.Slot.{Slot}
 use Rattle.record.specs.Slot.{encoded, slotAt, bytesAt}
 use Rattle.record.specs.Flash.{Flash, flash, Step, putSlotIn, applyIn, apply, applyAllIn, applyAll}
 use Rattle.record.specs.FlashLaws.{SizedIn}
-use Rattle.rules.specs.Clean.{recordIn, copyStep, copySteps}
-use Rattle.rules.specs.laws.Copies.{Ready, first-source, first-below, ready-on}
+use Rattle.upkeep.specs.Clean.{recordIn, copyStep, copySteps}
+use Rattle.upkeep.specs.laws.Copies.{Ready, first-source, first-below, ready-on}
 
 -- one copy, its bytes through a buffer of w
 pub copy-is :

@@ -15,7 +15,7 @@ ghost use Rattle.record.specs.Flash.{flash};
 ghost use Rattle.state.specs.State.{stateAt};
 ghost use Rattle.twins.specs.Twins.{twins};
 ghost use Rattle.rules.specs.Volume.{volume};
-ghost use Rattle.rules.specs.Clean.{isCopied, blankOutside, cleanFrom};
+ghost use Rattle.upkeep.specs.Clean.{isCopied, blankOutside, cleanFrom};
 ghost use Rattle.clean.specs.Choosing.{Chosen};
 ghost use Rattle.clean.specs.CleanLaws.{Cleanable};
 

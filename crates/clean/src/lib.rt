@@ -12,7 +12,7 @@ ghost use Rattle.outcome.specs.Outcome.{returned};
 ghost use Rattle.sizes.specs.Blocks.{named};
 ghost use Rattle.record.specs.Flash.{flash, applyAll};
 ghost use Rattle.rules.specs.Volume.{volume};
-ghost use Rattle.rules.specs.Clean.{tooFewBlank, cleanSteps, cleanOutcome};
+ghost use Rattle.upkeep.specs.Clean.{tooFewBlank, cleanSteps, cleanOutcome};
 ghost use Rattle.clean.specs.CleanLaws.{Cleanable};
 use sizes::Block;
 use sizes::Sizes;

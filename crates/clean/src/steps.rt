@@ -13,7 +13,7 @@ ghost use Rattle.sizes.specs.Blocks.{inBlock};
 ghost use Rattle.sizes.specs.BlocksLaws.{BlockIn};
 ghost use Rattle.record.specs.Flash.{flash, apply, applyAll};
 ghost use Rattle.rules.specs.Erase.{eraseSteps};
-ghost use Rattle.rules.specs.Clean.{recordIn, copyStep, copySteps};
+ghost use Rattle.upkeep.specs.Clean.{recordIn, copyStep, copySteps};
 ghost use Rattle.clean.specs.Copying.{Copying};
 
 // The record in a slot; the words of a blank one.

@@ -18,8 +18,8 @@ use Rattle.bounded.specs.Parts.{joinParts}
 use Rattle.bounded.specs.PartsLaws.{joinParts-cong}
 use Rattle.sizes.specs.declared.Sizes.{Sizes}
 use Rattle.record.specs.Flash.{Flash}
-use Rattle.rules.specs.Doubtful.{absentIn, fillings, filledWith, recoveryOf, recovers, versionFilled, recovering, lowestFilled, highestFilled, doubtfulWords}
-use Rattle.rules.specs.laws.Doubtful.{version-below, low, high, low-is, high-is, low-word, high-word}
+use Rattle.upkeep.specs.Doubtful.{absentIn, fillings, filledWith, recoveryOf, recovers, versionFilled, recovering, lowestFilled, highestFilled, doubtfulWords}
+use Rattle.upkeep.specs.laws.Doubtful.{version-below, low, high, low-is, high-is, low-word, high-word}
 use Rattle.doubtful.specs.Versions.{lowestNoted, highestNoted, pageNoted, versionsNoted, fillingNoted}
 
 -- ---- the lowest, and how many pass

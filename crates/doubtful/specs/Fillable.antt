@@ -14,8 +14,8 @@ use Rattle.sizes.specs.declared.Sizes.{Sizes}
 use Rattle.sizes.specs.Sizes.{inRange}
 use Rattle.record.specs.Flash.{Flash, flash}
 use Rattle.record.specs.FlashLaws.{Sized}
-use Rattle.rules.specs.Doubtful.{doubtfulFits, doubtfulListOk}
-use Rattle.rules.specs.laws.Fillings.{FitsFacts, fits-facts}
+use Rattle.upkeep.specs.Doubtful.{doubtfulFits, doubtfulListOk}
+use Rattle.upkeep.specs.laws.Fillings.{FitsFacts, fits-facts}
 
 -- so many words have room for those of a filling and of its state
 module _ (sizes : Sizes) (f : Flash) (out : List ℕ) (facts : FitsFacts sizes f out) where

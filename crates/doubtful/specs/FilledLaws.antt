@@ -9,8 +9,8 @@ use Rattle.bounded.specs.Limits.{noNumber}
 use Rattle.bounded.specs.Parts.{putAt, putPart}
 use Rattle.sizes.specs.declared.Layout.the-variants.{FiveWords}
 use Rattle.record.specs.Slot.{encoded, blankRecord}
-use Rattle.rules.specs.Doubtful.{absentIn}
-use Rattle.rules.specs.laws.Fillings.{there, absent}
+use Rattle.upkeep.specs.Doubtful.{absentIn}
+use Rattle.upkeep.specs.laws.Fillings.{there, absent}
 use Rattle.doubtful.specs.Filled.{blankedWords}
 
 -- ---- one slot blank

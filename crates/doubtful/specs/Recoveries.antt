@@ -20,10 +20,10 @@ use Rattle.twins.specs.Twins.{sameRecord, twins}
 use Rattle.rules.specs.Volume.{volume}
 use Rattle.rules.specs.Erase.{eraseSteps}
 use Rattle.rules.specs.Recover.{recoverOutcome}
-use Rattle.rules.specs.Doubtful.{absentIn, filledWith, recoveryOf, recovers}
+use Rattle.upkeep.specs.Doubtful.{absentIn, filledWith, recoveryOf, recovers}
 use Rattle.rules.specs.laws.Recover.{recover-reads-twins}
-use Rattle.rules.specs.laws.Fillings.{absent-listed}
-use Rattle.rules.specs.laws.Doubtful.{any-sheet-answer, any-sheet-left}
+use Rattle.upkeep.specs.laws.Fillings.{absent-listed}
+use Rattle.upkeep.specs.laws.Doubtful.{any-sheet-answer, any-sheet-left}
 use Rattle.doubtful.specs.Fillable.{Fillable}
 use Rattle.doubtful.specs.Filled.{blankedWords}
 use Rattle.doubtful.specs.Versions.{versionsNoted, fillingNoted}

@@ -18,8 +18,8 @@ use Rattle.sizes.specs.Sizes.{inRange, noRepeats, listOk}
 use Rattle.record.specs.Slot.{slotAt, isBlank}
 use Rattle.record.specs.Flash.{Flash}
 use Rattle.table.specs.Table.{tableSound}
-use Rattle.rules.specs.Doubtful.{maxDoubtful, recovering, doubtfulListOk, doubtfulFits, doubtfulAnswer}
-use Rattle.rules.specs.laws.Fillings.{FitsFacts, fits-facts}
+use Rattle.upkeep.specs.Doubtful.{maxDoubtful, recovering, doubtfulListOk, doubtfulFits, doubtfulAnswer}
+use Rattle.upkeep.specs.laws.Fillings.{FitsFacts, fits-facts}
 use Rattle.doubtful.specs.Fillable.{Fillable, fillable}
 
 -- ---- the list

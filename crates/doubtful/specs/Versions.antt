@@ -8,7 +8,7 @@ use Rattle.bounded.specs.Parts.{joinParts}
 use Rattle.sizes.specs.declared.Sizes.{Sizes}
 use Rattle.record.specs.Flash.{Flash}
 use Rattle.state.specs.State.{stateAt}
-use Rattle.rules.specs.Doubtful.{absentIn, filledWith, recoveryOf, recovers}
+use Rattle.upkeep.specs.Doubtful.{absentIn, filledWith, recoveryOf, recovers}
 
 -- a version noted, the first or one more: the lowest, and the highest
 unfoldable pub lowestNoted : (first : Bool) → (soFar version : ℕ) → ℕ

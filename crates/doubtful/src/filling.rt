@@ -7,7 +7,7 @@ ghost use lib.ListN.{length, getD};
 ghost use Rattle.bounded.specs.Parts.{putPart};
 ghost use Rattle.sizes.specs.declared.Layout.the-variants.{FiveWords};
 ghost use Rattle.record.specs.Slot.{encoded, blankRecord};
-ghost use Rattle.rules.specs.Doubtful.{absentIn, fillings};
+ghost use Rattle.upkeep.specs.Doubtful.{absentIn, fillings};
 ghost use Rattle.doubtful.specs.Filled.{blankedWords};
 
 // How many fillings there are.

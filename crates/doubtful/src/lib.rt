@@ -11,7 +11,7 @@ ghost use lib.ListN.{length};
 ghost use Rattle.bounded.specs.Limits.{twoWidths};
 ghost use Rattle.outcome.specs.Outcome.{returned};
 ghost use Rattle.record.specs.Flash.{flash};
-ghost use Rattle.rules.specs.Doubtful.{recovers, recovering, doubtfulWords, doubtfulOutcome};
+ghost use Rattle.upkeep.specs.Doubtful.{recovers, recovering, doubtfulWords, doubtfulOutcome};
 ghost use Rattle.doubtful.specs.Fillable.{Fillable};
 ghost use Rattle.doubtful.specs.Versions.{fillingNoted};
 use sizes::Sizes;

@@ -7,7 +7,7 @@ ghost use Prim.Native.Nat.{_*_, _≤_};
 ghost use lib.ListN.{length};
 ghost use Rattle.bounded.specs.Limits.{twoWidths};
 ghost use Rattle.record.specs.Flash.{flash};
-ghost use Rattle.rules.specs.Doubtful.{doubtfulFits, doubtfulListOk};
+ghost use Rattle.upkeep.specs.Doubtful.{doubtfulFits, doubtfulListOk};
 ghost use Rattle.doubtful.specs.Tested.{doubtfulTested};
 
 // "more than 8 doubtful slots"

@@ -23,10 +23,11 @@ use Rattle.table.specs.Table.{tableSound}
 use Rattle.twins.specs.TwinsLaws.{bytes-agree}
 use Rattle.rules.specs.Volume.{Volume, volumeFits}
 use Rattle.rules.specs.laws.Volume.{FitsIn}
-use Rattle.rules.specs.laws.Accepted.{launch-tests, withdraw-tests, write-tests, clean-tests}
+use Rattle.rules.specs.laws.Accepted.{launch-tests, withdraw-tests, write-tests}
+use Rattle.upkeep.specs.laws.Tests.{clean-tests}
 use Rattle.rules.specs.Format.{formatOutcomeIn}
 use Rattle.rules.specs.Erase.{eraseAnswer, eraseSteps, eraseOutcome}
-use Rattle.rules.specs.Sweep.{sweepAnswer}
+use Rattle.upkeep.specs.Sweep.{sweepAnswer}
 use Rattle.atomicity.specs.Family.{Family, backPointer}
 use Rattle.atomicity.specs.Call.{Call, withState, perform, plannedStages, flashStages}
 use Rattle.atomicity.specs.Run.{Event, World, isRecover, stillLost, happens, started, keepsTo}

@@ -14,9 +14,10 @@ use Rattle.sizes.specs.declared.Sizes.{Sizes}
 use Rattle.sizes.specs.Blocks.{NamedBlock, startsOk, blockOk}
 use Rattle.chain.specs.Chain.{Linkable}
 use Rattle.rules.specs.Volume.{Volume, volume}
-use Rattle.rules.specs.Pick.{lookedAt, frees, mostFreed, pickedBlock, unseenLead, pickedWords, pickAnswer}
-use Rattle.rules.specs.laws.Chains.{blockJudged, block-judged-passed, volume-spans, pickOwn, pick-chain}
-use Rattle.rules.specs.laws.Pick.{unseen-by-place, pick-passes}
+use Rattle.upkeep.specs.Pick.{lookedAt, frees, mostFreed, pickedBlock, unseenLead, pickedWords, pickAnswer}
+use Rattle.rules.specs.laws.Chains.{blockJudged, block-judged-passed, volume-spans}
+use Rattle.upkeep.specs.laws.Tests.{pickOwn, pick-chain}
+use Rattle.upkeep.specs.laws.Pick.{unseen-by-place, pick-passes}
 use Rattle.judge.specs.Judgeable.{sound-flash}
 use Rattle.pick.specs.declared.Freed.{Freed}
 use Rattle.pick.specs.Picking.{bestBy, unseenBy}

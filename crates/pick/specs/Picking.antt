@@ -15,7 +15,7 @@ use Rattle.state.specs.State.{stateAt}
 use Rattle.twins.specs.Twins.{twins}
 use Rattle.rules.specs.Volume.{Volume}
 use Rattle.rules.specs.Found.{mayEraseFromBy}
-use Rattle.rules.specs.Pick.{seenAt, blockSize}
+use Rattle.upkeep.specs.Pick.{seenAt, blockSize}
 use Rattle.pick.specs.declared.Freed.{Freed}
 
 -- slot k may be erased, "a list of one", by what was found

@@ -24,9 +24,9 @@ use Rattle.rules.specs.Volume.{Volume}
 use Rattle.rules.specs.Permission.{mayEraseAlone}
 use Rattle.rules.specs.Found.{exposedSlots}
 use Rattle.rules.specs.Suggest.{suggestible}
-use Rattle.rules.specs.Pick.{seenAt, blockSize, frees}
+use Rattle.upkeep.specs.Pick.{seenAt, blockSize, frees}
 use Rattle.rules.specs.laws.Found.{judged-from-found}
-use Rattle.rules.specs.laws.Pick.{seen-below}
+use Rattle.upkeep.specs.laws.Pick.{seen-below}
 use Rattle.pick.specs.declared.Freed.{Freed}
 use Rattle.pick.specs.Picking.{aloneBy, freesBy, bestBy, unseenBy}
 

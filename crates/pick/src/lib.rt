@@ -9,7 +9,7 @@ ghost use Rattle.bounded.specs.Limits.{twoWidths};
 ghost use Rattle.outcome.specs.Outcome.{returned};
 ghost use Rattle.sizes.specs.Blocks.{named};
 ghost use Rattle.rules.specs.Volume.{volume};
-ghost use Rattle.rules.specs.Pick.{pickOutcome};
+ghost use Rattle.upkeep.specs.Pick.{pickOutcome};
 use sizes::Sizes;
 
 // "in four lent words"

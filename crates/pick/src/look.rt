@@ -12,7 +12,7 @@ ghost use Rattle.sizes.specs.Blocks.{named, startsOk, blockAt};
 ghost use Rattle.sizes.specs.BlocksLaws.{BlockIn};
 ghost use Rattle.chain.specs.Chain.{Linkable};
 ghost use Rattle.rules.specs.Volume.{volume};
-ghost use Rattle.rules.specs.Pick.{frees};
+ghost use Rattle.upkeep.specs.Pick.{frees};
 ghost use Rattle.judge.specs.Judgeable.{Judgeable};
 ghost use Rattle.judge.specs.Marked.{NoMarks};
 ghost use Rattle.pick.specs.Picking.{freesBy, bestBy};

@@ -7,7 +7,7 @@ ghost use Prim.Native.Nat.{ℕ, _-_, _≤_, _<_};
 ghost use lib.ListN.{length};
 ghost use Rattle.bounded.specs.Below.{maxBelow};
 ghost use Rattle.sizes.specs.Blocks.{named, startsOk};
-ghost use Rattle.rules.specs.Pick.{seenAt, lookedAt};
+ghost use Rattle.upkeep.specs.Pick.{seenAt, lookedAt};
 ghost use Rattle.pick.specs.Picking.{unseenBy};
 
 // "Starting from a named block and going round": the block that is seen when i others have been.

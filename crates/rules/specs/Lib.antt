@@ -7,17 +7,9 @@ pub mod Permission
 pub mod Found
 pub mod Erase
 pub mod CheckBlocks
-pub mod Clean
-pub mod Cleaned
-pub mod Sweep
 pub mod Suggest
-pub mod Swept
-pub mod Pick
-pub mod Picked
 pub mod Verdict
 pub mod Recover
-pub mod Doubtful
-pub mod Doubted
 pub mod Links
 pub mod Simple
 pub mod SimpleCalls

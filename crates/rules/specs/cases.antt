@@ -6,10 +6,7 @@ pub mod Write
 pub mod Erase
 pub mod Found
 pub mod Suggest
-pub mod Clean
-pub mod Blocks
-pub mod Sweep
-pub mod Pick
+pub mod Twins
 pub mod Recover
 pub mod Links
 pub mod Star

@@ -19,9 +19,9 @@ use Rattle.state.specs.declared.PageState.{PageState}
 use Rattle.twins.specs.Twins.{twins}
 use Rattle.rules.specs.Permission.{isObsolete, isExposed, isCurrent, mayErase}
 use Rattle.rules.specs.Found.{exposedSlots, mayEraseBy}
-use Rattle.rules.specs.Sweep.{isSpareExposed, isObsoleteAt, isErasableObsolete, isHigherTwin}
+use Rattle.upkeep.specs.Sweep.{isSpareExposed, isObsoleteAt, isErasableObsolete, isHigherTwin}
 use Rattle.rules.specs.laws.Found.{judged-by-found}
-use Rattle.rules.specs.laws.Sweep.{erasable-obsolete}
+use Rattle.upkeep.specs.laws.Sweep.{erasable-obsolete}
 use Rattle.permit.specs.SearchLaws.{holds-none, holds-record}
 use Rattle.judge.specs.JudgeLaws.{blank-no-twin}
 

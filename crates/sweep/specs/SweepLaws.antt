@@ -19,9 +19,9 @@ use Rattle.table.specs.Table.{tableSound}
 use Rattle.twins.specs.Twins.{twins}
 use Rattle.rules.specs.Volume.{Volume, volume, volumeFits}
 use Rattle.rules.specs.Erase.{eraseSteps}
-use Rattle.rules.specs.Sweep.{isSpareExposed, isErasableObsolete, isHigherTwin, sweptExposed, withoutExposed, sweptObsolete, withoutObsolete, sweptTwins, sweepAnswer}
+use Rattle.upkeep.specs.Sweep.{isSpareExposed, isErasableObsolete, isHigherTwin, sweptExposed, withoutExposed, sweptObsolete, withoutObsolete, sweptTwins, sweepAnswer}
 use Rattle.rules.specs.laws.Chains.{judgedIn, judged}
-use Rattle.rules.specs.laws.Sweep.{without-sized, without-sound}
+use Rattle.upkeep.specs.laws.Sweep.{without-sized, without-sound}
 use Rattle.judge.specs.Judgeable.{SoundFlash}
 use Rattle.collect.specs.EraseLaws.{ListedIn, listed-in}
 

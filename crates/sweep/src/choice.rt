@@ -16,7 +16,7 @@ ghost use Rattle.twins.specs.Twins.{twins};
 ghost use Rattle.chain.specs.Chain.{Linkable};
 ghost use Rattle.rules.specs.Permission.{mayErase};
 ghost use Rattle.rules.specs.Found.{mayEraseBy};
-ghost use Rattle.rules.specs.Sweep.{isSpareExposed, isObsoleteAt, isHigherTwin};
+ghost use Rattle.upkeep.specs.Sweep.{isSpareExposed, isObsoleteAt, isHigherTwin};
 ghost use Rattle.permit.specs.Prepared.{Within, Searchable};
 ghost use Rattle.judge.specs.Judgeable.{Comparable};
 

@@ -16,7 +16,7 @@ ghost use Rattle.state.specs.State.{stateAt};
 ghost use Rattle.twins.specs.Twins.{twins};
 ghost use Rattle.rules.specs.Volume.{volume};
 ghost use Rattle.rules.specs.Erase.{eraseSteps};
-ghost use Rattle.rules.specs.Sweep.{isSpareExposed, isErasableObsolete, isHigherTwin, withoutObsolete, sweptTwins, sweepOutcome};
+ghost use Rattle.upkeep.specs.Sweep.{isSpareExposed, isErasableObsolete, isHigherTwin, withoutObsolete, sweptTwins, sweepOutcome};
 ghost use Rattle.judge.specs.Judgeable.{SoundFlash};
 ghost use Rattle.collect.specs.EraseLaws.{ListedIn};
 use sizes::Layout;

@@ -30,16 +30,17 @@ use Rattle.twins.specs.Twins.{twins}
 use Rattle.twins.specs.TwinsLaws.{twins-exactly}
 use Rattle.rules.specs.Volume.{Volume}
 use Rattle.rules.specs.Erase.{eraseSteps, eraseAnswer}
-use Rattle.rules.specs.Sweep.{sweptExposed, withoutExposed, sweptObsolete, withoutObsolete, sweptTwins, sweepStages, sweepAnswer}
-use Rattle.rules.specs.Swept.{NoneOrErasable}
-use Rattle.rules.specs.Clean.{copySteps, cleanCopies, cleanBlanks, cleanStages, cleanAnswer}
+use Rattle.upkeep.specs.Sweep.{sweptExposed, withoutExposed, sweptObsolete, withoutObsolete, sweptTwins, sweepStages, sweepAnswer}
+use Rattle.upkeep.specs.Swept.{NoneOrErasable}
+use Rattle.upkeep.specs.Clean.{copySteps, cleanCopies, cleanBlanks, cleanStages, cleanAnswer}
 use Rattle.rules.specs.laws.Volume.{Fits, bytes-whole}
 use Rattle.rules.specs.laws.Permission.{may-erase-from, may-erase-all}
-use Rattle.rules.specs.laws.Accepted.{erase-tests, CleanTests, clean-tests}
-use Rattle.rules.specs.laws.Copies.{Source, Ready, copied, copy-sized, copy-there, copy-elsewhere, first, first-source, first-below, ready-on}
-use Rattle.rules.specs.laws.Clean as clean
-use Rattle.rules.specs.laws.Sweep as sweep
-use Rattle.rules.specs.laws.Sweep.{sweep-erases}
+use Rattle.rules.specs.laws.Accepted.{erase-tests}
+use Rattle.upkeep.specs.laws.Tests.{CleanTests, clean-tests}
+use Rattle.upkeep.specs.laws.Copies.{Source, Ready, copied, copy-sized, copy-there, copy-elsewhere, first, first-source, first-below, ready-on}
+use Rattle.upkeep.specs.laws.Clean as clean
+use Rattle.upkeep.specs.laws.Sweep as sweep
+use Rattle.upkeep.specs.laws.Sweep.{sweep-erases}
 use Rattle.protocol.specs.View.{finds-in-slots}
 use Rattle.protocol.specs.Permitted.{Permitted, permitted-same, may-erase-permitted}
 use Rattle.atomicity.specs.Run.{doneOf}

@@ -29,7 +29,7 @@ use Rattle.twins.specs.TwinsLaws.{twins-exactly}
 use Rattle.rules.specs.Permission.{twinOutside, mayErase, mayEraseFrom, mayEraseAlone}
 use Rattle.rules.specs.laws.Volume.{bytes-whole}
 use Rattle.rules.specs.laws.Permission.{Exposed, obsolete-exactly, may-erase-exactly, may-erase-from}
-use Rattle.rules.specs.laws.Sweep.{obsolete-needed}
+use Rattle.upkeep.specs.laws.Sweep.{obsolete-needed}
 use Rattle.protocol.specs.View.{recordView, planned-record-page, planned-record-version, planned-record-next, planned-record-next-version}
 use Rattle.protocol.specs.Shared.{SharedCore, SharedLive, plan, commOf}
 use Rattle.atomicity.specs.Companions.{recordsIn, writtenPages}

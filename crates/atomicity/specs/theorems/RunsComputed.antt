@@ -1,6 +1,6 @@
 -- The runs, computed.
 use mathlib.Core.Path.{refl}
-use Rattle.rules.specs.cases.Computing.{computing as rules-computing}
+use Rattle.upkeep.specs.cases.Computing.{computing as upkeep-computing}
 use Rattle.atomicity.specs.Call.{withState, withFlash, perform, plannedStages, flashStages}
 use Rattle.atomicity.specs.Run.{doneOf, cutShort, wasDone, isRecover, stillLost, happens, started, after, keepsTo, keepsPremises}
 use Rattle.atomicity.specs.Model.{freshModel, entryPage, hasBytes, inRing, allEntered, newRing, enterIn, keep, withRing, settleRing, enter, closeRing, closeAll, accept, learns}
@@ -9,7 +9,7 @@ use Rattle.atomicity.specs.Runs.{oneByte, blankBuffers, fourBuffers, los
 
 -- A name for "these definitions compute": a declaration that unfolds it unfolds them all.
 unfoldable pub computing : Unit {0}
-unfolding rules-computing withState withFlash perform plannedStages flashStages doneOf cutShort wasDone isRecover stillLost happens started after keepsTo keepsPremises freshModel entryPage hasBytes inRing allEntered newRing enterIn keep withRing settleRing enter closeRing closeAll accept learns toldOfCrash told modelAfter
+unfolding upkeep-computing withState withFlash perform plannedStages flashStages doneOf cutShort wasDone isRecover stillLost happens started after keepsTo keepsPremises freshModel entryPage hasBytes inRing allEntered newRing enterIn keep withRing settleRing enter closeRing closeAll accept learns toldOfCrash told modelAfter
 computing = tt
 
 pub runs-computed : RunsComputed

@@ -15,10 +15,10 @@ use Rattle.state.specs.StateLaws.{facts-state-sound}
 use Rattle.table.specs.Table.{tableSound}
 use Rattle.rules.specs.Volume.{Volume}
 use Rattle.rules.specs.Suggest.{suggestible}
-use Rattle.rules.specs.Sweep.{sweepStages, sweepAnswer, sweepOutcome}
+use Rattle.upkeep.specs.Sweep.{sweepStages, sweepAnswer, sweepOutcome}
 use Rattle.rules.specs.laws.Volume.{fits-test}
-use Rattle.rules.specs.laws.Clean.{sound-slots}
-use Rattle.rules.specs.laws.Sweep.{none-left}
+use Rattle.upkeep.specs.laws.Clean.{sound-slots}
+use Rattle.upkeep.specs.laws.Sweep.{none-left}
 use Rattle.protocol.specs.Shared.{commOf}
 use Rattle.atomicity.specs.Family.{backPointer}
 use Rattle.atomicity.specs.Call.{Call, withFlash, perform, plannedStages}

@@ -1,6 +1,6 @@
 -- `bpcc::doubting` meets its contract: the theorems are cited. Assumes nothing.
-use Rattle.rules.specs.laws.Fillings.{all-fillings}
-use Rattle.rules.specs.laws.Doubtful.{doubted, none-recovers, empty-list-recovers}
+use Rattle.upkeep.specs.laws.Fillings.{all-fillings}
+use Rattle.upkeep.specs.laws.Doubtful.{doubted, none-recovers, empty-list-recovers}
 use Rattle.cases.specs.Doubtful.{doubtful-rows}
 use Rattle.bpcc.proofs.doubting.Statement.{statement}
 use Rattle.bpcc.proofs.doubting.Tie as tie

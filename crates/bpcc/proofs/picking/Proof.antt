@@ -1,6 +1,6 @@
 -- `bpcc::picking` meets its contract: the theorems are cited. Assumes nothing.
-use Rattle.rules.specs.laws.Pick.{going-round, picked, larger-finds-no-less}
-use Rattle.rules.specs.cases.Pick.{pick-rows}
+use Rattle.upkeep.specs.laws.Pick.{going-round, picked, larger-finds-no-less}
+use Rattle.upkeep.specs.cases.Pick.{pick-rows}
 use Rattle.bpcc.proofs.picking.Statement.{statement}
 use Rattle.bpcc.proofs.picking.Tie as tie
 

@@ -1,6 +1,6 @@
 -- `bpcc::sweeping` meets its contract: the theorems are cited. Assumes nothing.
-use Rattle.rules.specs.laws.Sweep.{sweep-erases, swept-bare}
-use Rattle.rules.specs.cases.Sweep.{sweep-rows}
+use Rattle.upkeep.specs.laws.Sweep.{sweep-erases, swept-bare}
+use Rattle.upkeep.specs.cases.Sweep.{sweep-rows}
 use Rattle.atomicity.specs.theorems.Sweeping.{sweeping as sweeps}
 use Rattle.bpcc.proofs.sweeping.Statement.{statement}
 use Rattle.bpcc.proofs.sweeping.Tie as tie

@@ -9,7 +9,7 @@ use Rattle.outcome.specs.Reply.{reply-refused, reply-done}
 use Rattle.sizes.specs.declared.Block.{Block}
 use Rattle.record.specs.Flash.{flash, applyAll}
 use Rattle.rules.specs.Volume.{volume}
-use Rattle.rules.specs.Clean.{cleanSteps, cleanOutcome}
+use Rattle.upkeep.specs.Clean.{cleanSteps, cleanOutcome}
 use Rattle.clean.specs.CleanLaws.{judged-refuses, named-below, too-few, enough, cleanable}
 use Rattle.clean.proofs.clean.Statement.{statement}
 use Rattle.clean.proofs.clean.Tie as tie

@@ -6,7 +6,7 @@ use mathlib.Core.Path.{_≡_, refl, sym, ap, _∙_}
 use lib.ListN.{length}
 use Rattle.bounded.specs.Noted.{noted-length}
 use Rattle.rules.specs.Volume.{volume}
-use Rattle.rules.specs.Clean.{cleanFrom, cleanTo, tooFewBlank}
+use Rattle.upkeep.specs.Clean.{cleanFrom, cleanTo, tooFewBlank}
 use Rattle.clean.specs.CleanLaws.{copies-begin, steps-done}
 use Rattle.clean.proofs.clean_block.Statement.{statement}
 use Rattle.clean.proofs.clean_block.Tie as tie

@@ -8,7 +8,7 @@ use lib.ListN.{replicate}
 use lib.Seq.{length-take-le}
 use Rattle.outcome.specs.Outcome.{returned}
 use Rattle.outcome.specs.Reply.{reply-second, reply-refused, reply-done}
-use Rattle.rules.specs.Doubtful.{doubtfulOutcome}
+use Rattle.upkeep.specs.Doubtful.{doubtfulOutcome}
 use Rattle.doubtful.specs.Fillable.{words-most, state-most}
 use Rattle.doubtful.specs.Tested.{test-refuses, none-recovers, some-recovers, tested-right}
 use Rattle.doubtful.proofs.doubtful.Statement.{statement}

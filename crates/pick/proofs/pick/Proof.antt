@@ -10,8 +10,8 @@ use Rattle.outcome.specs.Reply.{reply-refused, reply-done}
 use Rattle.sizes.specs.Blocks.{named}
 use Rattle.sizes.specs.BlocksLaws.{starts-facts}
 use Rattle.rules.specs.Volume.{volume}
-use Rattle.rules.specs.Pick.{pickOutcome}
-use Rattle.rules.specs.laws.Chains.{pick-length}
+use Rattle.upkeep.specs.Pick.{pickOutcome}
+use Rattle.upkeep.specs.laws.Tests.{pick-length}
 use Rattle.pick.specs.PickLaws.{judged-refuses, none-refused, all-passed, pickable, looked-most, words-picked}
 use Rattle.pick.proofs.pick.Statement.{statement}
 use Rattle.pick.proofs.pick.Tie as tie

@@ -17,9 +17,6 @@ use Rattle.rules.specs.Write.{planOf, writeAnswer, writeStep, writeDone,
 use Rattle.rules.specs.Erase.{eraseAnswer, eraseSteps, eraseOutcome}
 use Rattle.rules.specs.Permission.{isObsolete, isExposed, outdoneBy, supports, isNeeded, isCurrent, mayEraseRecord, mayErase, twinOutside, mayEraseFrom, mayEraseAll, mayEraseAlone}
 use Rattle.rules.specs.CheckBlocks.{checkBlocksAnswer, checkBlocksOutcome}
-use Rattle.rules.specs.Clean.{isCopied, copiedSlots, blankOutside, recordIn, copyStep, copySteps, cleanFrom, cleanTo, tooFewBlank, cleanCopies, cleanBlanks, cleanSteps, cleanStages, cleanAnswer, cleanOutcome}
-use Rattle.rules.specs.Sweep.{isSpareExposed, isObsoleteAt, isErasableObsolete, isHigherTwin, sweptExposed, withoutExposed, sweptObsolete, withoutObsolete, sweptTwins, sweepStages, sweepSteps, sweepAnswer, sweepOutcome}
-use Rattle.rules.specs.Pick.{seenAt, lookedAt, isSeen, blockSize, frees, mostFreed, pickedBlock, largestUnseen, unseenLead, pickedWords, pickAnswer, pickOutcome}
 use Rattle.rules.specs.Suggest.{suggestible, suggestAnswer, suggestedSlot, suggestOutcome}
 use Rattle.rules.specs.Recover.{walkOf, linksOf, backPointer, committedBy, committedOf, recovered, recoverAnswer, recoverOutcome}
 use Rattle.rules.specs.Verdict.{isStraddled, linkVerdict, slotVerdict, verdict}
@@ -27,5 +24,5 @@ use Rattle.rules.specs.Simple.{simpleLinkVerdict, simpleSlotVerdict, sim
 use Rattle.rules.specs.SimpleCalls.{simplePlanOf, simpleWriteAnswer, simpleWriteChange, simpleWriteOutcome, simpleEraseAnswer, simpleEraseOutcome, simpleRecoverAnswer, simpleLinksOf, simpleRecoverOutcome}
 
 unfoldable pub computing : Unit {0}
-unfolding twins-computing flatten listBelow state-computing outcome-computing formattedWords formattedContents formattedIn formatAnswerIn formatOutcomeIn readSlotIn readAnswerIn readOutcomeIn twoWidths sizesOk wordsFitIn contentsFit stateFits volumeFitsIn noRepeats inRange listOk listed risesStrictly startsOk blockOk blockAt inBlock checkBlocksAnswer checkBlocksOutcome somePage usedUp launchAnswer launchOutcome withdrawAnswer withdrawOutcome planOf writeAnswer writeStep writeDone writeChange writeOutcome eraseAnswer eraseSteps eraseOutcome isObsolete isExposed outdoneBy supports isNeeded isCurrent mayEraseRecord mayErase twinOutside mayEraseFrom mayEraseAll mayEraseAlone isCopied copiedSlots blankOutside recordIn copyStep copySteps cleanFrom cleanTo tooFewBlank cleanCopies cleanBlanks cleanSteps cleanStages cleanAnswer cleanOutcome isSpareExposed isObsoleteAt isErasableObsolete isHigherTwin sweptExposed withoutExposed sweptObsolete withoutObsolete sweptTwins sweepStages sweepSteps sweepAnswer sweepOutcome suggestible suggestAnswer suggestedSlot suggestOutcome seenAt lookedAt isSeen blockSize frees mostFreed pickedBlock largestUnseen unseenLead pickedWords pickAnswer pickOutcome endsHere oneMore link followFrom follow linksFollowed walkOf linksOf isAstray backPointer committedBy committedOf recovered recoverAnswer recoverOutcome isStraddled linkVerdict slotVerdict verdict simpleLinkVerdict simpleSlotVerdict simpleVerdict simpleWalkOf under second simpleCommittedSlot committedSlotOf hasCommitted simpleRecovered simpleMayEraseRecord simpleMayErase simpleMayEraseAll buriedBy wouldBury simplePlanOf simpleWriteAnswer simpleWriteChange simpleWriteOutcome simpleEraseAnswer simpleEraseOutcome simpleRecoverAnswer simpleLinksOf simpleRecoverOutcome
+unfolding twins-computing flatten listBelow state-computing outcome-computing formattedWords formattedContents formattedIn formatAnswerIn formatOutcomeIn readSlotIn readAnswerIn readOutcomeIn twoWidths sizesOk wordsFitIn contentsFit stateFits volumeFitsIn noRepeats inRange listOk listed risesStrictly startsOk blockOk blockAt inBlock checkBlocksAnswer checkBlocksOutcome somePage usedUp launchAnswer launchOutcome withdrawAnswer withdrawOutcome planOf writeAnswer writeStep writeDone writeChange writeOutcome eraseAnswer eraseSteps eraseOutcome isObsolete isExposed outdoneBy supports isNeeded isCurrent mayEraseRecord mayErase twinOutside mayEraseFrom mayEraseAll mayEraseAlone suggestible suggestAnswer suggestedSlot suggestOutcome endsHere oneMore link followFrom follow linksFollowed walkOf linksOf isAstray backPointer committedBy committedOf recovered recoverAnswer recoverOutcome isStraddled linkVerdict slotVerdict verdict simpleLinkVerdict simpleSlotVerdict simpleVerdict simpleWalkOf under second simpleCommittedSlot committedSlotOf hasCommitted simpleRecovered simpleMayEraseRecord simpleMayErase simpleMayEraseAll buriedBy wouldBury simplePlanOf simpleWriteAnswer simpleWriteChange simpleWriteOutcome simpleEraseAnswer simpleEraseOutcome simpleRecoverAnswer simpleLinksOf simpleRecoverOutcome
 computing = tt

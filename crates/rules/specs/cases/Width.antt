@@ -9,7 +9,6 @@ use Rattle.bounded.specs.Parts.{joinParts}
 use Rattle.outcome.specs.Outcome.{Outcome}
 use Rattle.outcome.specs.Row.{Row, row, RowsHold}
 use Rattle.sizes.specs.Sizes.{sizesOf}
-use Rattle.sizes.specs.Blocks.{named}
 use Rattle.rules.specs.Volume.{Volume}
 use Rattle.rules.specs.Format.{formatted, formatOutcome}
 use Rattle.rules.specs.Launch.{launchOutcome}
@@ -17,7 +16,6 @@ use Rattle.rules.specs.Write.{writeOutcome}
 use Rattle.rules.specs.Withdraw.{withdrawOutcome}
 use Rattle.rules.specs.Erase.{eraseOutcome}
 use Rattle.rules.specs.CheckBlocks.{checkBlocksOutcome}
-use Rattle.rules.specs.Clean.{cleanOutcome}
 use Rattle.rules.specs.Suggest.{suggestOutcome}
 use Rattle.rules.specs.Recover.{recoverOutcome}
 use Rattle.rules.specs.Read.{readOutcome}
@@ -41,7 +39,7 @@ written1 w =
     writeOutcome twoWidths z (record { flash = fresh1 w .flash; state = launchOutcome twoWidths z (fresh1 w .state) (0 ∷ []) .left }) 0 1 (bytesOf w)
 
 -- The answers of every other call at width `called`, on that volume with w bytes a slot and slices of as many: launch, write, withdraw, erase of slot 0,
--- suggest, recover, read and clean of a block of all slots, whose one record that must stay has no blank slot outside; and check_blocks of that table.
+-- suggest, recover and read; and check_blocks of a table with one block.
 unfoldable pub answersAt : (called w : ℕ) → List ℕ
 answersAt called w =
     let z = sizesOf 1 2 called in
@@ -53,7 +51,6 @@ answersAt called w =
     ∷ suggestOutcome twoWidths z v .answer
     ∷ recoverOutcome twoWidths z v .answer
     ∷ readOutcome twoWidths z v 0 (replicate w 7) .answer
-    ∷ cleanOutcome twoWidths z v (named (0 ∷ []) 0) .answer
     ∷ checkBlocksOutcome twoWidths z (0 ∷ []) .answer
     ∷ []
 
@@ -87,7 +84,7 @@ contentsStated w =
     ∷ []
 
 -- Format takes 32 and 64 alone, and contents of that many bytes a slot; of either width it takes 1,024 slots. On a volume of either width every call is
--- accepted, or refused for another reason than 1 (9: nothing is in flight; 15: no blank slot outside); at another width than 32 or 64 every call answers 1, and at the other of the
+-- accepted, or refused for another reason than 1 (9: nothing is in flight); at another width than 32 or 64 every call answers 1, and at the other of the
 -- two those that take contents. Slices of another length than the width are 1.
 unfoldable pub widthRows : List Row
 widthRows =
@@ -97,13 +94,13 @@ widthRows =
     ∷ row 10 (map (formatAt 32) (63 ∷ 64 ∷ 65 ∷ 128 ∷ [])) (1 ∷ 0 ∷ 1 ∷ 1 ∷ [])
     ∷ row 10 (map (formatAt 64) (64 ∷ 127 ∷ 128 ∷ 129 ∷ [])) (1 ∷ 1 ∷ 0 ∷ 1 ∷ [])
     ∷ row 10 (formatAt noNumber 64 ∷ formatAt noNumber 128 ∷ []) (1 ∷ 1 ∷ [])
-    ∷ row 10 (answersAt 32 32) (0 ∷ 9 ∷ 9 ∷ 0 ∷ 0 ∷ 0 ∷ 0 ∷ 15 ∷ 0 ∷ [])
-    ∷ row 10 (answersAt 64 64) (0 ∷ 9 ∷ 9 ∷ 0 ∷ 0 ∷ 0 ∷ 0 ∷ 15 ∷ 0 ∷ [])
-    ∷ row 10 (answersAt 32 64) (0 ∷ 1 ∷ 9 ∷ 1 ∷ 1 ∷ 1 ∷ 1 ∷ 1 ∷ 0 ∷ [])
-    ∷ row 10 (answersAt 64 32) (0 ∷ 1 ∷ 9 ∷ 1 ∷ 1 ∷ 1 ∷ 1 ∷ 1 ∷ 0 ∷ [])
-    ∷ row 10 (answersAt 33 32) (replicate 9 1)
-    ∷ row 10 (answersAt 0 64) (replicate 9 1)
-    ∷ row 10 (answersAt noNumber 64) (replicate 9 1)
+    ∷ row 10 (answersAt 32 32) (0 ∷ 9 ∷ 9 ∷ 0 ∷ 0 ∷ 0 ∷ 0 ∷ 0 ∷ [])
+    ∷ row 10 (answersAt 64 64) (0 ∷ 9 ∷ 9 ∷ 0 ∷ 0 ∷ 0 ∷ 0 ∷ 0 ∷ [])
+    ∷ row 10 (answersAt 32 64) (0 ∷ 1 ∷ 9 ∷ 1 ∷ 1 ∷ 1 ∷ 1 ∷ 0 ∷ [])
+    ∷ row 10 (answersAt 64 32) (0 ∷ 1 ∷ 9 ∷ 1 ∷ 1 ∷ 1 ∷ 1 ∷ 0 ∷ [])
+    ∷ row 10 (answersAt 33 32) (replicate 8 1)
+    ∷ row 10 (answersAt 0 64) (replicate 8 1)
+    ∷ row 10 (answersAt noNumber 64) (replicate 8 1)
     ∷ row 10 (sliceAnswers 32 32 ++ (sliceAnswers 32 31 ++ (sliceAnswers 32 33 ++ sliceAnswers 32 64))) (0 ∷ 0 ∷ replicate 6 1)
     ∷ row 10 (sliceAnswers 64 64 ++ (sliceAnswers 64 63 ++ (sliceAnswers 64 65 ++ sliceAnswers 64 32))) (0 ∷ 0 ∷ replicate 6 1)
     ∷ row 10 (flatten (contentsAt 32)) (flatten (contentsStated 32))

@@ -1,20 +1,18 @@
 -- What a call that answers 0 has tested, as facts.
-use Prim.Native.Nat.{ℕ, _*_, _<_, _≤_}
-use mathlib.Core.Path.{_≡_, sym, _∙_}
+use Prim.Native.Nat.{ℕ, _*_, _<_}
+use mathlib.Core.Path.{_≡_}
 use mathlib.Core.List.{List}
 use mathlib.Core.Bool.{true, false, not, _&&_, _||_}
 use lib.Dec.{ltb, eqb}
 use lib.ListN.{length}
-use borrow.Author.Tests.{ltb-true, ltb-false, eqb-true}
+use borrow.Author.Tests.{ltb-true, eqb-true}
 use Rattle.bounded.specs.Limits.{Widths}
 use Rattle.bounded.specs.Choice.{both-left, both-right}
 use Rattle.bounded.specs.Below.{allBelow, someBelow}
 use Rattle.bounded.specs.BelowLaws.{first-found, first-passes, first-none-before}
 use Rattle.outcome.specs.OutcomeLaws.{passed, held}
-use Rattle.outcome.specs.Chain.{both-pass}
 use Rattle.sizes.specs.declared.Sizes.{Sizes}
 use Rattle.sizes.specs.Sizes.{sizesOk, stateFits, listOk}
-use Rattle.sizes.specs.Blocks.{startsOk, NamedBlock, blockOk, blockAt}
 use Rattle.sizes.specs.SizesLaws.{state-fits-exactly}
 use Rattle.record.specs.declared.Slot.{Slot}
 use Rattle.record.specs.Slot.{slotAt, isBlank}
@@ -30,10 +28,8 @@ use Rattle.rules.specs.Withdraw.{withdrawAnswer}
 use Rattle.rules.specs.Permission.{mayEraseAll}
 use Rattle.rules.specs.Erase.{eraseAnswer}
 use Rattle.rules.specs.Suggest.{suggestible, suggestAnswer, suggestedSlot, suggestOutcome}
-use Rattle.rules.specs.Clean.{cleanFrom, cleanTo, tooFewBlank, cleanAnswer}
 use Rattle.rules.specs.Recover.{walkOf, committedOf, recoverAnswer}
 use Rattle.rules.specs.laws.Outcomes.{suggest-done}
-use Rattle.rules.specs.laws.Chains.{blockJudged, block-judged-passed, cleanOwn, clean-chain}
 
 pub record LaunchTests (P : ℕ) (state pages : List ℕ) : Type 0 where
   pub state-sized : length state ≡ 4 * P
@@ -134,22 +130,6 @@ erase-tests widths sizes v list e =
     let d = held (listOk (sizes .slots) list) _ _ (c .1) in
     let f = held (mayEraseAll (sizes .slots) (slotAt (v .flash .words)) (stateAt (v .state)) (twins (sizes .width) (v .flash)) list) _ _ (d .1) in
     record { fits = fits-facts widths sizes v (a .0); listed = d .0; permitted = f .0 }
-
-pub record CleanTests (widths : Widths) (sizes : Sizes) (v : Volume) (block : NamedBlock) : Type 0 where
-  pub fits : Fits widths sizes v
-  pub table : tableSound (sizes .pages) (sizes .slots) (slotAt (v .flash .words)) ≡ true
-  pub sound : stateSound (sizes .pages) (stateAt (v .state)) ≡ true
-  pub starts-sound : startsOk (sizes .slots) (block .starts) ≡ true
-  pub named : blockOk block ≡ true
-  pub room : length (cleanFrom sizes v (blockAt (sizes .slots) block)) ≤ length (cleanTo sizes v (blockAt (sizes .slots) block))
-
-pub clean-tests : (widths : Widths) (sizes : Sizes) (v : Volume) (block : NamedBlock) → cleanAnswer widths sizes v block ≡ 0 → CleanTests widths sizes v block
-unfolding cleanOwn tooFewBlank
-clean-tests widths sizes v block e =
-    let parts = both-pass (blockJudged widths sizes v block) (cleanOwn sizes v block) (sym (clean-chain widths sizes v block) ∙ e) in
-    let j = block-judged-passed widths sizes v block (parts .0) in
-    let f = passed (tooFewBlank sizes v (blockAt (sizes .slots) block)) _ _ (parts .1) in
-    record { fits = fits-facts widths sizes v (j .fitting); table = j .table; sound = j .sound; starts-sound = j .starts-sound; named = j .named; room = ltb-false _ _ (f .0) }
 
 -- "the lowest": a slot that may be erased, and none below it may
 pub record Lowest (sizes : Sizes) (v : Volume) (slot : ℕ) : Type 0 where

@@ -6,9 +6,9 @@ use mathlib.Core.List.{List}
 use mathlib.Core.Bool.{Bool, true, not, _&&_}
 use lib.Dec.{ltb, eqb}
 use lib.ListN.{length}
-use borrow.Author.Tests.{eqb-true, ne-eqb}
+use borrow.Author.Tests.{eqb-true}
 use Rattle.bounded.specs.Limits.{Widths}
-use Rattle.bounded.specs.Choice.{both-left, both-right, and-true, and-false}
+use Rattle.bounded.specs.Choice.{both-left, both-right}
 use Rattle.bounded.specs.Below.{someBelow}
 use Rattle.outcome.specs.Outcome.{_⇒_otherwise_}
 use Rattle.outcome.specs.OutcomeLaws.{held}
@@ -17,7 +17,7 @@ use Rattle.sizes.specs.declared.Layout.{Layout}
 use Rattle.sizes.specs.declared.Layout.the-variants.{FiveWords, FourWords}
 use Rattle.sizes.specs.declared.Sizes.{Sizes}
 use Rattle.sizes.specs.Sizes.{sizesOk, strideOf, stateFits, listOk}
-use Rattle.sizes.specs.Blocks.{startsOk, NamedBlock, blockOk, blockAt}
+use Rattle.sizes.specs.Blocks.{startsOk, NamedBlock, blockOk}
 use Rattle.sizes.specs.SizesLaws.{SizesFacts, sizes-facts}
 use Rattle.record.specs.Slot.{slotIn, slotAt, isBlank}
 use Rattle.state.specs.declared.PageState.{PageState}
@@ -31,8 +31,6 @@ use Rattle.rules.specs.Write.{writeAnswer}
 use Rattle.rules.specs.Withdraw.{withdrawAnswer}
 use Rattle.rules.specs.Erase.{eraseAnswer}
 use Rattle.rules.specs.Suggest.{suggestible, suggestAnswer}
-use Rattle.rules.specs.Clean.{tooFewBlank, cleanAnswer}
-use Rattle.rules.specs.Pick.{pickAnswer}
 use Rattle.rules.specs.Read.{readAnswerIn}
 use Rattle.rules.specs.SimpleCalls.{simpleWriteAnswer, simpleEraseAnswer}
 use Rattle.rules.specs.laws.Families.{wouldBuryIn, writeAnswerIn, mayEraseAllIn, eraseAnswerIn}
@@ -256,7 +254,7 @@ suggest-chain widths sizes v =
 
 -- the calls on a block: what stands behind 1, 17, 2, 5 and 6
 module _ (widths : Widths) (sizes : Sizes) (v : Volume) (block : NamedBlock) where
-  block-chain :
+  pub block-chain :
       (own : ℕ)
       → (not (volumeFits widths sizes v) ⇒ 1 otherwise
       not (startsOk (sizes .slots) (block .starts)) ⇒ 17 otherwise
@@ -270,27 +268,6 @@ module _ (widths : Widths) (sizes : Sizes) (v : Volume) (block : NamedBlock) whe
       (split-three (not (tableSound (sizes .pages) (sizes .slots) (slotAt (v .flash .words)))) (not (stateSound (sizes .pages) (stateAt (v .state)))) (not (blockOk block)) 1 4 5 own)
       ∙ ap (λ (rest : ℕ). not (volumeFits widths sizes v) ⇒ 1 otherwise rest) (split-front (not (startsOk (sizes .slots) (block .starts))) 16 _ own)
       ∙ split-front (not (volumeFits widths sizes v)) 0 _ own
-
--- clean: 15
-unfoldable pub cleanOwn : Sizes → Volume → NamedBlock → ℕ
-cleanOwn sizes v block = tooFewBlank sizes v (blockAt (sizes .slots) block) ⇒ 15 otherwise 0
-
-pub clean-chain : (widths : Widths) (sizes : Sizes) (v : Volume) (block : NamedBlock) → cleanAnswer widths sizes v block ≡ firstOf (blockJudged widths sizes v block) (cleanOwn sizes v block)
-unfolding cleanAnswer cleanOwn
-clean-chain widths sizes v block = block-chain widths sizes v block _
-
--- pick: 18, and before all the number of lent words
-unfoldable pub pickOwn : (n : ℕ) → ℕ
-pickOwn n = eqb n 0 ⇒ 18 otherwise 0
-
-module _ (widths : Widths) (sizes : Sizes) (v : Volume) (block : NamedBlock) (n : ℕ) (out : List ℕ) where
-  pub pick-chain : length out ≡ 4 → pickAnswer widths sizes v block n out ≡ firstOf (blockJudged widths sizes v block) (pickOwn n)
-  unfolding pickAnswer pickOwn
-  pick-chain e = rw (e, and-true (volumeFits widths sizes v)) (block-chain widths sizes v block _)
-
-  pub pick-length : ¬ (length out ≡ 4) → pickAnswer widths sizes v block n out ≡ 1
-  unfolding pickAnswer
-  pick-length d = rw (ne-eqb (length out) 4 d, and-false (volumeFits widths sizes v))
 
 -- read: 6 and 14
 unfoldable pub readOwn : Layout → (P S : ℕ) (words state : List ℕ) (page : ℕ) → ℕ

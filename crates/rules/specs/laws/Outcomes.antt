@@ -6,7 +6,6 @@ use Rattle.bounded.specs.Limits.{noNumber, Widths}
 use Rattle.outcome.specs.OutcomeLaws.{settled-refused, settled-done}
 use Rattle.sizes.specs.declared.Layout.{Layout}
 use Rattle.sizes.specs.declared.Sizes.{Sizes}
-use Rattle.sizes.specs.Blocks.{NamedBlock, blockAt}
 use Rattle.record.specs.Slot.{bytesAt}
 use Rattle.record.specs.Flash.{applyAll}
 use Rattle.state.specs.State.{stateAt, stateWords}
@@ -18,7 +17,6 @@ use Rattle.rules.specs.Launch.{launchAnswer, launchOutcome}
 use Rattle.rules.specs.Write.{writeAnswer, writeDone, writeChange, writeOutcome}
 use Rattle.rules.specs.Withdraw.{withdrawAnswer, withdrawOutcome}
 use Rattle.rules.specs.Erase.{eraseAnswer, eraseSteps, eraseOutcome}
-use Rattle.rules.specs.Clean.{cleanSteps, cleanAnswer, cleanOutcome}
 use Rattle.rules.specs.Suggest.{suggestAnswer, suggestedSlot, suggestOutcome}
 
 module _ (layout : Layout) (widths : Widths) (sizes : Sizes) (v : Volume) where
@@ -83,12 +81,3 @@ module _ (widths : Widths) (sizes : Sizes) (v : Volume) where
   pub suggest-done : suggestAnswer widths sizes v ≡ 0 → suggestOutcome widths sizes v ≡ record { answer = 0; second = suggestedSlot sizes v; left = tt }
   unfolding suggestOutcome
   suggest-done e = settled-done (suggestAnswer widths sizes v) noNumber (suggestedSlot sizes v) tt tt e
-
-module _ (widths : Widths) (sizes : Sizes) (v : Volume) (block : NamedBlock) where
-  pub clean-refused : ¬ (cleanAnswer widths sizes v block ≡ 0) → cleanOutcome widths sizes v block ≡ record { answer = cleanAnswer widths sizes v block; second = 0; left = v .flash }
-  unfolding cleanOutcome
-  clean-refused h = settled-refused (cleanAnswer widths sizes v block) 0 0 (v .flash) (applyAll (sizes .width) (v .flash) (cleanSteps sizes v (blockAt (sizes .slots) block))) h
-
-  pub clean-done : cleanAnswer widths sizes v block ≡ 0 → cleanOutcome widths sizes v block ≡ record { answer = 0; second = 0; left = applyAll (sizes .width) (v .flash) (cleanSteps sizes v (blockAt (sizes .slots) block)) }
-  unfolding cleanOutcome
-  clean-done e = settled-done (cleanAnswer widths sizes v block) 0 0 (v .flash) (applyAll (sizes .width) (v .flash) (cleanSteps sizes v (blockAt (sizes .slots) block))) e

@@ -5,9 +5,9 @@ use Rattle.bounded.specs.Limits.{twoWidths}
 use Rattle.outcome.specs.Outcome.{returned}
 use Rattle.outcome.specs.Reply.{reply-refused, reply-done}
 use Rattle.rules.specs.Volume.{volume}
-use Rattle.rules.specs.Sweep.{sweepOutcome}
+use Rattle.upkeep.specs.Sweep.{sweepOutcome}
 use Rattle.rules.specs.laws.Chains.{judged-passed, volume-spans}
-use Rattle.rules.specs.laws.Sweep.{sweep-leaves}
+use Rattle.upkeep.specs.laws.Sweep.{sweep-leaves}
 use Rattle.judge.specs.Judgeable.{sound-flash}
 use Rattle.sweep.specs.SweepLaws.{answer-judged}
 use Rattle.sweep.proofs.sweep.Statement.{statement}

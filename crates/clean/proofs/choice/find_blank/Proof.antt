@@ -6,7 +6,7 @@ use mathlib.Core.Bool.{not, _&&_}
 use Rattle.bounded.specs.Noted.{Noted, noted-none}
 use Rattle.sizes.specs.Blocks.{inBlock}
 use Rattle.record.specs.Slot.{slotAt, isBlank}
-use Rattle.rules.specs.Clean.{blankOutside}
+use Rattle.upkeep.specs.Clean.{blankOutside}
 use Rattle.clean.proofs.choice.find_blank.Statement.{statement}
 use Rattle.clean.proofs.choice.find_blank.Tie as tie
 

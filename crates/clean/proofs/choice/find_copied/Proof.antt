@@ -3,7 +3,7 @@ use native.Mathlib.Omega.{arith}
 use borrow.Author.Needs.{needs}
 use mathlib.Core.Path.{sym}
 use Rattle.bounded.specs.Noted.{noted-length}
-use Rattle.rules.specs.Clean.{copiedSlots, cleanFrom}
+use Rattle.upkeep.specs.Clean.{copiedSlots, cleanFrom}
 use Rattle.permit.specs.Prepared.{linkable-within}
 use Rattle.judge.specs.Judgeable.{judgeable}
 use Rattle.clean.proofs.choice.find_copied.Statement.{statement}

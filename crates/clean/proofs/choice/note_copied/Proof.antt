@@ -9,7 +9,7 @@ use Rattle.record.specs.Slot.{slotAt}
 use Rattle.record.specs.Flash.{flash}
 use Rattle.state.specs.State.{stateAt}
 use Rattle.twins.specs.Twins.{twins}
-use Rattle.rules.specs.Clean.{isCopied}
+use Rattle.upkeep.specs.Clean.{isCopied}
 use Rattle.clean.specs.Choosing.{outside-stays}
 use Rattle.clean.proofs.choice.note_copied.Statement.{statement}
 use Rattle.clean.proofs.choice.note_copied.Tie as tie

@@ -6,7 +6,7 @@ use mathlib.Core.List.{List}
 use lib.ListN.{length, take, drop, replicate, length-replicate}
 use Rattle.bounded.specs.Fronts.{equal-lent}
 use Rattle.record.specs.Flash.{apply, flash}
-use Rattle.rules.specs.Clean.{copyStep}
+use Rattle.upkeep.specs.Clean.{copyStep}
 use Rattle.clean.proofs.steps.copy_slot.Statement.{statement}
 use Rattle.clean.proofs.steps.copy_slot.Tie as tie
 

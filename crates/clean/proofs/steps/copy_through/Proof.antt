@@ -3,7 +3,7 @@ use Prim.Native.Nat.{ℕ, _+_, _*_, _≤_}
 use borrow.Author.Needs.{needs}
 use mathlib.Core.Path.{sym, ap, _∙_, subst}
 use lib.ListN.{length}
-use Rattle.rules.specs.Clean.{recordIn}
+use Rattle.upkeep.specs.Clean.{recordIn}
 use Rattle.clean.specs.Copying.{copy-is}
 use Rattle.clean.proofs.steps.copy_through.Statement.{statement}
 use Rattle.clean.proofs.steps.copy_through.Tie as tie

@@ -1,7 +1,7 @@
 -- By what the slot holds.
 use borrow.Author.Needs.{needs}
 use Rattle.record.specs.Slot.{blankRecord}
-use Rattle.rules.specs.Clean.{recordIn}
+use Rattle.upkeep.specs.Clean.{recordIn}
 use Rattle.clean.proofs.steps.record_in.Statement.{statement}
 use Rattle.clean.proofs.steps.record_in.Tie as tie
 

@@ -1,7 +1,7 @@
 -- 1 shifted by at most 8 places is 2 to that power.
 use native.Mathlib.Omega.{arith}
 use lib.Pow.{pow-mono}
-use Rattle.rules.specs.Doubtful.{fillings}
+use Rattle.upkeep.specs.Doubtful.{fillings}
 use Rattle.doubtful.proofs.filling.count_fillings.Statement.{statement}
 use Rattle.doubtful.proofs.filling.count_fillings.Tie as tie
 

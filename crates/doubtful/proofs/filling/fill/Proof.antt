@@ -5,7 +5,7 @@ use mathlib.Core.Path.{_≡_, refl, sym, ap, _∙_}
 use mathlib.Core.List.{List}
 use mathlib.Core.Logic.{⊎-elim}
 use lib.ListN.{length}
-use Rattle.rules.specs.Doubtful.{absentIn}
+use Rattle.upkeep.specs.Doubtful.{absentIn}
 use Rattle.doubtful.specs.Filled.{blankedWords}
 use Rattle.doubtful.specs.FilledLaws.{restBlanked, rest-all, rest-none, rest-stays, rest-blanks}
 use Rattle.doubtful.proofs.filling.fill.Statement.{statement}

@@ -1,7 +1,7 @@
 -- Each return is what the called tests on its way answered.
 use borrow.Author.Needs.{needs}
 use Rattle.bounded.specs.Choice.{said-no, said-yes}
-use Rattle.rules.specs.Doubtful.{doubtfulFits}
+use Rattle.upkeep.specs.Doubtful.{doubtfulFits}
 use Rattle.doubtful.proofs.tests.fits.Statement.{statement}
 use Rattle.doubtful.proofs.tests.fits.Tie as tie
 

@@ -2,7 +2,7 @@
 use native.Mathlib.Omega.{arith}
 use borrow.Author.Tests.{lt-ltb, le-ltb}
 use Rattle.bounded.specs.Choice.{said-no, said-yes}
-use Rattle.rules.specs.laws.Fillings.{fits-facts}
+use Rattle.upkeep.specs.laws.Fillings.{fits-facts}
 use Rattle.doubtful.specs.Tested.{doubtfulTested}
 use Rattle.doubtful.proofs.tests.refusal.Statement.{statement}
 use Rattle.doubtful.proofs.tests.refusal.Tie as tie

@@ -6,7 +6,7 @@ use mathlib.Core.Logic.{⊎-elim}
 use Rattle.sizes.specs.Blocks.{NamedBlock, named, blockAt}
 use Rattle.sizes.specs.BlocksLaws.{starts-facts}
 use Rattle.rules.specs.Volume.{volume}
-use Rattle.rules.specs.Pick.{seenAt}
+use Rattle.upkeep.specs.Pick.{seenAt}
 use Rattle.judge.specs.Marked.{NoMarks, no-marks}
 use Rattle.pick.specs.Picking.{freesBy, bestBy}
 use Rattle.pick.specs.PickingLaws.{seen-block, seen-there, seen-inside, best-none, best-here, best-stays}

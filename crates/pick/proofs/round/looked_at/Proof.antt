@@ -1,7 +1,7 @@
 -- The smaller of the two, whatever the block.
 use native.Mathlib.Omega.{arith}
 use borrow.Author.Needs.{needs}
-use Rattle.rules.specs.Pick.{lookedAt}
+use Rattle.upkeep.specs.Pick.{lookedAt}
 use Rattle.pick.proofs.round.looked_at.Statement.{statement}
 use Rattle.pick.proofs.round.looked_at.Tie as tie
 

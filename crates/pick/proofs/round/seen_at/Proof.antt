@@ -1,7 +1,7 @@
 -- Up to the last block the numbers rise, and block 0 follows on the last.
 use borrow.Author.Needs.{needs}
 use borrow.Author.Tests.{lt-ltb, le-ltb}
-use Rattle.rules.specs.Pick.{seenAt}
+use Rattle.upkeep.specs.Pick.{seenAt}
 use Rattle.pick.proofs.round.seen_at.Statement.{statement}
 use Rattle.pick.proofs.round.seen_at.Tie as tie
 

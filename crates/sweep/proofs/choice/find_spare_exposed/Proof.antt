@@ -5,7 +5,7 @@ use mathlib.Core.Path.{_≡_, refl}
 use Rattle.bounded.specs.Noted.{Noted, noted-none}
 use Rattle.record.specs.Slot.{slotAt}
 use Rattle.state.specs.State.{stateAt}
-use Rattle.rules.specs.Sweep.{isSpareExposed}
+use Rattle.upkeep.specs.Sweep.{isSpareExposed}
 use Rattle.sweep.proofs.choice.find_spare_exposed.Statement.{statement}
 use Rattle.sweep.proofs.choice.find_spare_exposed.Tie as tie
 

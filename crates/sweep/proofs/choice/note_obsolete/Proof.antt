@@ -7,7 +7,7 @@ use Rattle.bounded.specs.Noted.{Noted, noted-none}
 use Rattle.record.specs.Slot.{slotAt}
 use Rattle.state.specs.State.{stateAt}
 use Rattle.rules.specs.Found.{mayEraseBy}
-use Rattle.rules.specs.Sweep.{isObsoleteAt}
+use Rattle.upkeep.specs.Sweep.{isObsoleteAt}
 use Rattle.sweep.proofs.choice.note_obsolete.Statement.{statement}
 use Rattle.sweep.proofs.choice.note_obsolete.Tie as tie
 

@@ -5,7 +5,7 @@ use mathlib.Core.Path.{_≡_, refl}
 use Rattle.bounded.specs.Noted.{Noted, noted-none}
 use Rattle.record.specs.Flash.{flash}
 use Rattle.twins.specs.Twins.{twins}
-use Rattle.rules.specs.Sweep.{isHigherTwin}
+use Rattle.upkeep.specs.Sweep.{isHigherTwin}
 use Rattle.sweep.proofs.choice.note_twins.Statement.{statement}
 use Rattle.sweep.proofs.choice.note_twins.Tie as tie
 

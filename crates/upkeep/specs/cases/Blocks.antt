@@ -10,11 +10,12 @@ use Rattle.sizes.specs.Blocks.{named}
 use Rattle.record.specs.Slot.{blankRecord}
 use Rattle.state.specs.Change.{atRest}
 use Rattle.table.specs.Given.{given, formattedRecords, tableOf}
-use Rattle.rules.specs.Volume.{Volume, volume}
+use Rattle.rules.specs.Volume.{Volume}
 use Rattle.rules.specs.CheckBlocks.{checkBlocksOutcome}
-use Rattle.rules.specs.Clean.{cleanOutcome}
-use Rattle.rules.specs.cases.Computing.{computing}
-use Rattle.rules.specs.cases.Clean.{byteWide, sizes8, volume8, fresh, withThird, twin0, pair, cleanOn, allObsolete}
+use Rattle.upkeep.specs.Clean.{cleanOutcome}
+use Rattle.upkeep.specs.cases.Computing.{computing}
+use Rattle.rules.specs.cases.Twins.{byteWide, sizes8, volume8, fresh, withThird, twin0}
+use Rattle.upkeep.specs.cases.Clean.{pair, cleanOn, allObsolete}
 
 -- what check_blocks says of a table, of 2 pages and S slots
 unfoldable pub checked : (S : ℕ) → List ℕ → ℕ

@@ -30,16 +30,16 @@ use Rattle.table.specs.Table.{tableSound}
 use Rattle.table.specs.TableLaws.{sound-at, blank-holds}
 use Rattle.twins.specs.Twins.{twins}
 use Rattle.twins.specs.TwinsLaws.{twins-exactly, twins-hold, twins-self, twins-trans}
 use Rattle.rules.specs.Volume.{Volume, volumeFits}
 use Rattle.rules.specs.Permission.{mayErase, mayEraseFrom}
 use Rattle.rules.specs.Erase.{eraseSteps}
-use Rattle.rules.specs.Clean.{isCopied, copiedSlots, blankOutside, copySteps, cleanFrom, cleanTo, tooFewBlank, cleanCopies, cleanBlanks, cleanSteps, cleanAnswer, cleanOutcome}
-use Rattle.rules.specs.Cleaned.{HoldsAt, Leaves, Cleaned, CleanedAgain, CleanAccepted}
+use Rattle.upkeep.specs.Clean.{isCopied, copiedSlots, blankOutside, copySteps, cleanFrom, cleanTo, tooFewBlank, cleanCopies, cleanBlanks, cleanSteps, cleanAnswer, cleanOutcome}
+use Rattle.upkeep.specs.Cleaned.{HoldsAt, Leaves, Cleaned, CleanedAgain, CleanAccepted}
 use Rattle.rules.specs.laws.Volume.{bytes-whole, fits-test}
 use Rattle.rules.specs.laws.Permission.{may-erase-from}
-use Rattle.rules.specs.laws.Copies.{Ready, copied, copied-sized, copied-elsewhere, copied-there, copied-blank, copied-back}
-use Rattle.rules.specs.laws.Accepted.{CleanTests, clean-tests}
-use Rattle.rules.specs.laws.Outcomes.{clean-done}
+use Rattle.upkeep.specs.laws.Copies.{Ready, copied, copied-sized, copied-elsewhere, copied-there, copied-blank, copied-back}
+use Rattle.upkeep.specs.laws.Tests.{CleanTests, clean-tests}
+use Rattle.upkeep.specs.laws.Tests.{clean-done}
 
 holds-or-blank : {C : Type 0} (s : Slot) → (s ≡ Blank → C) → ((r : Record) → s ≡ Holds r → C) → C
 holds-or-blank Blank f g = f refl

@@ -6,10 +6,10 @@ use mathlib.Core.List.{List, []}
 use Rattle.bounded.specs.Limits.{Widths}
 use Rattle.sizes.specs.declared.Sizes.{Sizes}
 use Rattle.record.specs.Flash.{Flash}
 use Rattle.rules.specs.Volume.{Volume}
 use Rattle.rules.specs.Erase.{eraseAnswer}
 use Rattle.rules.specs.Suggest.{suggestAnswer}
-use Rattle.rules.specs.Sweep.{sweptExposed, withoutExposed, sweptObsolete, withoutObsolete, sweptTwins, sweepAnswer, sweepOutcome}
+use Rattle.upkeep.specs.Sweep.{sweptExposed, withoutExposed, sweptObsolete, withoutObsolete, sweptTwins, sweepAnswer, sweepOutcome}
 
 -- a list of slots is empty, or erase accepts it on this flash, with the state of v
 abbrev pub NoneOrErasable : Widths → Sizes → Volume → Flash → List ℕ → Type 0

@@ -18,8 +18,8 @@ use Rattle.record.specs.SlotLaws.{Storable}
 use Rattle.record.specs.Flash.{Flash, apply, applyAllIn, applyAll}
 use Rattle.record.specs.FlashLaws.{SizedIn, SameSlot, store-sized, store-slots, store-bytes, at-slot}
 use Rattle.table.specs.TableLaws.{blank-holds}
 use Rattle.rules.specs.laws.Volume.{bytes-whole}
-use Rattle.rules.specs.Clean.{recordIn, copyStep, copySteps}
+use Rattle.upkeep.specs.Clean.{recordIn, copyStep, copySteps}
 
 -- slots k below S that hold a record which may be stored
 pub record Source (S : ℕ) (f : Flash) (k : ℕ) : Type 0 where

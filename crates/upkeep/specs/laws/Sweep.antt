@@ -31,16 +31,16 @@ use Rattle.table.specs.Table.{tableSound}
 use Rattle.table.specs.TableLaws.{blank-holds, holds-of, sound-at}
 use Rattle.twins.specs.Twins.{twins}
 use Rattle.twins.specs.TwinsLaws.{twins-exactly, twins-hold, twins-sym, twins-trans}
 use Rattle.rules.specs.Volume.{Volume, volumeFits}
 use Rattle.rules.specs.Permission.{isObsolete, isExposed, isCurrent, isNeeded, mayEraseRecord, mayErase, mayEraseFrom, mayEraseAll, mayEraseAlone}
 use Rattle.rules.specs.Erase.{eraseSteps, eraseAnswer}
 use Rattle.rules.specs.Suggest.{suggestible, suggestAnswer}
-use Rattle.rules.specs.Sweep.{isSpareExposed, isObsoleteAt, isErasableObsolete, isHigherTwin, sweptExposed, withoutExposed, sweptObsolete, withoutObsolete, sweptTwins, sweepStages, sweepSteps, sweepAnswer, sweepOutcome}
-use Rattle.rules.specs.Swept.{NoneOrErasable, SweepErases, SweptBare}
+use Rattle.upkeep.specs.Sweep.{isSpareExposed, isObsoleteAt, isErasableObsolete, isHigherTwin, sweptExposed, withoutExposed, sweptObsolete, withoutObsolete, sweptTwins, sweepStages, sweepSteps, sweepAnswer, sweepOutcome}
+use Rattle.upkeep.specs.Swept.{NoneOrErasable, SweepErases, SweptBare}
 use Rattle.rules.specs.laws.Volume.{Fits, bytes-whole, fits-facts, fits-test}
 use Rattle.rules.specs.laws.Permission.{Exposed, ExposedSpare, Needed, Erasable, obsolete-exactly, exposed-spare-exactly, needed-exactly, may-erase-exactly, may-erase-from, may-erase-all}
 use Rattle.rules.specs.laws.Chains.{judgedIn, Judged, judged-passed}
-use Rattle.rules.specs.laws.Clean.{sound-slots}
+use Rattle.upkeep.specs.laws.Clean.{sound-slots}
 
 -- ---- the slots that pass, blanked
 

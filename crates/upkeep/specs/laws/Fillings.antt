@@ -20,9 +20,9 @@ use Rattle.sizes.specs.SizesLaws.{SizesFacts, sizes-facts, words-fit-exactly, c
 use Rattle.sizes.specs.Lists.{no-repeats-apart}
 use Rattle.record.specs.Flash.{Flash}
 use Rattle.record.specs.FlashLaws.{SizedIn, blanks-listed, blanks-unlisted}
 use Rattle.rules.specs.Erase.{eraseSteps}
-use Rattle.rules.specs.Doubtful.{absentIn, filledWith, doubtfulListOk, doubtfulFits}
-use Rattle.rules.specs.Doubted.{passing, EachFilling, Fills, Fillings}
+use Rattle.upkeep.specs.Doubtful.{absentIn, filledWith, doubtfulListOk, doubtfulFits}
+use Rattle.upkeep.specs.Doubted.{passing, EachFilling, Fills, Fillings}
 
 -- ---- a list without repetitions
 

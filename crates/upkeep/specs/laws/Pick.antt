@@ -20,11 +20,12 @@ use Rattle.sizes.specs.declared.Block.{Block}
 use Rattle.sizes.specs.declared.Sizes.{Sizes}
 use Rattle.sizes.specs.Blocks.{NamedBlock, named, blockOk, blockAt, inBlock}
 use Rattle.sizes.specs.BlocksLaws.{block-facts}
 use Rattle.rules.specs.Volume.{Volume}
 use Rattle.rules.specs.Suggest.{suggestible}
-use Rattle.rules.specs.Pick.{seenAt, lookedAt, isSeen, blockSize, frees, mostFreed, pickedBlock, largestUnseen, unseenLead, pickedWords, pickAnswer, pickOutcome}
-use Rattle.rules.specs.Picked.{GoesRound, GoingRound, Picks, Picked, LargerFindsNoLess}
-use Rattle.rules.specs.laws.Chains.{blockJudged, block-judged-passed, pickOwn, pick-chain, pick-length}
+use Rattle.upkeep.specs.Pick.{seenAt, lookedAt, isSeen, blockSize, frees, mostFreed, pickedBlock, largestUnseen, unseenLead, pickedWords, pickAnswer, pickOutcome}
+use Rattle.upkeep.specs.Picked.{GoesRound, GoingRound, Picks, Picked, LargerFindsNoLess}
+use Rattle.rules.specs.laws.Chains.{blockJudged, block-judged-passed}
+use Rattle.upkeep.specs.laws.Tests.{pickOwn, pick-chain, pick-length}
 
 -- ---- going round
 

@@ -1,73 +1,24 @@
--- Document 02, wish 1, computed: twins in recover, erase and suggest, and cleaning, on volumes of 1 byte a slot: by its steps, and by the whole
--- call on a block of all slots.
+-- Document 02, wish 1, computed: cleaning, on volumes of 1 byte a slot, by its steps, and by the whole call on a block of all slots; and at every width.
 use Prim.Native.Nat.{ℕ, zero, suc}
 use mathlib.Core.Path.{refl}
 use mathlib.Core.List.{List, [], _∷_, _++_, map}
 use mathlib.Core.Bool.{cond}
-use lib.Dec.{eqb}
-use lib.ListN.{length, getD, replicate}
-use Rattle.bounded.specs.Limits.{noNumber, Widths}
-use Rattle.bounded.specs.Parts.{joinParts}
+use lib.ListN.{length, replicate}
+use Rattle.bounded.specs.Limits.{noNumber, twoWidths}
 use Rattle.outcome.specs.Row.{Row, row, RowsHold}
 use Rattle.sizes.specs.declared.Block.{Block}
-use Rattle.sizes.specs.declared.Sizes.{Sizes}
 use Rattle.sizes.specs.Sizes.{sizesOf}
 use Rattle.sizes.specs.Blocks.{named}
-use Rattle.record.specs.declared.Record.{Record}
 use Rattle.record.specs.Slot.{blankRecord}
 use Rattle.record.specs.Flash.{Flash, Step, applyAll}
 use Rattle.state.specs.declared.PageState.{PageState}
-use Rattle.state.specs.State.{stateWords}
 use Rattle.state.specs.Change.{atRest}
 use Rattle.table.specs.Given.{given, formattedRecords, tableOf}
-use Rattle.rules.specs.Volume.{Volume, volume}
-use Rattle.rules.specs.Erase.{eraseOutcome}
-use Rattle.rules.specs.Suggest.{suggestOutcome}
-use Rattle.rules.specs.Recover.{recoverOutcome}
-use Rattle.rules.specs.Clean.{cleanFrom, cleanTo, tooFewBlank, cleanSteps, cleanStages, cleanOutcome}
-use Rattle.rules.specs.cases.Computing.{computing}
-
--- slots of 1 byte
-unfoldable pub byteWide : Widths
-byteWide w = eqb w 1
-
-abbrev pub sizes8 : Sizes
-sizes8 = sizesOf 2 8 1
-
--- 8 slots that hold these records, with these bytes; both pages at rest, committed and used as given
-unfoldable pub volume8 : List Record → (bytes : List ℕ) → (page : ℕ → PageState) → Volume
-volume8 records bytes page = volume (tableOf 8 records) (joinParts 8 (λ k. getD bytes k 255 ∷ [])) (stateWords 2 page)
-
--- both pages committed and used at 0
-unfoldable pub fresh : ℕ → PageState
-fresh p = atRest 0 0
-
--- the formatted records, and a record in slot 2
-unfoldable pub withThird : Record → (byte : ℕ) → Volume
-withThird r byte = volume8 (formattedRecords 2 ++ r ∷ []) (5 ∷ 6 ∷ byte ∷ []) fresh
-
--- slot 0's twin; one with another byte; records of its page and version with another link (v, c and page being equal), and of another page
-unfoldable pub twin0 : Volume
-twin0 = withThird (given 0 0 0 0 0) 5
-
-unfoldable pub recoverAnswers : List ℕ
-recoverAnswers =
-    recoverOutcome byteWide sizes8 twin0 .answer
-    ∷ recoverOutcome byteWide sizes8 (withThird (given 0 0 0 0 0) 7) .answer
-    ∷ recoverOutcome byteWide sizes8 (withThird (given 0 0 0 1 0) 5) .answer
-    ∷ recoverOutcome byteWide sizes8 (withThird (given 1 0 0 1 0) 6) .answer
-    ∷ []
-
-unfoldable pub eraseAnswers : Volume → List ℕ
-eraseAnswers v =
-    eraseOutcome byteWide sizes8 v (0 ∷ []) .answer
-    ∷ eraseOutcome byteWide sizes8 v (2 ∷ []) .answer
-    ∷ eraseOutcome byteWide sizes8 v (0 ∷ 2 ∷ []) .answer
-    ∷ eraseOutcome byteWide sizes8 v (1 ∷ []) .answer
-    ∷ []
-
-unfoldable pub suggested : Volume → List ℕ
-suggested v = let o = suggestOutcome byteWide sizes8 v in o .answer ∷ o .second ∷ []
+use Rattle.rules.specs.Volume.{Volume}
+use Rattle.upkeep.specs.Clean.{cleanFrom, cleanTo, tooFewBlank, cleanSteps, cleanStages, cleanOutcome}
+use Rattle.rules.specs.cases.Twins.{byteWide, sizes8, volume8, fresh, withThird, twin0}
+use Rattle.rules.specs.cases.Width.{bytesOf, fresh1, written1}
+use Rattle.upkeep.specs.cases.Computing.{computing}
 
 -- the slots from first to before end
 unfoldable pub slotsFrom : (first end : ℕ) → Block
@@ -134,15 +85,8 @@ allObsolete = volume8 (formattedRecords 2) (5 ∷ 6 ∷ []) (λ p. atRest 1 1)
 
 unfoldable pub cleanRows : List Row
 cleanRows =
-    -- twins do not clash; records of equal page and version that are none do
-    row 1 recoverAnswers (0 ∷ 3 ∷ 3 ∷ 0 ∷ [])
-    -- a committed record with a twin outside the list may be erased, both together not, nor one that has none; without twins only by the old rule
-    ∷ row 1 (eraseAnswers twin0) (0 ∷ 0 ∷ 12 ∷ 12 ∷ [])
-    ∷ row 1 (eraseAnswers (withThird (given 0 0 0 0 0) 7)) (12 ∷ 12 ∷ 12 ∷ 12 ∷ [])
-    -- suggest names the lower twin, and without one nothing
-    ∷ row 1 (suggested twin0 ++ suggested (withThird (given 0 0 0 0 0) 7)) (0 ∷ 0 ∷ 13 ∷ noNumber ∷ [])
     -- slot 0 has a twin outside the block and is not copied, slot 1 goes to the lowest blank slot
-    ∷ row 1 (cleanFrom sizes8 twin0 (slotsFrom 0 2) ++ cleanTo sizes8 twin0 (slotsFrom 0 2)) (1 ∷ 3 ∷ 4 ∷ 5 ∷ 6 ∷ 7 ∷ [])
+    row 1 (cleanFrom sizes8 twin0 (slotsFrom 0 2) ++ cleanTo sizes8 twin0 (slotsFrom 0 2)) (1 ∷ 3 ∷ 4 ∷ 5 ∷ 6 ∷ 7 ∷ [])
     ∷ row 1 (cleanedInto twin0 (slotsFrom 0 2)) (tableOf 8 (blankRecord ∷ blankRecord ∷ given 0 0 0 0 0 ∷ given 1 0 0 1 0 ∷ []) ++ (255 ∷ 255 ∷ 5 ∷ 6 ∷ replicate 4 255))
     -- of twins within the block only the lowest is copied; an obsolete record is not
     ∷ row 1 (cleanFrom sizes8 pair (slotsFrom 2 4) ++ cleanTo sizes8 pair (slotsFrom 2 4)) (2 ∷ 4 ∷ 5 ∷ 6 ∷ 7 ∷ [])
@@ -163,5 +107,19 @@ cleanRows =
     ∷ []
 
 pub clean-rows : RowsHold cleanRows
-unfolding cleanRows recoverAnswers eraseAnswers suggested slotsFrom slotsOf cleanedFlash cleanedInto withThird twin0 pair straddled volume8 fresh byteWide oneFree noneFree refused cleanOn allObsolete computing
+unfolding cleanRows slotsFrom slotsOf cleanedFlash cleanedInto withThird twin0 pair straddled volume8 fresh byteWide oneFree noneFree refused cleanOn allObsolete computing
 clean-rows = refl
+
+-- The answers of clean of a block of all slots, whose one record that must stay has no blank slot outside: at either width on a volume of it 15, at another, and on a volume of the other, 1.
+unfoldable pub cleanAt : (called w : ℕ) → ℕ
+cleanAt called w = cleanOutcome twoWidths (sizesOf 1 2 called) (written1 w .left) (named (0 ∷ []) 0) .answer
+
+unfoldable pub cleanWidthRows : List Row
+cleanWidthRows =
+    row 10 (cleanAt 32 32 ∷ cleanAt 64 64 ∷ []) (15 ∷ 15 ∷ [])
+    ∷ row 10 (cleanAt 32 64 ∷ cleanAt 64 32 ∷ cleanAt 33 32 ∷ cleanAt 0 64 ∷ cleanAt noNumber 64 ∷ []) (replicate 5 1)
+    ∷ []
+
+pub clean-width-rows : RowsHold cleanWidthRows
+unfolding cleanWidthRows cleanAt bytesOf fresh1 written1 computing
+clean-width-rows = refl

@@ -16,8 +16,8 @@ use Rattle.record.specs.Slot.{slotAt, bytesAt}
 use Rattle.record.specs.Flash.{Flash}
 use Rattle.state.specs.State.{stateAt}
 use Rattle.table.specs.Table.{tableSound}
 use Rattle.rules.specs.Recover.{recoverOutcome}
-use Rattle.rules.specs.Doubtful.{absentIn, filledWith, doubtfulListOk, doubtfulFits, doubtfulOutcome}
+use Rattle.upkeep.specs.Doubtful.{absentIn, filledWith, doubtfulListOk, doubtfulFits, doubtfulOutcome}
 
 -- ---- fillings
 

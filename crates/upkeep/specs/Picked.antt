@@ -8,8 +8,8 @@ use lib.ListN.{length, getD}
 use Rattle.bounded.specs.Limits.{Widths}
 use Rattle.sizes.specs.declared.Sizes.{Sizes}
 use Rattle.sizes.specs.Blocks.{NamedBlock, named, blockOk, blockAt}
 use Rattle.rules.specs.Volume.{Volume}
-use Rattle.rules.specs.Pick.{seenAt, blockSize, frees, pickAnswer, pickOutcome}
+use Rattle.upkeep.specs.Pick.{seenAt, blockSize, frees, pickAnswer, pickOutcome}
 
 -- ---- going round
 

@@ -8,11 +8,12 @@ use Rattle.outcome.specs.Row.{Row, row, RowsHold}
 use Rattle.sizes.specs.Sizes.{sizesOf}
 use Rattle.sizes.specs.Blocks.{named}
 use Rattle.table.specs.Given.{formattedRecords}
 use Rattle.rules.specs.Volume.{Volume}
-use Rattle.rules.specs.Pick.{pickOutcome}
-use Rattle.rules.specs.cases.Computing.{computing}
-use Rattle.rules.specs.cases.Clean.{byteWide, sizes8, volume8, fresh, withThird, pair, straddled}
-use Rattle.rules.specs.cases.Blocks.{slotUnsound, stateUnsound}
+use Rattle.upkeep.specs.Pick.{pickOutcome}
+use Rattle.upkeep.specs.cases.Computing.{computing}
+use Rattle.rules.specs.cases.Twins.{byteWide, sizes8, volume8, fresh, withThird}
+use Rattle.upkeep.specs.cases.Clean.{pair, straddled}
+use Rattle.upkeep.specs.cases.Blocks.{slotUnsound, stateUnsound}
 
 -- the answer, the second number and the lent words, which are 7 before
 unfoldable pub pickOn : Volume → (starts : List ℕ) → (block n : ℕ) → List ℕ

@@ -9,12 +9,13 @@ use Rattle.record.specs.Slot.{blankRecord}
 use Rattle.state.specs.declared.PageState.{PageState}
 use Rattle.state.specs.Change.{atRest}
 use Rattle.table.specs.Given.{given, formattedRecords, tableOf}
 use Rattle.rules.specs.Volume.{Volume}
 use Rattle.rules.specs.Suggest.{suggestOutcome}
-use Rattle.rules.specs.Sweep.{sweepStages, sweepOutcome}
-use Rattle.rules.specs.cases.Computing.{computing}
-use Rattle.rules.specs.cases.Clean.{byteWide, sizes8, volume8, fresh, withThird, pair, straddled, slotsOf}
-use Rattle.rules.specs.cases.Blocks.{slotUnsound, stateUnsound}
+use Rattle.upkeep.specs.Sweep.{sweepStages, sweepOutcome}
+use Rattle.upkeep.specs.cases.Computing.{computing}
+use Rattle.rules.specs.cases.Twins.{byteWide, sizes8, volume8, fresh, withThird}
+use Rattle.upkeep.specs.cases.Clean.{pair, straddled, slotsOf}
+use Rattle.upkeep.specs.cases.Blocks.{slotUnsound, stateUnsound}
 
 -- the slots of each erasure, with their number in front
 unfoldable pub sweepLists : Volume → List ℕ

@@ -15,9 +15,9 @@ use Rattle.record.specs.Slot.{slotAt, bytesAt, isBlank}
 use Rattle.record.specs.Flash.{Flash}
 use Rattle.state.specs.State.{stateAt, stateSound}
 use Rattle.table.specs.Table.{tableSound}
 use Rattle.rules.specs.Volume.{Volume, volumeFits}
 use Rattle.rules.specs.Permission.{mayErase}
-use Rattle.rules.specs.Clean.{cleanAnswer, cleanOutcome}
+use Rattle.upkeep.specs.Clean.{cleanAnswer, cleanOutcome}
 
 -- slot k of the flash f holds the record with these contents
 abbrev pub HoldsAt : Sizes → Flash → ℕ → Record → Flash → ℕ → Type 0

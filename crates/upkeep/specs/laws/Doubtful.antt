@@ -32,14 +32,14 @@ use Rattle.table.specs.Table.{tableSound, hasRecord, hasVersion}
 use Rattle.table.specs.TableLaws.{has-version, sound-at}
 use Rattle.twins.specs.Twins.{twins, someConflict}
 use Rattle.follow.specs.Follow.{isAstray}
 use Rattle.rules.specs.Volume.{Volume, volumeFitsIn, volumeFits}
 use Rattle.rules.specs.Erase.{eraseSteps}
 use Rattle.rules.specs.Recover.{walkOf, committedOf, recovered, recoverAnswer, recoverOutcome}
-use Rattle.rules.specs.Doubtful.{maxDoubtful, absentIn, fillings, filledWith, recoveryOf, recovers, versionFilled, recovering, lowestFilled, highestFilled, doubtfulWords, doubtfulListOk, doubtfulFits, doubtfulAnswer, doubtfulOutcome}
-use Rattle.rules.specs.Doubted.{passing, filledRecovery, Commits, Between, Counts, Doubted, NoneRecovers, EmptyListRecovers}
+use Rattle.upkeep.specs.Doubtful.{maxDoubtful, absentIn, fillings, filledWith, recoveryOf, recovers, versionFilled, recovering, lowestFilled, highestFilled, doubtfulWords, doubtfulListOk, doubtfulFits, doubtfulAnswer, doubtfulOutcome}
+use Rattle.upkeep.specs.Doubted.{passing, filledRecovery, Commits, Between, Counts, Doubted, NoneRecovers, EmptyListRecovers}
 use Rattle.rules.specs.laws.Accepted.{recover-tests}
 use Rattle.rules.specs.laws.Recover.{recover-answer-reads, recover-fills}
-use Rattle.rules.specs.laws.Fillings.{each-filling, listable}
+use Rattle.upkeep.specs.laws.Fillings.{each-filling, listable}
 
 -- ---- recovery of a filling
 

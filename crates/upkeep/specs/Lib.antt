@@ -1,0 +1,10 @@
+pub mod Clean
+pub mod Cleaned
+pub mod Sweep
+pub mod Swept
+pub mod Pick
+pub mod Picked
+pub mod Doubtful
+pub mod Doubted
+pub mod laws
+pub mod cases
