@@ -18,18 +18,6 @@ pub fn count_fillings(list: &[u32]) -> u32
     1u32 << list.len()
 }
 
-// All words copied.
-fn copy_words(from: &[u32], to: &mut [u32])
-    requires { ⌜ length (now to) ≡ length (now from) ⌝ }
-    ensures { λ _. ⌜ now (to .exit) ≡ now (from .entry) ⌝ }
-{
-    let mut i = 0;
-    while i < from.len() {
-        to[i] = from[i];
-        i += 1;
-    }
-}
-
 // One slot blank.
 fn blank_slot(filled: &mut [u32], slot: u32)
     requires { ⌜ 5 * slot + 5 ≤ length (now filled) ⌝ }
@@ -49,7 +37,7 @@ pub fn fill(words: &[u32], list: &[u32], m: u32, filled: &mut [u32])
     requires { ⌜ ((i : ℕ) → i < length (now list) → 5 * getD (now list) i 0 + 5 ≤ length (now words)) ⌝ }
     ensures { λ _. ⌜ now (filled .exit) ≡ blankedWords (now (words .entry)) (absentIn (now (list .entry)) m) ⌝ }
 {
-    copy_words(words, filled);
+    record::copy::copy_words(words, filled);
     let mut digits = m;
     let mut i = 0;
     while i < list.len() {

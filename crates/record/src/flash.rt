@@ -43,8 +43,8 @@ fn store_record(layout: Layout, part: &mut [u32], record: Record)
     }
 }
 
-// The contents copier: one slot's bytes, from one slice into another of the same length.
-fn copy_contents(to: &mut [u8], from: &[u8])
+// The contents copier: bytes, one slot's or a whole volume's, from one slice into another of the same length.
+pub fn copy_contents(to: &mut [u8], from: &[u8])
     requires { ⌜ length (now to) ≡ length (now from) ⌝ }
     ensures { λ _. ⌜ now (to .exit) ≡ now (from .entry) ⌝ }
 {

@@ -1,12 +1,12 @@
--- The invariant: the first i bytes are copied, and the rest is as it was.
+-- The invariant: the first i words are copied, and the rest is as it was.
 use Prim.Native.Nat.{ℕ, _≤_, _-_}
 use native.Mathlib.Omega.{arith}
 use mathlib.Core.Path.{_≡_, refl, ap, _∙_}
 use mathlib.Core.List.{List}
 use lib.ListN.{length, set, getD, length-set}
 use Rattle.bounded.specs.Entries.{stored, stored-none, stored-more, stored-all}
-use Rattle.cutpoint.proofs.copy.copy_bytes.Statement.{statement}
-use Rattle.cutpoint.proofs.copy.copy_bytes.Tie as tie
+use Rattle.record.proofs.copy.copy_words.Statement.{statement}
+use Rattle.record.proofs.copy.copy_words.Tie as tie
 
 abbrev Inv-loop : tie.InvT-loop
 Inv-loop from to₀ i₀ to i = (i ≤ length from) × (to ≡ stored (λ j. getD from j 0) i to₀) × (length to ≡ length to₀)
@@ -17,8 +17,14 @@ abbrev μ-loop : tie.MeasureT-loop
 loop-holds : tie.Need-loop-holds Inv-loop μ-loop
 loop-holds c = (omega arith, stored-none _ (c .args .to .now), refl)
 
+mul-to : tie.Need-mul-to Inv-loop μ-loop
+mul-to c = omega arith
+
 shared-slice-read-to : tie.Need-shared-slice-read-to Inv-loop μ-loop
 shared-slice-read-to c = omega arith
+
+mul-to-2 : tie.Need-mul-to-2 Inv-loop μ-loop
+mul-to-2 c = omega arith
 
 slice-write-to : tie.Need-slice-write-to Inv-loop μ-loop
 slice-write-to c = omega arith
@@ -47,14 +53,16 @@ returns c =
     let a = c .before .before .args in
     l .inv .1 ∙ stored-all (λ (j : ℕ). getD (a .from .now) j 0) (a .to .now) (a .from .now) (l .i) (c .before .before .pre) (omega arith) (λ j h. refl)
 
-pub copy-bytes-spec : {M : Type 1} → statement M
-copy-bytes-spec =
+pub copy-words-spec : {M : Type 1} → statement M
+copy-words-spec =
     tie.close
     (tie.spec
     Inv-loop
     μ-loop
     loop-holds
+    mul-to
     shared-slice-read-to
+    mul-to-2
     slice-write-to
     add-i
     loop-less
