@@ -57,6 +57,14 @@ pub count-stays : (f : ℕ → Bool) (n : ℕ) → f n ≡ false → length (lis
 unfolding listBelow
 count-stays f n e = rw (listBelow, e)
 
+-- at most n of those below n
+pub count-below : (f : ℕ → Bool) (n : ℕ) → length (listBelow n f) ≤ n
+unfolding listBelow
+count-below f zero = omega arith
+count-below f (suc n) =
+    let i = count-below f n in
+    on-test (f n) (λ e. let c = count-more f n e in omega arith) (λ e. let c = count-stays f n e in omega arith)
+
 -- where one test passes wherever another does
 pub count-most : (f g : ℕ → Bool) (n : ℕ) → ((k : ℕ) → k < n → f k ≡ true → g k ≡ true) → length (listBelow n f) ≤ length (listBelow n g)
 unfolding listBelow

@@ -52,7 +52,7 @@ module _ (S : ℕ) (t : ℕ → Slot) (st : ℕ → PageState) where
       exposed-straddled Blank = refl
       exposed-straddled (Holds r) = refl
 
-  obsolete-unexposed : (r : Record) → isObsolete st r ≡ true → isExposed st r ≡ false
+  pub obsolete-unexposed : (r : Record) → isObsolete st r ≡ true → isExposed st r ≡ false
   unfolding isObsolete isExposed
   obsolete-unexposed r e = let h = ltb-true (r .v) (st (r .p) .committed) e in le-ltb (st (r .p) .committed) (r .v) (omega arith)
 

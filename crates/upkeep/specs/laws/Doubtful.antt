@@ -13,7 +13,7 @@ use Rattle.bounded.specs.Limits.{noNumber, Widths}
 use Rattle.bounded.specs.Choice.{on-test, on-eq, both-left, both-right}
 use Rattle.bounded.specs.Below.{allBelow, someBelow, minBelow, maxBelow, listBelow}
 use Rattle.bounded.specs.BelowLaws.{all-at, some-search, max-above, max-at, min-below, min-at}
-use Rattle.bounded.specs.Members.{member-at, list-members, list-none, count-more, count-stays, list-rises, rises-apart}
+use Rattle.bounded.specs.Members.{member-at, list-members, list-none, count-below, list-rises, rises-apart}
 use Rattle.bounded.specs.Passing.{list-entry}
 use Rattle.bounded.specs.Parts.{joinParts}
 use Rattle.bounded.specs.PartsLaws.{length-joinParts, part-joinParts, part-at, joinParts-cong}
@@ -261,14 +261,6 @@ module _ (widths : Widths) (sizes : Sizes) (f : Flash) (slots out : List ℕ) wh
   pub doubtful-done : doubtfulAnswer widths sizes f slots out ≡ 0 → doubtfulOutcome widths sizes f slots out ≡ record { answer = 0; second = recovering widths sizes f slots; left = doubtfulWords widths sizes f slots }
   unfolding doubtfulOutcome
   doubtful-done e = settled-done _ _ _ _ _ e
-
--- as many numbers below n pass as n has, at most
-count-below : (q : ℕ → Bool) (n : ℕ) → length (listBelow n q) ≤ n
-unfolding listBelow
-count-below q zero = omega arith
-count-below q (suc n) =
-    let i = count-below q n in
-    on-test (q n) (λ e. let c = count-more q n e in omega arith) (λ e. let c = count-stays q n e in omega arith)
 
 recovering-most : (widths : Widths) (sizes : Sizes) (f : Flash) (slots : List ℕ) → recovering widths sizes f slots ≤ 2 ^ length slots
 unfolding recovering fillings
