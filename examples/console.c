@@ -5,12 +5,15 @@
  *
  *   console FILE           powers up from FILE (made and formatted where it is missing) and lists the pistons
  *   console FILE N SEED    formats FILE and stores random sets, N times killed; after each kill powers up and compares
+ *   console FILE volume    writes the volume in FILE, which must be there, to standard output, for the page of the service van: P, S, the
+ *                          width and the words of the table, 32 bits each, lowest byte first, then the contents. FILE is neither
+ *                          recovered nor altered
  *
  * Behind these may stand, in this order:
  *
  *   64       a piston has 64 bytes, 512 stops; else it has 32 bytes, 256 stops
  *   slots    the chip erases slots, and the console sweeps; else it erases blocks, and the console cleans the one that frees most of
- *            the next few
+ *            the next few. Not behind volume, which is the same over either chip
  *
  * A FILE that is there and is no flash file of this console and this width, by its length, is left as it is. Both chips have the same
  * slots: a file of the one is a file of the other.
@@ -229,20 +232,25 @@ static void check_blocks(void) {
 /* The first of the blocks that are looked at next: the one behind that which was cleaned last. */
 static uint32_t next_block;
 
+/* Opens the flash file and loads the flash into the images. */
+static void load_flash(const char *path, int mode) {
+    uint32_t k;
+    flash = open(path, mode);
+    for (k = 0; k < SLOTS; k++) {
+        load(k);
+    }
+}
+
 /* Power-up: check the table of blocks, load the flash, then recover. Nothing else is called before recovery has answered 0. Which block
  * is looked at first is left to chance, so that the first ones do not wear faster where the power fails often. */
 static void power_up(const char *path) {
-    uint32_t k;
     check_blocks();
     next_block = (uint32_t)rand() % BLOCKS;
     if (!is_there(path)) {
         make_flash(path);
         close(flash);
     }
-    flash = open(path, O_RDWR);
-    for (k = 0; k < SLOTS; k++) {
-        load(k);
-    }
+    load_flash(path, O_RDWR);
     memset(state, 0xFF, sizeof state);
     done("recover", bpcc_recover(VOLUME, WORDS, CONTENTS, STATE));
 }
@@ -532,6 +540,46 @@ static int list(const char *path) {
     return 0;
 }
 
+/* Writes a word to standard output, lowest byte first whatever the host's order is. */
+static void write_word(uint32_t word) {
+    int shift;
+    for (shift = 0; shift < 32; shift += 8) {
+        putchar((int)(word >> shift & 255));
+    }
+}
+
+/* Writes the volume to standard output, as the flash has it: of an erased slot all words are BPCC_NONE and all bytes 255. Whether it
+ * recovers is told by the page that is printed of it. */
+static int write_volume(const char *path) {
+    const uint32_t sizes[] = {VOLUME};
+    size_t i;
+    if (!is_there(path)) {
+        fail("the flash file is not there");
+    }
+    load_flash(path, O_RDONLY);
+    for (i = 0; i < sizeof sizes / sizeof sizes[0]; i++) {
+        write_word(sizes[i]);
+    }
+    for (i = 0; i < BPCC_TABLE_WORDS(SLOTS); i++) {
+        write_word(words[i]);
+    }
+    fwrite(contents, 1, BPCC_CONTENTS_BYTES(SLOTS, width), stdout);
+    if (fflush(stdout) != 0 || ferror(stdout)) {
+        fail("the volume cannot be written");
+    }
+    return 0;
+}
+
+/* Standard output and error are open, so that the flash file becomes neither. */
+static void check_streams(void) {
+    if (fcntl(STDERR_FILENO, F_GETFD) == -1) {
+        exit(1);
+    }
+    if (fcntl(STDOUT_FILENO, F_GETFD) == -1) {
+        fail("there is no standard output");
+    }
+}
+
 /* A decimal number from 1 to 1,000,000,000; 0 where the word is none. */
 static unsigned number(const char *word) {
     unsigned n = 0;
@@ -542,21 +590,28 @@ static unsigned number(const char *word) {
 }
 
 int main(int argc, char **argv) {
-    int named = argc > 1 && argv[1][0] != '-' && argv[1][0] != '\0';
-    if (argc > 2 && strcmp(argv[argc - 1], "slots") == 0) {
+    const int named = argc > 1 && argv[1][0] != '-' && argv[1][0] != '\0';
+    const int volume = argc > 2 && strcmp(argv[2], "volume") == 0;
+    check_streams();
+    if (argc > 2 && !volume && strcmp(argv[argc - 1], "slots") == 0) {
         erases_slots = 1;
         argc--;
     }
-    if (argc > 1 && argc % 2 == 1 && strcmp(argv[argc - 1], "64") == 0) {
+    /* A last word 64 is the width behind FILE, FILE KILLS SEED and FILE volume, and the seed behind FILE KILLS. */
+    if (argc > 1 && argc % 2 == !volume && strcmp(argv[argc - 1], "64") == 0) {
         width = BPCC_WIDTH_64;
         argc--;
     }
     if (named && argc == 2) {
         return list(argv[1]);
     }
+    if (named && argc == 3 && volume) {
+        return write_volume(argv[1]);
+    }
     if (named && argc == 4 && number(argv[2]) != 0 && number(argv[3]) != 0) {
         return trial(argv[1], number(argv[2]), number(argv[3]));
     }
-    fprintf(stderr, "usage: console FILE [KILLS SEED] [64] [slots]   (KILLS and SEED from 1 up)\n");
+    fprintf(stderr, "usage: console FILE [KILLS SEED] [64] [slots]   (KILLS and SEED from 1 up)\n"
+                    "       console FILE volume [64]\n");
     return 2;
 }

@@ -2,6 +2,7 @@
 //! part of that one.
 
 use crate::cleaning::block;
+use crate::random::Random;
 use crate::sweeping::erasing;
 use crate::volume::{Call, Volume};
 
@@ -31,4 +32,17 @@ pub fn stages(call: &Call, before: &Volume, after: &Volume) -> Vec<Stage> {
         }
         Call::Launch(_) | Call::Withdraw(_) | Call::Recover => Vec::new(),
     }
+}
+
+/// What a crash leaves of a call with these stages, chosen among all that it may leave: the flash, and the slots that were done.
+pub fn left(random: &mut Random, before: &Volume, after: &Volume, stages: &[Stage]) -> (Volume, Stage) {
+    let (mut flash, mut done) = (before.clone(), Stage::new());
+    let met = random.below(stages.len() as u32) as usize;
+    for (i, stage) in stages.iter().enumerate().take(met + 1) {
+        for &k in stage.iter().filter(|_| i < met || random.one_in(2)) {
+            flash.copy_slot(after, k);
+            done.push(k);
+        }
+    }
+    (flash, done)
 }

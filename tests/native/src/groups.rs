@@ -9,6 +9,7 @@ pub mod links;
 pub mod models;
 pub mod runs;
 pub mod scripts;
+pub mod van;
 
 use crate::harness::Group;
 use crate::interface::Family;
@@ -18,7 +19,7 @@ use crate::volume::Layout;
 pub type Tests = fn(&mut Group, Layout);
 
 /// Every group by its name, with the families that have it, in the order in which they run.
-pub const GROUPS: [(&str, &[Family], Tests); 9] = [
+pub const GROUPS: [(&str, &[Family], Tests); 10] = [
     ("cases", BOTH, cases::tests),
     ("calls", BOTH, calls::tests),
     ("links", BOTH, links::tests),
@@ -27,6 +28,7 @@ pub const GROUPS: [(&str, &[Family], Tests); 9] = [
     ("blocks", &[Family::Bpcc], blocks::tests),
     ("scripts", &[Family::Bpcc], scripts::tests),
     ("cuts", &[Family::Bpcc], cuts::tests),
+    ("van", &[Family::Bpcc], van::tests),
     ("impostors", BOTH, impostors::tests),
 ];
 

@@ -9,6 +9,7 @@ pub mod impostors;
 pub mod library;
 pub mod reference;
 pub mod script_program;
+pub mod van_program;
 
 use crate::interface::Calls;
 #[cfg(feature = "library")]

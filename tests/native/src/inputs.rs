@@ -98,23 +98,29 @@ fn volume_of(random: &mut Random, sizes: Sizes) -> Volume {
 fn reached(random: &mut Random, sizes: Sizes) -> Volume {
     let mut v = Volume::formatted(&Reference, sizes);
     for _ in 0..random.below(40) {
-        let call = match random.below(8) {
-            0..=1 => Call::Launch(pages_to_launch(random, &v)),
-            2..=5 => {
-                let (page, slot) = page_and_slot_to_write(random, &v);
-                Call::Write { page, slot, bytes: random.bytes(sizes.width) }
-            }
-            6 if sizes.family == Family::Bpcc && random.one_in(2) => {
-                let (starts, block) = blocks_to_clean(random, &v);
-                Call::Clean { starts, block }
-            }
-            6 if random.one_in(4) => Call::Withdraw(random.below(sizes.pages)),
-            6 if random.one_in(4) => Call::Recover,
-            _ => Call::Erase(slots_to_erase(random, &v)),
-        };
+        let call = call(random, &v);
         v.call(&Reference, &call);
     }
     v
+}
+
+/// A call on a volume, most often one that is done.
+pub fn call(random: &mut Random, v: &Volume) -> Call {
+    let Sizes { family, pages, width, .. } = v.sizes;
+    match random.below(8) {
+        0..=1 => Call::Launch(pages_to_launch(random, v)),
+        2..=5 => {
+            let (page, slot) = page_and_slot_to_write(random, v);
+            Call::Write { page, slot, bytes: random.bytes(width) }
+        }
+        6 if family == Family::Bpcc && random.one_in(2) => {
+            let (starts, block) = blocks_to_clean(random, v);
+            Call::Clean { starts, block }
+        }
+        6 if random.one_in(4) => Call::Withdraw(random.below(pages)),
+        6 if random.one_in(4) => Call::Recover,
+        _ => Call::Erase(slots_to_erase(random, v)),
+    }
 }
 
 /// A version, most often small, sometimes at the end of the range.

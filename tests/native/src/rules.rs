@@ -189,7 +189,12 @@ pub fn planned(family: Family, state: &[u32], page: u32) -> Record {
     Record { p: page, v: e.used, c, np: e.next, nv: entry(state, e.next).used }
 }
 
-/// Whether a record is exposed: its version is above its page's committed one.
+/// "A record is obsolete if v is below its page's committed version, …
+pub fn is_obsolete(state: &[u32], r: Record) -> bool {
+    r.v < entry(state, r.p).committed
+}
+
+/// … exposed if above."
 pub fn is_exposed(state: &[u32], r: Record) -> bool {
     r.v > entry(state, r.p).committed
 }
@@ -201,7 +206,7 @@ pub fn would_bury(table: &[(u32, Record)], state: &[u32], p: u32) -> bool {
 }
 
 /// "An obsolete K is needed if no record has the same page and c with a higher v, and some exposed record's link is straddled by K."
-fn is_needed(table: &[(u32, Record)], state: &[u32], k: Record) -> bool {
+pub fn is_needed(table: &[(u32, Record)], state: &[u32], k: Record) -> bool {
     let better = table.iter().any(|&(_, l)| l.p == k.p && l.c == k.c && l.v > k.v);
     !better && table.iter().any(|&(_, i)| is_exposed(state, i) && k.straddles(i))
 }
@@ -210,13 +215,11 @@ fn is_needed(table: &[(u32, Record)], state: &[u32], k: Record) -> bool {
 /// Of four-word records "any obsolete record may be erased". Document 02's "old rule", which twins do not alter.
 pub fn old_rule(family: Family, words: &[u32], state: &[u32], k: u32) -> bool {
     let Some(record) = slot(family, words, k) else { return false };
-    let e = entry(state, record.p);
-    if record.v < e.committed {
+    if is_obsolete(state, record) {
         family == Family::Scc || !is_needed(&records(family, words), state, record)
-    } else if record.v > e.committed {
-        !(e.in_flight() && record.v == e.used)
     } else {
-        false
+        let e = entry(state, record.p);
+        is_exposed(state, record) && !(e.in_flight() && record.v == e.used)
     }
 }
 

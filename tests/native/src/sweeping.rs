@@ -1,7 +1,7 @@
 //! Document 02's wish 7: what a sweep erases, in which order, and how many records it leaves.
 
 use crate::cleaning::{erasable, Test};
-use crate::rules::{entry, Record};
+use crate::rules::{entry, is_obsolete, Record};
 use crate::volume::Volume;
 
 /// The slots that a sweep's three erasings blank, "exposed, obsolete, spare twins": each is empty or a list that erase accepts on the
@@ -21,7 +21,7 @@ pub fn erasings(before: &Volume, twins: Test) -> Erasings {
 
 /// The slots of the obsolete records.
 pub fn obsolete(v: &Volume) -> Vec<u32> {
-    v.records().into_iter().filter(|&(_, r)| r.v < entry(&v.state, r.p).committed).map(|(k, _)| k).collect()
+    v.records().into_iter().filter(|&(_, r)| is_obsolete(&v.state, r)).map(|(k, _)| k).collect()
 }
 
 /// The slots with a twin below them.

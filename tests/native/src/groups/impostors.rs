@@ -4,15 +4,16 @@ use super::calls::volumes;
 use super::cuts;
 use super::runs::run::Cleaning;
 use super::runs::{long_runs, small_runs};
+use super::van;
 use crate::harness::{caught, Group};
 use crate::implementations::compared::Compared;
-use crate::implementations::cuts_program;
-use crate::implementations::impostors::cutting::WRONG;
 use crate::implementations::impostors::faults::{
     breaking_doubts, breaking_picks, faults, losing, losing_in_blocks, losing_in_sweeps, Fault,
 };
 use crate::implementations::impostors::Impostor;
+use crate::implementations::impostors::{cutting, surveying};
 use crate::implementations::reference::Reference;
+use crate::implementations::{cuts_program, van_program};
 use crate::interface::Family;
 use crate::volume::Layout;
 
@@ -56,10 +57,24 @@ pub fn tests(group: &mut Group, layout: Layout) {
             });
         }
     }
-    for wrong in WRONG.iter().filter(|_| layout.family == Family::Bpcc) {
+    if layout.family == Family::Bpcc {
+        programs(group, layout.width);
+    }
+}
+
+/// Programs that are wrong are each told from a right one by an input that is written by hand.
+fn programs(group: &mut Group, width: u32) {
+    for wrong in cutting::WRONG {
         group.test(&format!("a program that cuts everywhere, {wrong:?}, differs"), || {
             let prints = |trial: bool, input: &[u8]| cuts_program::run_as(wrong, &Reference, trial, input);
-            cuts::told_from_right(&prints, layout.width).expect("not found")
+            cuts::told_from_right(&prints, width).expect("not found")
+        });
+    }
+    let inputs = van::by_hand::by_hand(width);
+    for wrong in surveying::WRONG {
+        group.test(&format!("a program for the van, {wrong:?}, differs"), || {
+            let prints = |input: &[u8]| van_program::run_as(wrong, &Reference, input);
+            String::from(van::told_from_right(&prints, &inputs).expect("not found"))
         });
     }
 }

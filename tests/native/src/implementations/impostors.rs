@@ -1,5 +1,19 @@
 //! Implementations that are wrong in one way each, as documents 01 and 02 name them: the tests must tell every one from a right one.
 
+/// What may be wrong with a program, and a list of every fault.
+macro_rules! wrong {
+    ($($name:ident,)*) => {
+        /// What is wrong with a program.
+        #[derive(Clone, Copy, Debug, PartialEq, Eq)]
+        pub enum Wrong {
+            $($name,)*
+        }
+
+        /// Every fault.
+        pub const WRONG: &[Wrong] = &[$(Wrong::$name,)*];
+    };
+}
+
 mod blocks;
 mod cleaning;
 pub mod cutting;
@@ -8,6 +22,7 @@ pub mod faults;
 mod judging;
 mod picking;
 mod recovering;
+pub mod surveying;
 mod sweeping;
 
 use super::reference::{refusal, slot_unsound, store, volume_misfits, with, Reference};

@@ -6,7 +6,7 @@ use crate::implementations::compared::Compared;
 use crate::inputs::{self, straddled::straddled};
 use crate::interface::{Calls, Reply, NONE};
 use crate::random::Random;
-use crate::rules::{entry, is_exposed, Record};
+use crate::rules::{entry, is_exposed, is_obsolete, Record};
 use crate::sweeping::{erasings, obsolete};
 use crate::volume::{Call, Layout, Volume};
 
@@ -84,7 +84,7 @@ fn kinds(before: &Volume, after: &Volume) -> [bool; KINDS.len()] {
     let flies = |r: Record| is_exposed(state, r) && entry(state, r.p).in_flight();
     let stays = |is: &dyn Fn(Record) -> bool| after.records().into_iter().any(|(_, r)| is(r));
     let goes = |list: &[u32], is: &dyn Fn(Record) -> bool| list.iter().filter_map(|&k| before.slot(k)).any(is);
-    let is_obsolete = |r: Record| r.v < entry(state, r.p).committed;
+    let is_obsolete = |r: Record| is_obsolete(state, r);
     let written = |r: Record| entry(state, r.p).written == 1;
     let at_once: Vec<u32> = erasable(before.view(), twins, &obsolete(before)).collect();
     [

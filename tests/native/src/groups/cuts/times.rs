@@ -20,7 +20,13 @@ pub fn tests(group: &mut Group, program: &str, width: u32) {
         let short = format!("format 256 {slots}{}", blank.repeat(255));
         timed(group, program, width, ("255 erasures of 64 slots in a trial", true, (255 * 64, 0)), &short);
         let short = format!("format 256 {slots}{}{}", sets(&[64, 64], |p| slots - 1 - p), blank.repeat(125));
-        timed(group, program, width, ("128 pages stored in the last slots and 125 erasures of 64 in a trial", true, (128 + 125 * 64, 0)), &short);
+        timed(
+            group,
+            program,
+            width,
+            ("128 pages stored in the last slots and 125 erasures of 64 in a trial", true, (128 + 125 * 64, 0)),
+            &short,
+        );
     }
 }
 

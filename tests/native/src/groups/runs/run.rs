@@ -1,7 +1,7 @@
 //! Promise 3 by trial: random lists of calls and crashes from a formatted volume, each prefix checked against the ledger, and at
 //! each call every crash that it may meet.
 
-use crate::crash::Stage;
+use crate::crash::{left, Stage};
 use crate::harness::said;
 use crate::interface::{Calls, Family, NONE};
 use crate::ledger::Ledger;
@@ -223,16 +223,8 @@ impl Run<'_> {
     /// The flash that a crash in the call leaves, chosen among all that it may leave, and whether a write's slot was stored.
     fn crash_outcome(&mut self, call: &Call) -> (Volume, bool) {
         let (after, stages) = self.outcome(call);
-        let mut flash = self.volume.clone();
-        let met = self.random.below(stages.len() as u32) as usize;
-        let mut stored = false;
-        for (i, stage) in stages.iter().enumerate().take(met + 1) {
-            for &k in stage.iter().filter(|_| i < met || self.random.one_in(2)) {
-                flash.copy_slot(&after, k);
-                stored = matches!(call, Call::Write { .. });
-            }
-        }
-        (flash, stored)
+        let (flash, done) = left(&mut self.random, &self.volume, &after, &stages);
+        (flash, matches!(call, Call::Write { .. }) && !done.is_empty())
     }
 
     /// Every crash in the call: each outcome recovers to what the ledger then keeps.

@@ -6,19 +6,6 @@ use crate::interface::Calls;
 use crate::ledger::Ledger;
 use crate::volume::{Call, Volume};
 
-macro_rules! wrong {
-    ($($name:ident,)*) => {
-        /// What is wrong with a program.
-        #[derive(Clone, Copy, Debug, PartialEq, Eq)]
-        pub enum Wrong {
-            $($name,)*
-        }
-
-        /// Every fault.
-        pub const WRONG: &[Wrong] = &[$(Wrong::$name,)*];
-    };
-}
-
 wrong! {
     TriesNothing,
     TriesWithoutBeingTold,
