@@ -7,10 +7,11 @@ use mathlib.Core.Bool.{Bool, true, false}
 use Rattle.bounded.specs.Limits.{twoWidths}
 use Rattle.text.specs.Scan.{bytes}
 use Rattle.text.specs.Print.{decimalIn, decimal}
+use Rattle.text.specs.Lines.{onto, linesOf}
 use Rattle.line.specs.Line.{onFormat}
 use Rattle.line.specs.Computing.{computing as line-computing}
 use Rattle.everywhere.specs.Cases.{cuts-computing}
-use Rattle.cuts.specs.Recording.{onto, linesOf, stepBy, joined, stepsBy, script, zeroed, scriptOf, recording, countsText, cutsText, reportOf, reportText}
+use Rattle.cuts.specs.Recording.{stepBy, joined, stepsBy, script, zeroed, scriptOf, recording, countsText, cutsText, reportOf, reportText}
 
 -- "case 6's script, fills not 0"
 unfoldable pub case6Text : List ℕ

@@ -10,7 +10,7 @@ use lib.ListN.{length, take, drop, getD, length-drop, drop-of-length-le}
 use lib.Seq.{drop-cons, drop-drop}
 use borrow.Author.Tests.{eq-eqb, ne-eqb}
 use Rattle.bounded.specs.Choice.{on-lt, on-test}
-use Rattle.cuts.specs.Recording.{onto, linesOf}
+use Rattle.text.specs.Lines.{onto, linesOf}
 
 -- how many bytes the first line has
 unfoldable pub lineLength : List ℕ → ℕ

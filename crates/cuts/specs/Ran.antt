@@ -5,12 +5,12 @@ use mathlib.Core.List.{List, map}
 use mathlib.Core.Bool.{Bool, cond}
 use Rattle.bounded.specs.Limits.{Widths}
 use Rattle.sizes.specs.declared.Sizes.{Sizes}
+use Rattle.text.specs.Lines.{linesOf}
 use Rattle.line.specs.Line.{Said, maxEntries, lineMeans}
 use Rattle.cutpoint.specs.declared.Tally.{Tally}
 use Rattle.recorded.specs.Desk.{Desk, deskAfter, deskCuts}
 use Rattle.cuts.specs.declared.run.Ran.{Ran}
 use Rattle.cuts.specs.declared.run.Ran.the-variants as rans
-use Rattle.cuts.specs.Recording.{linesOf}
 use Rattle.cuts.specs.Run.{isStep}
 
 -- the tally, or none where the script is refused

@@ -9,24 +9,14 @@ use Rattle.bounded.specs.Limits.{Widths}
 use Rattle.sizes.specs.declared.Sizes.{Sizes}
 use Rattle.text.specs.Scan.{bytes}
 use Rattle.text.specs.Print.{decimal}
+use Rattle.text.specs.Lines.{linesOf}
 use Rattle.line.specs.Line.{Said, onFormat, maxEntries, lineMeans}
 use Rattle.rules.specs.Volume.{Volume, volume}
 use Rattle.rules.specs.Format.{formatOutcome}
 use Rattle.atomicity.specs.Call.{Call}
 use Rattle.everywhere.specs.Cuts.{Recorded, cutsOf, sames, differs, erasing}
 
--- ---- the lines of a text: each ends with a line end (byte 10), which the last may lack
-
--- the lines of a text with this byte, no line end, before it
-unfoldable pub onto : ℕ → List (List ℕ) → List (List ℕ)
-onto b [] = (b ∷ []) ∷ []
-onto b (line ∷ lines) = (b ∷ line) ∷ lines
-
-unfoldable pub linesOf : List ℕ → List (List ℕ)
-linesOf [] = []
-linesOf (b ∷ text) = cond (eqb b 10) ([] ∷ linesOf text) (onto b (linesOf text))
-
--- ---- what they record
+-- ---- what the lines of a text record
 
 -- a line behind the format line: a call, a cut between two calls, or nothing; none where it is "A malformed line" or "a second format line"
 unfoldable pub stepBy : Sizes → Said → Option (List Recorded)

@@ -10,6 +10,7 @@ use Rattle.bounded.specs.Limits.{twoWidths}
 use Rattle.sizes.specs.declared.Sizes.{Sizes}
 use Rattle.sizes.specs.Sizes.{sizesOk}
 use Rattle.text.specs.Scan.{bytes}
+use Rattle.text.specs.Lines.{linesOf}
 use Rattle.line.specs.Line.{Said, onFormat, maxEntries, lineMeans}
 use Rattle.line.specs.Computing.{computing as line-computing}
 use Rattle.everywhere.specs.Cuts.{sames, differs}
@@ -18,7 +19,7 @@ use Rattle.cutpoint.specs.declared.Tally.{Tally}
 use Rattle.cutpoint.specs.Judged.{tallied}
 use Rattle.cuts.specs.declared.run.Ran.{Ran}
 use Rattle.cuts.specs.declared.run.Ran.the-variants as rans
-use Rattle.cuts.specs.Recording.{linesOf, scriptOf, recording, countsText, cutsText, reportOf, reportText}
+use Rattle.cuts.specs.Recording.{scriptOf, recording, countsText, cutsText, reportOf, reportText}
 use Rattle.cuts.specs.Lines.{lineLength, lines-next}
 use Rattle.cuts.specs.Run.{formattedDesk, runFrom}
 use Rattle.cuts.specs.Reported.{foundText, lines-small, sizes-refused, lines-reported, other-refused}

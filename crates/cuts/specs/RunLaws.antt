@@ -29,7 +29,7 @@ use Rattle.recorded.specs.Desk.{Desk, Ready, writeDesk, deskBack, writeCuts, cu
 use Rattle.recorded.specs.StepLaws.{none-counted}
 use Rattle.cuts.specs.declared.run.Ran.{Ran}
 use Rattle.cuts.specs.declared.run.Ran.the-variants as rans
-use Rattle.cuts.specs.Recording.{linesOf}
+use Rattle.text.specs.Lines.{linesOf}
 use Rattle.cuts.specs.Lines.{lineLength, lines-next}
 use Rattle.cuts.specs.Run.{isStep, runFrom}
 use Rattle.cuts.specs.Ran.{ranAs, AtMost, saidIn, turnDesk, turnCuts}

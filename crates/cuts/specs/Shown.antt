@@ -9,6 +9,7 @@ use Rattle.bounded.specs.Limits.{Widths}
 use Rattle.sizes.specs.declared.Sizes.{Sizes}
 use Rattle.text.specs.Scan.{bytes}
 use Rattle.text.specs.Print.{shown, added}
+use Rattle.text.specs.Lines.{linesOf}
 use Rattle.line.specs.Line.{Said, maxEntries, lineMeans}
 use Rattle.rules.specs.Volume.{Volume}
 use Rattle.rules.specs.Format.{formatted}
@@ -16,7 +17,7 @@ use Rattle.dispatch.specs.Dispatch.{lineOutcome}
 use Rattle.atomicity.specs.Run.{started, after}
 use Rattle.everywhere.specs.Cuts.{eventOf, erasing}
 use Rattle.everywhere.specs.Shown.{slotsFrom}
-use Rattle.cuts.specs.Recording.{linesOf, Script, zeroed, recording, countsText, reportText}
+use Rattle.cuts.specs.Recording.{Script, zeroed, recording, countsText, reportText}
 
 -- "the number of slots that accepted writes and erases store or blank", in a script
 unfoldable pub slotsOfScript : (trial : Bool) → Widths → Script → ℕ

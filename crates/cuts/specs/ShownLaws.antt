@@ -17,7 +17,8 @@ use Rattle.sizes.specs.declared.Layout.the-variants.{FiveWords}
 use Rattle.sizes.specs.declared.Sizes.{Sizes}
 use Rattle.text.specs.Scan.{bytes}
 use Rattle.text.specs.Print.{shown, added, decimal}
-use Rattle.text.specs.PrintLaws.{field-room, all-put}
+use Rattle.text.specs.PrintLaws.{field-room, all-put, put-ends}
+use Rattle.text.specs.Lines.{onto, linesOf}
 use Rattle.line.specs.Line.{Said, onFormat, maxEntries, lineMeans}
 use Rattle.rules.specs.Volume.{Volume}
 use Rattle.rules.specs.Format.{formatted, formatAnswer, formatOutcome, formatOutcomeIn}
@@ -30,7 +31,7 @@ use Rattle.atomicity.specs.Run.{World, happens, started, after}
 use Rattle.atomicity.specs.Model.{Model, freshModel}
 use Rattle.everywhere.specs.Cuts.{Recorded, eventOf, cutsOf, sames, differs, erasing}
 use Rattle.everywhere.specs.Laws.{Reached, holding-fits, reached-step, reached-first, own-erase, cut-everywhere}
-use Rattle.cuts.specs.Recording.{onto, linesOf, stepBy, joined, stepsBy, Script, script, zeroed, scriptOf, recording, countsText, cutsText, reportOf, reportText}
+use Rattle.cuts.specs.Recording.{stepBy, joined, stepsBy, Script, script, zeroed, scriptOf, recording, countsText, cutsText, reportOf, reportText}
 use Rattle.recorded.specs.StepLaws.{lost-wiped}
 use Rattle.cuts.specs.Shown.{slotsOfScript, ReportShown, longestScript, EnoughRead, longestReport, RoomEnough, linesLeave, AllLinesRun}
 
@@ -196,12 +197,8 @@ room-enough widths trial text out left r h l e = let m = report-room widths tria
 
 -- so what is printed ends in the buffer
 pub report-ends : (trial : Bool) (text out left : List ℕ) (r : ℕ) → longestReport < length out → length left ≡ length out → shown left r ≡ added out 0 (reportText twoWidths trial text) → r ≤ length left
-unfolding shown
-report-ends trial text out left r h l e =
-    let a = room-enough twoWidths trial text out left r h l e in
-    let n = length-take r left in
-    let k = ap length (a .0) in
-    omega (arith, a .1)
+unfolding reportText
+report-ends trial text out left r h l e = let m = report-room twoWidths trial (recording twoWidths text) in put-ends out left (reportText twoWidths trial text) r (omega arith) l e
 
 -- ---- all lines are run
 

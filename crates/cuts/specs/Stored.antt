@@ -1,5 +1,5 @@
 -- An erase and a write: the program's buffers follow the reference model behind them, and what is found at their cuts is the same.
-use Prim.Native.Nat.{ℕ, zero, suc, _≤_, _<_}
+use Prim.Native.Nat.{ℕ, _≤_, _<_}
 use native.Mathlib.Omega.{arith}
 use mathlib.Core.Path.{_≡_, refl, sym, ap, ap₂, _∙_, subst}
 use mathlib.Core.List.{List, [], _∷_, append-nil, map}
@@ -41,15 +41,9 @@ use Rattle.ledger.specs.Ledger.{filled, settledEntered, settledKept}
 use Rattle.cutpoint.specs.Judged.{eraseCuts}
 use Rattle.recorded.specs.Desk.{Desk, desk, settledDesk, wroteDesk, writeDesk, deskBack, writeCuts, eraseDesk, cutsOfErase}
 use Rattle.cuts.specs.Follows.{entered-settled, kept-cong, open-entered, open-kept, done-entered, done-kept}
-use Rattle.atomicity.specs.steps.Event.{learns-refused}
+use Rattle.atomicity.specs.steps.Event.{learns-accepted, learns-refused}
 use Rattle.recorded.specs.TrialLaws.{done-list}
 use Rattle.cuts.specs.Followed.{Follows, behind}
-
--- what the model learns of an answer
-learns-done : (m : Model) (call : Call) (a : ℕ) → a ≡ 0 → learns m (Told.Answered call a) ≡ accept m call
-unfolding learns
-learns-done m call zero e = refl
-learns-done m call (suc a) e = absurd (omega arith)
 
 -- the slots of an erase's steps
 slots-of : (slots : List ℕ) → map slotOf (eraseSteps slots) ≡ slots
@@ -207,7 +201,7 @@ module _ (widths : Widths) (sizes : Sizes) where
       unfolding accept writeDesk wroteDesk
       write-follows =
           on-eq (writeAnswer widths sizes (d .volume) page slot bytes) 0
-          (λ e. subst (λ (x : Model). Follows widths sizes x (writeDesk widths sizes d page slot fill)) (sym (learns-done m call (outcome .answer) (ap (λ (o : Outcome Volume). o .answer) (write-done widths sizes (d .volume) page slot bytes e)))) (done-follows e))
+          (λ e. subst (λ (x : Model). Follows widths sizes x (writeDesk widths sizes d page slot fill)) (sym (learns-accepted m call (outcome .answer) (ap (λ (o : Outcome Volume). o .answer) (write-done widths sizes (d .volume) page slot bytes e)))) (done-follows e))
           (λ n.
           let o = write-refused widths sizes (d .volume) page slot bytes n in
           let a : ¬ (outcome .answer ≡ 0) = λ z. n (sym (ap (λ (o : Outcome Volume). o .answer) o) ∙ z) in

@@ -13,7 +13,7 @@ use borrow.Author.Tests.{le-leb, le-ltb, ne-eqb, leb-true}
 use Rattle.bounded.specs.Choice.{on-lt, and-false, both, both-left, both-right, either-right}
 use Rattle.text.specs.Scan.{maxNumber, scanned, isDigit, number}
 use Rattle.text.specs.Print.{decimalIn, decimal}
-use Rattle.text.specs.PrintLaws.{decimal-short, decimal-long, decimal-one, field-room, noDigit, read-back}
+use Rattle.text.specs.PrintLaws.{decimal-short, decimal-long, decimal-one, noDigit, read-back}
 use Rattle.fleet.specs.Page.{blanks, column}
 use Rattle.fleet.specs.Shown.{Cell, Empty, Number, pastBlanks, endsWith, numberCell, cellBy, cellOf, cellsOf, isPlain}
 
@@ -66,9 +66,6 @@ blanks-plain : (n : ℕ) → isPlain (replicate n 32) ≡ true
 unfolding isPlain
 blanks-plain zero = refl
 blanks-plain (suc n) = blanks-plain n
-
-pub decimal-most : (n : ℕ) → length (decimal n) ≤ 10
-decimal-most n = rw append-nil at (field-room [] [] n)
 
 -- a number below 100 has two digits at most
 pub decimal-two : (n : ℕ) → n < 100 → length (decimal n) ≤ 2

@@ -1,7 +1,7 @@
 -- Laws of the figures: each page and each record is counted once.
 use Prim.Native.Nat.{ℕ, zero, suc, _+_}
 use native.Mathlib.Omega.{arith}
-use mathlib.Core.Path.{_≡_, refl, sym, _∙_}
+use mathlib.Core.Path.{_≡_, refl, sym, ap, _∙_}
 use mathlib.Core.List.{[], _∷_}
 use mathlib.Core.Bool.{Bool, true, false, cond, not, _&&_}
 use lib.Dec.{eqb}
@@ -10,7 +10,7 @@ use borrow.Author.Tests.{lt-ltb, le-ltb, eq-eqb, ne-eqb}
 use Rattle.bounded.specs.Limits.{Widths}
 use Rattle.bounded.specs.Below.{listBelow}
 use Rattle.bounded.specs.Choice.{on-lt, on-eq, on-test, or-false}
-use Rattle.bounded.specs.Members.{count-more, count-stays}
+use Rattle.bounded.specs.Members.{list-none, count-more, count-stays}
 use Rattle.record.specs.declared.Record.{Record}
 use Rattle.record.specs.declared.Slot.{Slot}
 use Rattle.record.specs.declared.Slot.the-variants.{Blank, Holds}
@@ -38,16 +38,11 @@ unfolding listBelow
 parted zero f g e h p = refl
 parted (suc n) f g e h p = omega (arith, count-step n f, count-step n g, count-step n e, count-step n h, p n, parted n f g e h p)
 
-never-passes : (n : ℕ) → length (listBelow n (λ k. false)) ≡ 0
-unfolding listBelow
-never-passes zero = refl
-never-passes (suc n) = never-passes n
-
 -- … in two
 parted-two : (n : ℕ) (f g h : ℕ → Bool) → ((k : ℕ) → one (f k) + one (g k) ≡ one (h k)) → length (listBelow n f) + length (listBelow n g) ≡ length (listBelow n h)
 parted-two n f g h p =
     let e = parted n f g (λ k. false) h (λ k. let q = p k in omega arith) in
-    let z = never-passes n in
+    let z = ap length (list-none (λ k. false) n (λ k h. refl)) in
     omega arith
 
 always-passes : (n : ℕ) → length (listBelow n (λ k. true)) ≡ n

@@ -19,7 +19,8 @@ use Rattle.sizes.specs.Sizes.{sizesOk}
 use Rattle.sizes.specs.SizesLaws.{sizes-facts}
 use Rattle.text.specs.Scan.{maxNumber, isDigit}
 use Rattle.text.specs.Print.{shown, added}
-use Rattle.text.specs.PrintLaws.{all-put}
+use Rattle.text.specs.PrintLaws.{decimal-room, all-put, put-ends}
+use Rattle.text.specs.Lines.{onto, linesIn}
 use Rattle.record.specs.Flash.{Flash}
 use Rattle.record.specs.declared.Slot.{Slot}
 use Rattle.record.specs.Slot.{slotAt, holds}
@@ -39,8 +40,8 @@ use Rattle.fleet.specs.Figures.{isNeededStraddler, setPages, slotsWith, 
 use Rattle.fleet.specs.Input.{sizesAt, volumeLength, flashAt, isWhole, entriesIf, entriesOf}
 use Rattle.fleet.specs.InputLaws.{whole-facts, entries-most}
 use Rattle.fleet.specs.Page.{counted, sumOf, totals, meanWhole, meanRemainder, blanks, column, figuresText, entryText, volumeLine, volumeLines, totalsLine, meanLine, pageLines, asText, vanPage}
-use Rattle.fleet.specs.CellLaws.{Piece, Line, decimal-most, decimal-two, blank-piece, column-piece, five-pieces}
-use Rattle.fleet.specs.Shown.{onto, linesIn, Cell, Empty, Number, cellsOf, isPlain, amount, total, volumesCounted, volumeCells, allCells, totalsCells, PageShown, PagesShown, longestPage, RoomEnough}
+use Rattle.fleet.specs.CellLaws.{Piece, Line, decimal-two, blank-piece, column-piece, five-pieces}
+use Rattle.fleet.specs.Shown.{Cell, Empty, Number, cellsOf, isPlain, amount, total, volumesCounted, volumeCells, allCells, totalsCells, PageShown, PagesShown, longestPage, RoomEnough}
 
 -- ---- how large the figures are
 
@@ -142,7 +143,7 @@ total-most of h (Refused a ∷ entries) s = let c = total-first of (Refused a) e
 
 -- a number of 32 bits in 16 columns
 wide-piece : (n : ℕ) → n ≤ maxNumber → Piece 16 (column 16 n) (Number n)
-wide-piece n h = column-piece 16 n (omega (arith, decimal-most n)) h
+wide-piece n h = column-piece 16 n (omega (arith, decimal-room n)) h
 
 -- three blank columns
 three-blank : blanks 48 ≡ blanks 16 ++ (blanks 16 ++ blanks 16)
@@ -328,8 +329,4 @@ room-enough widths input out left r h l e = let m = page-long widths input in al
 
 -- where it is put into such a buffer, it ends there
 pub page-ends : (widths : Widths) (input out left : List ℕ) (r : ℕ) → longestPage < length out → length left ≡ length out → shown left r ≡ added out 0 (vanPage widths input) → r ≤ length left
-page-ends widths input out left r h l e =
-    let p = room-enough widths input out left r h l e in
-    let m = page-long widths input in
-    let q = p .1 in
-    omega arith
+page-ends widths input out left r h l e = let m = page-long widths input in put-ends out left (vanPage widths input) r (omega arith) l e

@@ -13,6 +13,7 @@ use Rattle.sizes.specs.declared.Sizes.{Sizes}
 use Rattle.sizes.specs.Sizes.{sizesOk}
 use Rattle.text.specs.Scan.{Scanned, isDigit, number}
 use Rattle.text.specs.Print.{shown, added}
+use Rattle.text.specs.Lines.{linesIn}
 use Rattle.record.specs.declared.Slot.{Slot}
 use Rattle.record.specs.Slot.{slotAt, isBlank, holds}
 use Rattle.record.specs.Flash.{Flash}
@@ -110,15 +111,6 @@ pub record ReadingShown (widths : Widths) : Type 0 where
   pub at-most : (n : ℕ) (input : List ℕ) → length (entriesOf widths n input) ≤ n
 
 -- ---- the page, as a reader of it sees it
-
--- the lines of a text, each ended by a line end (byte 10), and behind them what has none
-unfoldable pub onto : ℕ → List (List ℕ) → List (List ℕ)
-onto b [] = (b ∷ []) ∷ []
-onto b (line ∷ lines) = (b ∷ line) ∷ lines
-
-unfoldable pub linesIn : List ℕ → List (List ℕ)
-linesIn [] = [] ∷ []
-linesIn (b ∷ text) = cond (eqb b 10) ([] ∷ linesIn text) (onto b (linesIn text))
 
 -- what stands in some columns: nothing, a number of 32 bits without a leading zero that ends in the last of them, or else
 pub data Cell : Type 0 where

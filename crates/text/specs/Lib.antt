@@ -1,4 +1,5 @@
 pub mod Scan
 pub mod Print
+pub mod Lines
 pub mod ScanLaws
 pub mod PrintLaws

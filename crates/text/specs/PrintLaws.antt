@@ -96,7 +96,6 @@ module _ (digits : List ℕ) where
   digits-all zero rest h = refl
   digits-all (suc i) rest h = absurd (omega arith)
 
--- A number has a digit, so the place of the first is before the end.
 -- a number of 32 bits has at most ten digits
 digits-room : (k n : ℕ) → length (decimalIn k n) ≤ k
 unfolding decimalIn
@@ -105,7 +104,7 @@ digits-room (suc k) n =
     let h = digits-room k (n / 10) in
     on-lt n 10 (λ l. rw (decimal-short k n l) (omega arith)) (λ l. rw (decimal-long k n l) (simp length-append (omega arith)))
 
-decimal-room : (n : ℕ) → length (decimal n) ≤ 10
+pub decimal-room : (n : ℕ) → length (decimal n) ≤ 10
 unfolding decimal
 decimal-room n = digits-room 10 n
 
@@ -126,6 +125,11 @@ all-put out left text r h l e =
     let k = ap length whole in
     (whole, omega arith)
 
+-- … and ends in the buffer
+pub put-ends : (out left text : List ℕ) (r : ℕ) → length text < length out → length left ≡ length out → shown left r ≡ added out 0 text → r ≤ length left
+put-ends out left text r h l e = let p = all-put out left text r h l e .1 in omega arith
+
+-- a number has a digit, so the place of the first is before the end
 pub decimal-one : (k n : ℕ) → 0 < length (decimalIn (suc k) n)
 decimal-one k n =
     on-lt n 10 (λ h. rw (decimal-short k n h) (omega arith)) (λ h. rw (decimal-long k n h) (simp length-append (omega arith)))

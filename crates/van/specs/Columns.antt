@@ -5,9 +5,8 @@ use mathlib.Core.Path.{_≡_, refl, sym}
 use mathlib.Core.List.{List, [], _∷_, _++_, append-assoc}
 use lib.ListN.{length}
 use Rattle.text.specs.Print.{shown, added, decimal}
-use Rattle.text.specs.PrintLaws.{all-put}
+use Rattle.text.specs.PrintLaws.{decimal-room, all-put}
 use Rattle.fleet.specs.Page.{meanWhole, meanRemainder, blanks, column, meanLine}
-use Rattle.fleet.specs.CellLaws.{decimal-most}
 
 -- ---- blanks, one after the other
 
@@ -23,7 +22,7 @@ blanks-none i to h = let e : to - i ≡ 0 = omega arith in rw e
 
 -- put where there is room for eleven, they end at the place that is their number
 pub digits-counted : (zeros left : List ℕ) (r n : ℕ) → length zeros ≡ 11 → length left ≡ length zeros → shown left r ≡ added zeros 0 (decimal n) → r ≡ length (decimal n)
-digits-counted zeros left r n e l h = all-put zeros left (decimal n) r (let m = decimal-most n in omega arith) l h .1
+digits-counted zeros left r n e l h = all-put zeros left (decimal n) r (let m = decimal-room n in omega arith) l h .1
 
 -- ---- the mean
 

@@ -30,7 +30,7 @@ use Rattle.atomicity.specs.steps.Crash.{Crashed, crashFlash, crash-known
 
 -- ---- what the model learns
 
-learns-accepted : (m : Model) (call : Call) (a : ℕ) → a ≡ 0 → learns m (Told.Answered call a) ≡ accept m call
+pub learns-accepted : (m : Model) (call : Call) (a : ℕ) → a ≡ 0 → learns m (Told.Answered call a) ≡ accept m call
 unfolding learns
 learns-accepted m call zero e = refl
 learns-accepted m call (suc a) e = absurd (omega arith)
