@@ -1,6 +1,6 @@
--- endBelow is 1 more than the last number that passes, and a search for a narrower test may go from end to end; listBelow holds exactly the
+-- endBelow is 1 more than the last number that passes, and a search for a narrower test, or for the highest, may go from end to end; listBelow holds exactly the
 -- numbers that pass, and a search over it is the search over them.
-use Prim.Native.Nat.{ℕ, zero, suc, _+_, _≤_, _<_}
+use Prim.Native.Nat.{ℕ, zero, suc, _+_, _≤_, _<_, max}
 use native.Mathlib.Omega.{arith}
 use native.Mathlib.Numerals.{add-one}
 use mathlib.Core.Path.{_≡_, refl, sym, ap, _∙_, subst}
@@ -10,7 +10,7 @@ use mathlib.Core.Bool.{Bool, true, false, _&&_}
 use lib.ListN.{length, getD, length-append, List·getD-append}
 use lib.Seq.{getD-append-seam}
 use Rattle.bounded.specs.Choice.{on-lt, on-test, never, both, both-left, both-right, or-false, same-test}
-use Rattle.bounded.specs.Below.{someBelow, endBelow, listBelow}
+use Rattle.bounded.specs.Below.{someBelow, maxBelow, endBelow, listBelow}
 use Rattle.bounded.specs.BelowLaws.{below-suc, some-of, some-at}
 
 module _ (f : ℕ → Bool) where
@@ -64,6 +64,23 @@ module _ (f : ℕ → Bool) where
     pub some-go-on : (k : ℕ) → q k ≡ false → someBelow (k + 1) q ≡ someBelow (endBelow k f) q
     unfolding someBelow
     some-go-on k e = rw (add-one, someBelow, e) (or-false (someBelow k q) ∙ some-from-end k)
+
+  -- ---- the highest of g, which is 0 where a number does not pass f
+
+  module _ (g : ℕ → ℕ) (nothing : (k : ℕ) → f k ≡ false → g k ≡ 0) where
+    -- it is the highest up to the end,
+    pub max-from-end : (n : ℕ) → maxBelow n g ≡ maxBelow (endBelow n f) g
+    unfolding maxBelow endBelow
+    max-from-end zero = refl
+    max-from-end (suc n) =
+        on-test (f n)
+        (λ e. rw e)
+        (λ e. rw e (let i = max-from-end n in let z = nothing n e in omega arith))
+
+    -- and of one number more, it or the highest up to the end of those before it
+    pub max-go-on : (k : ℕ) → maxBelow (k + 1) g ≡ max (g k) (maxBelow (endBelow k f) g)
+    unfolding maxBelow
+    max-go-on k = rw (add-one, maxBelow) (let i = max-from-end k in omega arith)
 
   -- ---- the list
 

@@ -1,8 +1,10 @@
 // The choice, made on the table before the first step: the slots whose records are copied, and the blank slots to copy to.
 
 use super::blocks;
+use chain::Key;
 use judge::choose;
 use sizes::Block;
+use sizes::Layout;
 use sizes::Sizes;
 ghost use mathlib.Core.Path.{_≡_};
 ghost use mathlib.Core.Bool.{true, false, not, _&&_};
@@ -99,7 +101,13 @@ pub fn find_copied(
     ensures finds { λ r. ⌜ take r (now (from .exit)) ≡ cleanFrom sizes (volume (now (words .entry)) (now (contents .entry)) (now (state .entry))) block ⌝ }
 {
     let mut chains = [0u16; 2048];
-    chain::link_slots(sizes, words, &mut chains);
+    chain::link_slots(
+        Layout::FiveWords,
+        Key::Pointer,
+        sizes.slots,
+        words,
+        &mut chains,
+    );
     let mut found = [0u16; 1024];
     let count = permit::find_exposed(sizes.slots, words, state, &mut found);
     let mut marks = [0u8; 1024];

@@ -8,6 +8,7 @@ use Rattle.record.specs.declared.Slot.{Slot}
 use Rattle.record.specs.Slot.{slotAt}
 use Rattle.state.specs.declared.PageState.{PageState}
 use Rattle.state.specs.State.{stateAt}
+use Rattle.chain.specs.declared.Key.the-variants.{Pointer}
 use Rattle.chain.specs.Chain.{Linkable, Chained}
 use Rattle.rules.specs.Permission.{isObsolete}
 use Rattle.rules.specs.Found.{exposedSlots}
@@ -29,7 +30,7 @@ pub countable :
     (P S : ℕ) (words state chains found : List ℕ) (count : ℕ)
     → Linkable P S words
     → 4 * P ≤ length state
-    → Chained S (slotAt words) chains
+    → Chained Pointer S (slotAt words) chains
     → Noted (exposedAt words state) S found count
     → take count found ≡ exposedSlots S (slotAt words) (stateAt state)
     → Countable S words state chains (take count found)

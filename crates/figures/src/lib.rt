@@ -13,9 +13,11 @@ ghost use Rattle.state.specs.State.{stateAt};
 ghost use Rattle.chain.specs.Chain.{Linkable};
 ghost use Rattle.fleet.specs.Figures.{setPages, figuresOf, entryOf};
 ghost use Rattle.figures.specs.Counting.{obsoleteBelow, Countable};
+use chain::Key;
 use fleet::Entry;
 use fleet::Figures;
 use record::Slot;
+use sizes::Layout;
 use sizes::Sizes;
 
 // How many records are obsolete, and how many of these are needed straddlers.
@@ -100,7 +102,13 @@ fn figures_of(sizes: Sizes, words: &[u32], state: &[u32]) -> Figures
 {
     let pages = set_pages(sizes.pages, state);
     let mut chains = [0u16; 2048];
-    chain::link_slots(sizes, words, &mut chains);
+    chain::link_slots(
+        Layout::FiveWords,
+        Key::Pointer,
+        sizes.slots,
+        words,
+        &mut chains,
+    );
     let mut found = [0u16; 1024];
     let count = permit::find_exposed(sizes.slots, words, state, &mut found);
     let exposed = count as u32;

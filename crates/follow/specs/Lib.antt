@@ -5,3 +5,6 @@ pub mod Astray
 pub mod Colours
 pub mod Codes
 pub mod Links
+pub mod Ends
+pub mod Walks
+pub mod WalksLaws

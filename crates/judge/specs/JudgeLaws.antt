@@ -18,6 +18,7 @@ use Rattle.state.specs.declared.PageState.{PageState}
 use Rattle.table.specs.TableLaws.{blank-holds, holds-of}
 use Rattle.twins.specs.Twins.{twins}
 use Rattle.twins.specs.TwinsLaws.{twins-hold}
+use Rattle.chain.specs.declared.Key.the-variants.{Pointer}
 use Rattle.chain.specs.Chain.{chainOf, inChain}
 use Rattle.rules.specs.Permission.{twinOutside}
 use Rattle.rules.specs.Found.{mayEraseBy, mayEraseFromBy}
@@ -30,12 +31,12 @@ module _ (w : ℕ) (f : Flash) (j k : ℕ) where
   blank-no-twin e = on-test (twins w f j k) (λ t. absurd (blank-holds e (twins-hold w f j k t .2))) (λ t. t)
 
   -- and those of a record are in its chain
-  pub twin-in-chain : {r : Record} → slotAt (f .words) k ≡ Holds r → twins w f j k ≡ true → inChain (slotAt (f .words)) (chainOf r) j ≡ true
+  pub twin-in-chain : {r : Record} → slotAt (f .words) k ≡ Holds r → twins w f j k ≡ true → inChain Pointer (slotAt (f .words)) (chainOf Pointer r) j ≡ true
   unfolding inChain
   twin-in-chain {r} e t =
       let h = twins-hold w f j k t in
       let same : h .0 ≡ r = one (h .2) e in
-      holds-of (λ r′. eqb (chainOf r′) (chainOf r)) (h .1) (eq-eqb (chainOf (h .0)) (chainOf r) (ap chainOf same))
+      holds-of (λ r′. eqb (chainOf Pointer r′) (chainOf Pointer r)) (h .1) (eq-eqb (chainOf Pointer (h .0)) (chainOf Pointer r) (ap (chainOf Pointer) same))
     where
       one : {s : Slot} {a b : Record} → s ≡ Holds a → s ≡ Holds b → a ≡ b
       one p q = cc
@@ -45,7 +46,7 @@ module _ (w : ℕ) (f : Flash) (inList : ℕ → Bool) (k : ℕ) where
   abbrev pub outside : ℕ → Bool
   outside j = twins w f j k && not (inList j)
 
-  pub outside-in-chain : {r : Record} → slotAt (f .words) k ≡ Holds r → (j : ℕ) → outside j ≡ true → inChain (slotAt (f .words)) (chainOf r) j ≡ true
+  pub outside-in-chain : {r : Record} → slotAt (f .words) k ≡ Holds r → (j : ℕ) → outside j ≡ true → inChain Pointer (slotAt (f .words)) (chainOf Pointer r) j ≡ true
   outside-in-chain e j t = twin-in-chain w f j k e (both-left (twins w f j k) (not (inList j)) t)
 
   -- the list settles it, or the two slots do

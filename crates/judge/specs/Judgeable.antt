@@ -15,6 +15,7 @@ use Rattle.record.specs.Slot.{slotAt}
 use Rattle.record.specs.Flash.{flash}
 use Rattle.record.specs.FlashLaws.{SizedIn}
 use Rattle.table.specs.Table.{tableSound}
+use Rattle.chain.specs.declared.Key.the-variants.{Pointer}
 use Rattle.chain.specs.Chain.{Linkable, Chained}
 use Rattle.rules.specs.Volume.{volume, volumeFits}
 use Rattle.rules.specs.laws.Volume.{fits-facts}
@@ -33,7 +34,7 @@ slot-inside S w words contents a b k h = record { words-in = omega arith; bytes-
 pub record Comparable (P S w : ℕ) (words contents chains : List ℕ) : Type 0 where
   pub linkable : Linkable P S words
   pub bytes-in : w * S ≤ length contents
-  pub chained : Chained S (slotAt words) chains
+  pub chained : Chained Pointer S (slotAt words) chains
 
 -- its slots are judged
 pub record Judgeable (P S w : ℕ) (words contents state chains found : List ℕ) : Type 0 where
@@ -46,7 +47,7 @@ pub judgeable :
     → Linkable P S words
     → 4 * P ≤ length state
     → w * S ≤ length contents
-    → Chained S (slotAt words) chains
+    → Chained Pointer S (slotAt words) chains
     → Noted (exposedAt words state) S found count
     → Judgeable P S w words contents state chains (take count found)
 judgeable P S w words contents state chains found count l p b c f = record {

@@ -22,7 +22,9 @@ ghost use Rattle.rules.specs.Found.{mayEraseFromBy, mayEraseAllBy};
 ghost use Rattle.rules.specs.Suggest.{suggestedSlot};
 ghost use Rattle.judge.specs.Marked.{marked, NoMarks};
 ghost use Rattle.judge.specs.Judgeable.{Comparable, Judgeable};
+use chain::Key;
 use record::Slot;
+use sizes::Layout;
 use sizes::Sizes;
 
 // Slot `other` is a twin of slot `slot` and is not marked.
@@ -62,7 +64,7 @@ fn twin_outside(
     let Slot::Holds(record) = record::slot_at(words, slot) else {
         return false;
     };
-    let mut end = chain::chain_end(chains, record);
+    let mut end = chain::chain_end(chains, Key::Pointer, record);
     while end > 0 {
         let other = end - 1;
         if is_twin_outside(sizes, words, contents, marks, other, slot) {
@@ -210,7 +212,13 @@ pub fn may_erase_all(
         (twins (sizes .width) (flash (now (words .entry)) (now (contents .entry)))) (now (list .entry)) ⌝ }
 {
     let mut chains = [0u16; 2048];
-    chain::link_slots(sizes, words, &mut chains);
+    chain::link_slots(
+        Layout::FiveWords,
+        Key::Pointer,
+        sizes.slots,
+        words,
+        &mut chains,
+    );
     let mut found = [0u16; 1024];
     let count = permit::find_exposed(sizes.slots, words, state, &mut found);
     let mut marks = [0u8; 1024];
@@ -235,7 +243,13 @@ pub fn first_erasable(sizes: Sizes, words: &[u32], contents: &[u8], state: &[u32
     ensures { λ r. ⌜ r ≡ suggestedSlot sizes (volume (now (words .entry)) (now (contents .entry)) (now (state .entry))) ⌝ }
 {
     let mut chains = [0u16; 2048];
-    chain::link_slots(sizes, words, &mut chains);
+    chain::link_slots(
+        Layout::FiveWords,
+        Key::Pointer,
+        sizes.slots,
+        words,
+        &mut chains,
+    );
     let mut found = [0u16; 1024];
     let count = permit::find_exposed(sizes.slots, words, state, &mut found);
     first_permitted(sizes, words, contents, state, &chains, &found[..count])

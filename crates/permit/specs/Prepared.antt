@@ -5,7 +5,7 @@ use mathlib.Core.Path.{_≡_, sym, subst}
 use mathlib.Core.List.{List}
 use mathlib.Core.Bool.{Bool, true}
 use lib.ListN.{length, getD, take}
-use Rattle.bounded.specs.Limits.{maxPages, maxSlots}
+use Rattle.bounded.specs.Limits.{maxSlots}
 use Rattle.bounded.specs.Noted.{Noted}
 use Rattle.sizes.specs.declared.Layout.{Layout}
 use Rattle.sizes.specs.declared.Layout.the-variants.{FiveWords}
@@ -19,22 +19,21 @@ use Rattle.rules.specs.Permission.{isExposed}
 use Rattle.rules.specs.Found.{exposedSlots}
 use Rattle.rules.specs.laws.Chains.{SpansIn}
 use Rattle.rules.specs.laws.Found.{found-below}
+use Rattle.chain.specs.declared.Key.the-variants.{Pointer}
 use Rattle.chain.specs.Chain.{Linkable, Chained}
-use Rattle.chain.specs.ChainLaws.{linked-page}
 
 -- ---- the table
 
--- the S slots are at most 1,024 and in the words; the page of each record in them is one of 256 and is in the state
+-- the S slots are at most 1,024 and in the words; the page of each record in them is in the state
 pub record Within (S : ℕ) (words state : List ℕ) : Type 0 where
   pub slots-few : S ≤ maxSlots
   pub slots-in : 5 * S ≤ length words
-  pub pages-few : (k : ℕ) (r : Record) → k < S → slotAt words k ≡ Holds r → r .p < maxPages
   pub pages-in : (k : ℕ) (r : Record) → k < S → slotAt words k ≡ Holds r → 4 * r .p + 4 ≤ length state
 
 -- a volume that is judged and passes
 pub judged-linkable : (P S : ℕ) (words state : List ℕ) → SpansIn FiveWords P S words state → tableSound P S (slotAt words) ≡ true → Linkable P S words
 judged-linkable P S words state s e =
-    record { pages-few = s .bounds .pages-most; slots-few = s .bounds .slots-most; slots-in = s .slots-in; sound = e }
+    record { slots-few = s .bounds .slots-most; slots-in = s .slots-in; sound = e }
 
 -- … of a layout that is that of five words
 pub judged-linkable-in : {l : Layout} (P S : ℕ) (words state : List ℕ) → l ≡ FiveWords → SpansIn l P S words state → tableSound P S (slotIn l words) ≡ true → Linkable P S words
@@ -46,7 +45,6 @@ pub linkable-within : (P S : ℕ) (words state : List ℕ) → Linkable P S word
 linkable-within P S words state l h = record {
   slots-few = l .slots-few;
   slots-in = l .slots-in;
-  pages-few = linked-page P S words l;
   pages-in = λ k r b e. let p = page-below P S (slotAt words) k r (l .sound) b e in omega arith;
 }
 
@@ -62,10 +60,10 @@ exposedAt words state k = holds (isExposed (stateAt state)) (slotAt words k)
 pub record Searchable (S : ℕ) (words chains found : List ℕ) : Type 0 where
   pub slots-few : S ≤ maxSlots
   pub slots-in : 5 * S ≤ length words
-  pub chained : Chained S (slotAt words) chains
+  pub chained : Chained Pointer S (slotAt words) chains
   pub found-in : (i : ℕ) → i < length found → getD found i 0 < S
 
-pub searchable : (P S : ℕ) (words state chains found : List ℕ) (count : ℕ) → Linkable P S words → Chained S (slotAt words) chains → Noted (exposedAt words state) S found count → Searchable S words chains (take count found)
+pub searchable : (P S : ℕ) (words state chains found : List ℕ) (count : ℕ) → Linkable P S words → Chained Pointer S (slotAt words) chains → Noted (exposedAt words state) S found count → Searchable S words chains (take count found)
 unfolding exposedSlots
 searchable P S words state chains found count l c f = record {
   slots-few = l .slots-few;

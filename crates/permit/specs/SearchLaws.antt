@@ -18,6 +18,7 @@ use Rattle.record.specs.SlotLaws.{holds-exactly}
 use Rattle.table.specs.TableLaws.{holds-of}
 use Rattle.rules.specs.Permission.{isObsolete, isExposed, outdoneBy, isCurrent}
 use Rattle.rules.specs.Found.{neededBy, mayEraseRecordBy}
+use Rattle.chain.specs.declared.Key.the-variants.{Pointer}
 use Rattle.chain.specs.Chain.{chainOf, inChain}
 
 -- ---- what a slot holds
@@ -33,17 +34,17 @@ holds-record f e = rw e
 -- ---- a straddler, judged by what was found
 
 -- a better straddler is in its chain
-pub outdone-in-chain : (t : ℕ → Slot) (K : Record) (k : ℕ) → holds (outdoneBy K) (t k) ≡ true → inChain t (chainOf K) k ≡ true
+pub outdone-in-chain : (t : ℕ → Slot) (K : Record) (k : ℕ) → holds (outdoneBy K) (t k) ≡ true → inChain Pointer t (chainOf Pointer K) k ≡ true
 unfolding inChain outdoneBy chainOf
 outdone-in-chain t K k e =
     let h = holds-exactly (outdoneBy K) (t k) .0 e in
-    holds-of (λ r. eqb (chainOf r) (chainOf K)) (h .1) (same-chain (h .0) (h .2))
+    holds-of (λ r. eqb (chainOf Pointer r) (chainOf Pointer K)) (h .1) (same-chain (h .0) (h .2))
   where
-    same-chain : (r : Record) → outdoneBy K r ≡ true → eqb (chainOf r) (chainOf K) ≡ true
+    same-chain : (r : Record) → outdoneBy K r ≡ true → eqb (chainOf Pointer r) (chainOf Pointer K) ≡ true
     same-chain r q =
         let p = eqb-true (r .p) (K .p) (both-left (eqb (r .p) (K .p)) (eqb (r .c) (K .c) && ltb (K .v) (r .v)) q) in
         let c = eqb-true (r .c) (K .c) (both-left (eqb (r .c) (K .c)) (ltb (K .v) (r .v)) (both-right (eqb (r .p) (K .p)) (eqb (r .c) (K .c) && ltb (K .v) (r .v)) q)) in
-        eq-eqb (chainOf r) (chainOf K) (rw (p, c))
+        eq-eqb (chainOf Pointer r) (chainOf Pointer K) (rw (p, c))
 
 module _ (S : ℕ) (t : ℕ → Slot) (found : List ℕ) (K : Record) where
   -- a better straddler settles it

@@ -13,6 +13,7 @@ ghost use Rattle.state.specs.State.{stateAt};
 ghost use Rattle.rules.specs.Permission.{isObsolete, isExposed, outdoneBy, isCurrent};
 ghost use Rattle.rules.specs.Found.{exposedSlots, neededBy, mayEraseRecordBy, mayEraseBy};
 ghost use Rattle.permit.specs.Prepared.{exposedAt, Within, Searchable};
+use chain::Key;
 use record::Record;
 use record::Slot;
 
@@ -115,7 +116,6 @@ fn is_needed(
 ) -> bool
     requires { ⌜ Searchable slots (now words) (now chains) (now found) ⌝ }
     requires { ⌜ slot < slots ⌝ }
-    requires { ⌜ straddler .p < 256 ⌝ }
     ensures { λ r. ⌜ r ≡ neededBy slots (slotAt (now (words .entry))) (now (found .entry)) straddler ⌝ }
 {
     let mut needed = false;
@@ -125,7 +125,7 @@ fn is_needed(
             if earlier_outdoes(slots, words, chains, slot, straddler) {
                 break 'search;
             }
-            let mut end = chain::chain_end(chains, straddler);
+            let mut end = chain::chain_end(chains, Key::Pointer, straddler);
             while end > 0 {
                 let other = end - 1;
                 if slot_outdoes(words, other, straddler) {
@@ -153,7 +153,6 @@ fn may_erase_record(
 ) -> bool
     requires { ⌜ Searchable slots (now words) (now chains) (now found) ⌝ }
     requires { ⌜ slot < slots ⌝ }
-    requires { ⌜ «record» .p < 256 ⌝ }
     requires { ⌜ 4 * «record» .p + 4 ≤ length (now state) ⌝ }
     ensures { λ r. ⌜ r ≡ mayEraseRecordBy slots (slotAt (now (words .entry))) (stateAt (now (state .entry))) (now (found .entry)) «record» ⌝ }
 {

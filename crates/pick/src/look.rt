@@ -1,7 +1,9 @@
 // What the blocks that are looked at free. The slots are chained and the exposed records found once, then the slots of these blocks are judged, and no others.
 
 use super::Freed;
+use chain::Key;
 use sizes::Block;
+use sizes::Layout;
 use sizes::Sizes;
 use sizes::blocks;
 ghost use mathlib.Core.Path.{_≡_};
@@ -110,7 +112,13 @@ pub fn best(
     ensures { λ r. ⌜ r ≡ bestBy (named (now (starts .entry)) block) looked (frees sizes (volume (now (words .entry)) (now (contents .entry)) (now (state .entry)))) ⌝ }
 {
     let mut chains = [0u16; 2048];
-    chain::link_slots(sizes, words, &mut chains);
+    chain::link_slots(
+        Layout::FiveWords,
+        Key::Pointer,
+        sizes.slots,
+        words,
+        &mut chains,
+    );
     let mut found = [0u16; 1024];
     let count = permit::find_exposed(sizes.slots, words, state, &mut found);
     best_found(

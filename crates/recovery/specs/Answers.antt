@@ -33,27 +33,8 @@ use Rattle.rules.specs.Simple.{simpleWalkOf, hasCommitted, simpleRecovered}
 use Rattle.rules.specs.SimpleCalls.{simpleRecoverAnswer, simpleLinksOf, simpleRecoverOutcome}
 use Rattle.rules.specs.laws.Volume.{fits-facts}
 use Rattle.rules.specs.laws.Families.{recoveredIn}
-use Rattle.recovery.specs.Committed.{walkIn, linksIn, committedIn, committed-five, committed-four, four-there, four-version}
-
--- the answer by the links, where each page has a record
-unfoldable pub linksAnswer : Layout → (P S : ℕ) → (ℕ → Slot) → ℕ
-linksAnswer layout P S t =
-    someBelow P (λ p. isAstray (walkIn layout P S t p .end)) ⇒ 4 otherwise
-    not (allBelow P (λ p. hasVersion S t p (committedIn layout P S t p))) ⇒ 14 otherwise
-    0
-
-module _ (layout : Layout) (P S : ℕ) (t : ℕ → Slot) where
-  pub links-astray : someBelow P (λ p. isAstray (walkIn layout P S t p .end)) ≡ true → 4 ≡ linksAnswer layout P S t
-  unfolding linksAnswer
-  links-astray a = rw a
-
-  pub version-missing : someBelow P (λ p. isAstray (walkIn layout P S t p .end)) ≡ false → allBelow P (λ p. hasVersion S t p (committedIn layout P S t p)) ≡ false → 14 ≡ linksAnswer layout P S t
-  unfolding linksAnswer
-  version-missing a b = rw (a, b)
-
-  pub versions-there : someBelow P (λ p. isAstray (walkIn layout P S t p .end)) ≡ false → allBelow P (λ p. hasVersion S t p (committedIn layout P S t p)) ≡ true → 0 ≡ linksAnswer layout P S t
-  unfolding linksAnswer
-  versions-there a b = rw (a, b)
+use Rattle.links.specs.Answer.{linksAnswer}
+use Rattle.links.specs.Committed.{walkIn, linksIn, committedIn, committed-five, committed-four, four-there, four-version}
 
 -- the answer by the records of a sound table, where no two conflict
 unfoldable pub recordsAnswer : Layout → (P S : ℕ) → (ℕ → Slot) → ℕ
@@ -206,13 +187,14 @@ simple-outcome widths sizes words state =
 pub record RecoverFits (layout : Layout) (P S : ℕ) (words state : List ℕ) : Type 0 where
   pub slots-in : strideOf layout * S ≤ length words
   pub pages-most : P ≤ 256
+  pub slots-most : S ≤ 1024
   pub state-sized : length state ≡ 4 * P
 
 pub recover-fits : (widths : Widths) (sizes : Sizes) (v : Volume) → volumeFits widths sizes v ≡ true → RecoverFits FiveWords (sizes .pages) (sizes .slots) (v .flash .words) (v .state)
 recover-fits widths sizes v e =
     let f = fits-facts widths sizes v e in
     let w = f .flash-sized .words-sized in
-    record { slots-in = omega arith; pages-most = f .bounds .pages-most; state-sized = f .state-sized }
+    record { slots-in = omega arith; pages-most = f .bounds .pages-most; slots-most = f .bounds .slots-most; state-sized = f .state-sized }
 
 pub simple-fits : (widths : Widths) (sizes : Sizes) (words state : List ℕ) → (sizesOk widths sizes && (wordsFitIn FourWords (sizes .slots) words && stateFits (sizes .pages) state)) ≡ true → RecoverFits FourWords (sizes .pages) (sizes .slots) words state
 simple-fits widths sizes words state e =
@@ -221,4 +203,4 @@ simple-fits widths sizes words state e =
     let f = both-right (sizesOk widths sizes) (words-test && state-test) e in
     let s = sizes-facts widths sizes (both-left (sizesOk widths sizes) (words-test && state-test) e) .0 in
     let w = words-fit-in FourWords (sizes .slots) words .0 (both-left words-test state-test f) in
-    record { slots-in = omega arith; pages-most = s .pages-most; state-sized = state-fits-exactly (sizes .pages) state .0 (both-right words-test state-test f) }
+    record { slots-in = omega arith; pages-most = s .pages-most; slots-most = s .slots-most; state-sized = state-fits-exactly (sizes .pages) state .0 (both-right words-test state-test f) }

@@ -1,3 +1,1 @@
-pub mod Committed
-pub mod Tables
 pub mod Answers

@@ -14,7 +14,7 @@ ghost use Rattle.state.specs.Change.{atRest};
 ghost use Rattle.state.specs.State.{stateWords};
 ghost use Rattle.table.specs.Table.{tableSound};
 ghost use Rattle.rules.specs.laws.Families.{recoveredIn};
-ghost use Rattle.recovery.specs.Committed.{committedIn};
+ghost use Rattle.links.specs.Committed.{committedIn};
 ghost use Rattle.recovery.specs.Answers.{recordsAnswer};
 
 // Each page at rest, with its versions by the tables.

@@ -1,8 +1,5 @@
-// Recovery: one link's verdict, following links, committed and used, recover. The definitions are in crate rules.
+// Recovery: the answer by records and links, the state filled in, recover. The definitions are in crate rules.
 
-mod link; // link.rt: one link's verdict
-mod second; // second.rt: the second highest version
-mod committed; // committed.rt: following verdicts, committed versions
 mod fill; // fill.rt: the state filled in
 pub mod simple; // simple.rt: recover of records without a back pointer
 
@@ -21,7 +18,7 @@ ghost use Rattle.record.specs.Slot.{slotIn};
 ghost use Rattle.table.specs.Table.{tableSound};
 ghost use Rattle.rules.specs.Volume.{volume};
 ghost use Rattle.rules.specs.Recover.{recoverOutcome};
-ghost use Rattle.recovery.specs.Committed.{linksIn, committedIn};
+ghost use Rattle.links.specs.Committed.{linksIn, committedIn};
 ghost use Rattle.recovery.specs.Answers.{recordsAnswer, recoveredOutcome};
 use sizes::Layout;
 use sizes::Sizes;
@@ -42,9 +39,16 @@ fn records_present(sizes: Sizes, top: &[u32; 256]) -> bool
 }
 
 // The answer by the records of a sound table, 3 to 14, where no two conflict; of an accepted table the links followed, and its committed versions are filled in.
-fn records_answer(layout: Layout, sizes: Sizes, words: &[u32], committed: &mut [u32; 256]) -> u64
+fn records_answer(
+    layout: Layout,
+    sizes: Sizes,
+    words: &[u32],
+    chains: &mut [u16; 2048],
+    committed: &mut [u32; 256],
+) -> u64
     requires { ⌜ strideOf layout * sizes .slots ≤ length (now words) ⌝ }
     requires { ⌜ sizes .pages ≤ 256 ⌝ }
+    requires { ⌜ sizes .slots ≤ 1024 ⌝ }
     requires { ⌜ tableSound (sizes .pages) (sizes .slots) (slotIn layout (now words)) ≡ true ⌝ }
     ensures { λ r. ⌜ Settles r (recordsAnswer layout (sizes .pages) (sizes .slots) (slotIn layout (now (words .entry)))) 0 (linksIn layout (sizes .pages) (sizes .slots) (slotIn layout (now (words .entry)))) ⌝ }
     ensures { λ r. ⌜ (r % 2 ^ 32 ≡ 0 → now (committed .exit) ≡ tabulate 256 (committedIn layout (sizes .pages) (sizes .slots) (slotIn layout (now (words .entry))))) ⌝ }
@@ -54,20 +58,27 @@ fn records_answer(layout: Layout, sizes: Sizes, words: &[u32], committed: &mut [
     if !records_present(sizes, &top) {
         return outcome::reply(3, 0);
     }
-    committed::links_answer(layout, sizes, words, &top, committed)
+    links::committed::links_answer(layout, sizes, words, &top, chains, committed)
 }
 
 // "Recover: fills the sheet from the slot table; the old sheet may hold anything", and the links followed are counted: of a sound table in which no two records
 // conflict, in either layout. Nothing is stored before every refusal is tried.
-fn recover_sound(layout: Layout, sizes: Sizes, words: &[u32], state: &mut [u32]) -> u64
+fn recover_sound(
+    layout: Layout,
+    sizes: Sizes,
+    words: &[u32],
+    chains: &mut [u16; 2048],
+    state: &mut [u32],
+) -> u64
     requires { ⌜ strideOf layout * sizes .slots ≤ length (now words) ⌝ }
     requires { ⌜ sizes .pages ≤ 256 ⌝ }
+    requires { ⌜ sizes .slots ≤ 1024 ⌝ }
     requires { ⌜ tableSound (sizes .pages) (sizes .slots) (slotIn layout (now words)) ≡ true ⌝ }
     requires { ⌜ length (now state) ≡ 4 * sizes .pages ⌝ }
     ensures { λ r. ⌜ returned r (now (state .exit)) ≡ recoveredOutcome layout (sizes .pages) (sizes .slots) (slotIn layout (now (words .entry))) (now (state .entry)) ⌝ }
 {
     let mut committed = [0; 256];
-    let reply = records_answer(layout, sizes, words, &mut committed);
+    let reply = records_answer(layout, sizes, words, chains, &mut committed);
     if outcome::answer_of(reply) != 0 {
         return reply;
     }
@@ -85,8 +96,9 @@ pub fn recover(sizes: Sizes, words: &[u32], contents: &[u8], state: &mut [u32]) 
     if !table::table_sound(Layout::FiveWords, sizes, words) {
         return outcome::reply(2, 0);
     }
-    if twins::some_conflict(sizes, words, contents) {
+    let mut chains = [0; 2048];
+    if conflict::some_conflict(sizes, words, contents, &mut chains) {
         return outcome::reply(3, 0);
     }
-    recover_sound(Layout::FiveWords, sizes, words, state)
+    recover_sound(Layout::FiveWords, sizes, words, &mut chains, state)
 }

@@ -18,8 +18,9 @@ pub fn recover(sizes: Sizes, words: &[u32], state: &mut [u32]) -> u64
     if !table::table_sound(Layout::FourWords, sizes, words) {
         return outcome::reply(2, 0);
     }
-    if table::some_clash(Layout::FourWords, sizes.slots, words) {
+    let mut chains = [0; 2048];
+    if conflict::some_clash(Layout::FourWords, sizes.slots, words, &mut chains) {
         return outcome::reply(3, 0);
     }
-    recover_sound(Layout::FourWords, sizes, words, state)
+    recover_sound(Layout::FourWords, sizes, words, &mut chains, state)
 }

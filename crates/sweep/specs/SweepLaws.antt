@@ -50,7 +50,6 @@ module _ (sizes : Sizes) (words contents : List ℕ) (q : ℕ → Bool) where
       let length-is = size .words-sized in
       record {
         linkable = record {
-          pages-few = s .linkable .pages-few;
           slots-few = s .linkable .slots-few;
           slots-in = omega arith;
           sound = subst (λ (g : Flash). tableSound (sizes .pages) (sizes .slots) (slotAt (g .words)) ≡ true) (sym e)

@@ -1,8 +1,10 @@
 // The slots that each of the three erasures takes, rising.
 
+use chain::Key;
 use judge::choose;
 use record::Slot;
 use sizes::Block;
+use sizes::Layout;
 use sizes::Sizes;
 ghost use mathlib.Core.Path.{_≡_};
 ghost use mathlib.Core.Bool.{_&&_};
@@ -108,7 +110,13 @@ pub fn find_obsolete(sizes: Sizes, words: &[u32], state: &[u32], list: &mut [u16
         && mayErase (sizes .slots) (slotAt (now (words .entry))) (stateAt (now (state .entry))) k) (sizes .slots) (now (list .exit)) r ⌝ }
 {
     let mut chains = [0u16; 2048];
-    chain::link_slots(sizes, words, &mut chains);
+    chain::link_slots(
+        Layout::FiveWords,
+        Key::Pointer,
+        sizes.slots,
+        words,
+        &mut chains,
+    );
     let mut found = [0u16; 1024];
     let count = permit::find_exposed(sizes.slots, words, state, &mut found);
     note_obsolete(sizes.slots, words, state, &chains, &found[..count], list)
@@ -165,6 +173,12 @@ pub fn find_twins(sizes: Sizes, words: &[u32], contents: &[u8], list: &mut [u16;
     ensures { λ r. ⌜ Noted (isHigherTwin (twins (sizes .width) (flash (now (words .entry)) (now (contents .entry))))) (sizes .slots) (now (list .exit)) r ⌝ }
 {
     let mut chains = [0u16; 2048];
-    chain::link_slots(sizes, words, &mut chains);
+    chain::link_slots(
+        Layout::FiveWords,
+        Key::Pointer,
+        sizes.slots,
+        words,
+        &mut chains,
+    );
     note_twins(sizes, words, contents, &chains, list)
 }

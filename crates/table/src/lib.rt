@@ -1,4 +1,4 @@
-// The slot table: soundness, equal page and version, the lowest slot of a version, each page's highest record and used version.
+// The slot table: soundness, the lowest slot of a version, each page's highest record and used version.
 // The definitions are in specs/.
 pub mod used; // used.rt: the used versions of all pages
 
@@ -7,10 +7,9 @@ ghost use Prim.Native.Nat.{_+_, _*_, _≤_, _<_};
 ghost use lib.ListN.{length};
 ghost use Rattle.record.specs.Slot.{slotIn, holds};
 ghost use Rattle.sizes.specs.Sizes.{strideOf};
-ghost use mathlib.Core.Bool.{true};
-ghost use Rattle.bounded.specs.Below.{someBelow};
+ghost use mathlib.Core.Bool.{true, false};
 ghost use Rattle.bounded.specs.Tabulate.{tabulate};
-ghost use Rattle.table.specs.Table.{tableSound, ofVersion, clash, someClash, lowestSlot, above};
+ghost use Rattle.table.specs.Table.{tableSound, ofVersion, lowestSlot, above};
 ghost use Rattle.table.specs.HighestSlot.{named, highestSlot};
 use record::Record;
 use record::Slot;
@@ -45,6 +44,21 @@ pub fn holds_version(slot: Slot, page: u32, version: u32) -> bool
     record.v == version
 }
 
+// The slot's first two words are the page and the version: where they are not, it holds no record of the two.
+fn names_version(layout: Layout, words: &[u32], slot: u32, page: u32, version: u32) -> bool
+    requires { ⌜ strideOf layout * slot + strideOf layout ≤ length (now words) ⌝ }
+    ensures { λ r. ⌜ (r ≡ false → holds (ofVersion page version) (slotIn layout (now (words .entry)) slot) ≡ false) ⌝ }
+{
+    let at = layout.stride() * (slot as usize);
+    if words[at] != page {
+        return false;
+    }
+    if words[at + 1] != version {
+        return false;
+    }
+    true
+}
+
 // "the lowest slot holding the page at" a version; the number of slots where there is none.
 pub fn lowest_slot(layout: Layout, slots: u32, words: &[u32], page: u32, version: u32) -> u32
     requires { ⌜ strideOf layout * slots ≤ length (now words) ⌝ }
@@ -52,53 +66,14 @@ pub fn lowest_slot(layout: Layout, slots: u32, words: &[u32], page: u32, version
 {
     let mut k = 0;
     while k < slots {
-        if holds_version(record::slot_in(layout, words, k), page, version) {
-            return k;
+        if names_version(layout, words, k, page, version) {
+            if holds_version(record::slot_in(layout, words, k), page, version) {
+                return k;
+            }
         }
         k += 1;
     }
     slots
-}
-
-// "two records with equal page and version"
-pub fn clashes(a: Slot, b: Slot) -> bool
-    ensures { λ r. ⌜ r ≡ clash a b ⌝ }
-{
-    let Slot::Holds(record) = b else {
-        return false;
-    };
-    holds_version(a, record.p, record.v)
-}
-
-// Some slot below k clashes with slot k.
-fn some_clash_below(layout: Layout, words: &[u32], k: u32) -> bool
-    requires { ⌜ strideOf layout * k + strideOf layout ≤ length (now words) ⌝ }
-    ensures { λ r. ⌜ r ≡ someBelow k (λ j. clash (slotIn layout (now (words .entry)) j) (slotIn layout (now (words .entry)) k)) ⌝ }
-{
-    let slot = record::slot_in(layout, words, k);
-    let mut j = 0;
-    while j < k {
-        if clashes(record::slot_in(layout, words, j), slot) {
-            return true;
-        }
-        j += 1;
-    }
-    false
-}
-
-// Two slots of the table clash.
-pub fn some_clash(layout: Layout, slots: u32, words: &[u32]) -> bool
-    requires { ⌜ strideOf layout * slots ≤ length (now words) ⌝ }
-    ensures { λ r. ⌜ r ≡ someClash slots (slotIn layout (now (words .entry))) ⌝ }
-{
-    let mut k = 0;
-    while k < slots {
-        if some_clash_below(layout, words, k) {
-            return true;
-        }
-        k += 1;
-    }
-    false
 }
 
 // What a slot number names: the slot, or blank where it is no slot of the table.

@@ -148,14 +148,13 @@ module _ (w : ℕ) (f : Flash) where
         let b = some-not-at (λ j. clash (slotAt (f .words) j) (slotAt (f .words) i) && not (twins w f j i)) i j a l in
         on-test (twins w f j i) (λ y. y) (λ n. absurd (never (both e (not-no n)) b))
 
-    -- so the first slot of equal page and version with k's tells whether one conflicts with k.
-    pub first-tells :
+    -- so one slot of equal page and version with k's tells whether any conflicts with k.
+    pub one-tells :
         (j : ℕ)
         → j < k
-        → someBelow j (λ i. clash (slotAt (f .words) i) (slotAt (f .words) k)) ≡ false
         → clash (slotAt (f .words) j) (slotAt (f .words) k) ≡ true
         → not (twins w f j k) ≡ someBelow k (λ i. clash (slotAt (f .words) i) (slotAt (f .words) k) && not (twins w f i k))
-    first-tells j h first e =
+    one-tells j h e =
         on-test (twins w f j k)
         (λ y. rw y (sym (some-none _ k (λ i l. on-test (clash (slotAt (f .words) i) (slotAt (f .words) k)) (λ c. rw (c, others y i l c)) (λ n. rw n)))))
         (λ n. not-no n ∙ sym (some-of _ k j h (both e (not-no n))))
@@ -163,7 +162,7 @@ module _ (w : ℕ) (f : Flash) where
         others : twins w f j k ≡ true → (i : ℕ) → i < k → clash (slotAt (f .words) i) (slotAt (f .words) k) ≡ true → twins w f i k ≡ true
         others y i l c =
             on-lt i j
-            (λ m. absurd (never c (some-not-at (λ i. clash (slotAt (f .words) i) (slotAt (f .words) k)) j i first m)))
+            (λ m. twins-trans i j k (clash-twins i j m h (clash-shared (slotAt (f .words) i) (slotAt (f .words) j) (slotAt (f .words) k) c e)) y)
             (λ m. on-eq i j
             (λ q. ap (λ (n : ℕ). twins w f n k) q ∙ y)
             (λ q. twins-trans i j k (twins-sym i j ∙ clash-twins j i (omega arith) l (clash-shared (slotAt (f .words) j) (slotAt (f .words) i) (slotAt (f .words) k) e c)) y))

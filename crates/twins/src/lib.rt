@@ -1,16 +1,12 @@
-// Twins: records in two slots, equal in all words and bytes; and records of equal page and version that are none. The definitions are in specs/.
+// Twins: records in two slots, equal in all words and bytes. The definitions are in specs/, and those of records of equal page and version that are none.
 ghost use mathlib.Core.Path.{_≡_};
-ghost use mathlib.Core.Bool.{false, not, _&&_};
 ghost use Prim.Native.Nat.{_+_, _*_, _≤_};
 ghost use lib.ListN.{length};
-ghost use Rattle.bounded.specs.Below.{someBelow};
-ghost use Rattle.record.specs.Slot.{slotAt, bytesAt};
+ghost use Rattle.record.specs.Slot.{bytesAt};
 ghost use Rattle.record.specs.Flash.{flash};
-ghost use Rattle.table.specs.Table.{clash};
-ghost use Rattle.twins.specs.Twins.{sameWords, sameRecord, sameBytes, twins, someConflict};
+ghost use Rattle.twins.specs.Twins.{sameWords, sameRecord, sameBytes, twins};
 use record::Record;
 use record::Slot;
-use sizes::Sizes;
 
 // The records are equal in all words.
 fn same_words(a: Record, b: Record) -> bool
@@ -75,38 +71,4 @@ pub fn are_twins(width: u32, words: &[u32], contents: &[u8], j: u32, k: u32) -> 
         return false;
     }
     same_bytes(width, contents, j, k)
-}
-
-// Some slot below k conflicts with slot k, where no two below k do: then "equal page and version" below k are twins, so the first such slot tells for all.
-fn some_conflict_below(width: u32, words: &[u32], contents: &[u8], k: u32) -> bool
-    requires { ⌜ 5 * k + 5 ≤ length (now words) ⌝ }
-    requires { ⌜ width * k + width ≤ length (now contents) ⌝ }
-    requires { ⌜ someConflict k (slotAt (now words)) (twins width (flash (now words) (now contents))) ≡ false ⌝ }
-    ensures { λ r. ⌜ r ≡ someBelow k (λ j. clash (slotAt (now (words .entry)) j) (slotAt (now (words .entry)) k) && not (twins width (flash (now (words .entry)) (now (contents .entry))) j k)) ⌝ }
-{
-    let slot = record::slot_at(words, k);
-    let mut j = 0;
-    while j < k {
-        if table::clashes(record::slot_at(words, j), slot) {
-            return !are_twins(width, words, contents, j, k);
-        }
-        j += 1;
-    }
-    false
-}
-
-// Two slots of the table conflict.
-pub fn some_conflict(sizes: Sizes, words: &[u32], contents: &[u8]) -> bool
-    requires { ⌜ 5 * sizes .slots ≤ length (now words) ⌝ }
-    requires { ⌜ sizes .width * sizes .slots ≤ length (now contents) ⌝ }
-    ensures { λ r. ⌜ r ≡ someConflict (sizes .slots) (slotAt (now (words .entry))) (twins (sizes .width) (flash (now (words .entry)) (now (contents .entry)))) ⌝ }
-{
-    let mut k = 0;
-    while k < sizes.slots {
-        if some_conflict_below(sizes.width, words, contents, k) {
-            return true;
-        }
-        k += 1;
-    }
-    false
 }

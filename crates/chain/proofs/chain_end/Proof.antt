@@ -14,7 +14,8 @@ mul-wide : tie.Need-mul-wide
 mul-wide c = search needs
 
 element-copy-out-wide : tie.Need-element-copy-out-wide
-element-copy-out-wide c = let b = chain-below (c .before .args .«record») (c .before .pre) in let e = c .chain-of .ensures in omega arith
+element-copy-out-wide c =
+    let a = c .before .args in let e = c .chain-of .ensures in omega (arith, chain-below (a .key) (a .«record»))
 
 wide-requires : tie.Need-wide-requires
 wide-requires c κs = search needs

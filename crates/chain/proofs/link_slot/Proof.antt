@@ -1,13 +1,13 @@
--- A blank slot changes nothing; a record's chain is one of 1,024 in a sound table.
+-- A blank slot changes nothing; a record's chain is one of 1,024.
 use borrow.Author.Needs.{needs}
 use native.Mathlib.Omega.{arith}
 use mathlib.Core.Path.{sym, _∙_}
-use Rattle.chain.specs.ChainLaws.{linked-page, chain-below, chained-blank, chained-record}
+use Rattle.chain.specs.ChainLaws.{chain-below, chained-blank, chained-record}
 use Rattle.chain.proofs.link_slot.Statement.{statement}
 use Rattle.chain.proofs.link_slot.Tie as tie
 
-slot-at-requires : tie.Need-slot-at-requires
-slot-at-requires c κs = search needs
+slot-in-requires : tie.Need-slot-in-requires
+slot-in-requires c κs = search needs
 
 enum-known-record : tie.Need-enum-known-record
 enum-known-record c = search needs
@@ -17,12 +17,10 @@ enum-told c = search needs
 
 returns : tie.Need-returns
 returns c =
-    chained-blank _ _ _ (c .before .before .before .before .pre .1 .1) (sym (c .before .before .slot-at .ensures) ∙ c .enum-told .given .1)
+    chained-blank _ _ _ _ (c .before .before .before .before .pre .1 .1) (sym (c .before .before .slot-in .ensures) ∙ c .enum-told .given .1)
 
 chain-of-requires : tie.Need-chain-of-requires
-chain-of-requires c κs =
-    let p = c .before .before .before .before .before .pre in
-    linked-page _ _ _ (p .0) _ _ (p .1 .0) (sym (c .before .before .before .slot-at .ensures) ∙ c .before .«record» .given .1)
+chain-of-requires c κs = search needs
 
 cast-chain : tie.Need-cast-chain
 cast-chain c = search needs
@@ -36,10 +34,8 @@ mul-chains c = search needs
 element-copy-out-chains : tie.Need-element-copy-out-chains
 element-copy-out-chains c =
     let b = c .before .before in
-    let p = b .before .before .before .before .pre in
-    let l = chain-below (b .«record» .given .0 .0) (linked-page _ _ _ (p .0) _ _ (p .1 .0) (sym (b .before .before .slot-at .ensures) ∙ b .«record» .given .1)) in
     let e = c .chain-of .ensures in
-    omega arith
+    omega (arith, chain-below (b .before .before .before .before .args .key) (b .«record» .given .0 .0))
 
 mul-chains-2 : tie.Need-mul-chains-2
 mul-chains-2 c = search needs
@@ -59,25 +55,21 @@ mul-chains-3 c = search needs
 element-write-chains-2 : tie.Need-element-write-chains-2
 element-write-chains-2 c =
     let b = c .before .before .before in
-    let p = b .before .before .before .before .pre in
-    let l = chain-below (b .«record» .given .0 .0) (linked-page _ _ _ (p .0) _ _ (p .1 .0) (sym (b .before .before .slot-at .ensures) ∙ b .«record» .given .1)) in
     let e = c .before .chain-of .ensures in
-    omega arith
+    omega (arith, chain-below (b .before .before .before .before .args .key) (b .«record» .given .0 .0))
 
 returns-2 : tie.Need-returns-2
 returns-2 c =
     let b = c .before .before .before in
     let p = b .before .before .before .before .pre in
-    let m = p .0 .slots-few in
-    let holds = sym (b .before .before .slot-at .ensures) ∙ b .«record» .given .1 in
     rw (c .before .chain-of .ensures)
-    (chained-record _ _ _ (p .1 .1) (b .«record» .given .0 .0) holds (chain-below _ (linked-page _ _ _ (p .0) _ _ (p .1 .0) holds)) (omega arith))
+    (chained-record _ _ _ _ (p .1 .1) (b .«record» .given .0 .0) (sym (b .before .before .slot-in .ensures) ∙ b .«record» .given .1) (p .1 .0))
 
 pub link-slot-spec : {M : Type 1} → statement M
 link-slot-spec =
     tie.close
     (tie.spec
-    slot-at-requires
+    slot-in-requires
     enum-known-record
     enum-told
     returns

@@ -8,8 +8,9 @@ use Rattle.record.specs.declared.Record.{Record}
 use Rattle.record.specs.declared.Slot.the-variants.{Holds}
 use Rattle.record.specs.Slot.{slotAt}
 use Rattle.record.specs.Flash.{flash}
+use Rattle.chain.specs.declared.Key.the-variants.{Pointer}
 use Rattle.chain.specs.Chain.{chainOf}
-use Rattle.chain.specs.ChainLaws.{Left, linked-page, chain-below, search-begins, search-goes-on, search-falls, search-ends}
+use Rattle.chain.specs.ChainLaws.{Left, chain-below, search-begins, search-goes-on, search-falls, search-ends}
 use Rattle.rules.specs.Permission.{twinOutside}
 use Rattle.judge.specs.Marked.{marked}
 use Rattle.judge.specs.JudgeLaws.{outside, outside-in-chain, blank-none-outside}
@@ -19,7 +20,7 @@ use Rattle.judge.proofs.twin_outside.Tie as tie
 abbrev Inv-loop : tie.InvT-loop
 Inv-loop sizes words contents chains marks slot end₀ end =
     (r : Record) × (slotAt words slot ≡ Holds r)
-    × Left (sizes .slots) (slotAt words) (chainOf r) (outside (sizes .width) (flash words contents) (marked marks) slot) end
+    × Left Pointer (sizes .slots) (slotAt words) (chainOf Pointer r) (outside (sizes .width) (flash words contents) (marked marks) slot) end
 
 abbrev μ-loop : tie.MeasureT-loop
 μ-loop sizes words contents chains marks slot end₀ end = end
@@ -37,16 +38,14 @@ returns : tie.Need-returns Inv-loop μ-loop
 returns c = sym (blank-none-outside _ _ _ _ _ (sym (c .before .before .slot-at .ensures) ∙ c .enum-told .given .1))
 
 chain-end-requires : tie.Need-chain-end-requires Inv-loop μ-loop
-chain-end-requires c κs =
-    let p = c .before .before .before .before .before .before .pre in
-    linked-page _ _ _ (p .0 .linkable) _ _ (p .1) (sym (c .before .before .before .slot-at .ensures) ∙ c .before .«record» .given .1)
+chain-end-requires c κs = tt
 
 loop-holds : tie.Need-loop-holds Inv-loop μ-loop
 loop-holds c =
     let p = c .before .before .before .before .before .before .before .pre in
     let holds = sym (c .before .before .before .before .slot-at .ensures) ∙ c .before .before .«record» .given .1 in
     let a = c .before .before .before .before .before .before .before .args in
-    (_, holds, rw (c .chain-end .ensures) (search-begins _ _ _ (p .0 .chained) _ _ (outside-in-chain (a .sizes .width) (flash (a .words .now) (a .contents .now)) (marked (a .marks .now)) (a .slot) holds) (chain-below _ (linked-page _ _ _ (p .0 .linkable) _ _ (p .1) holds))))
+    (_, holds, rw (c .chain-end .ensures) (search-begins _ _ _ (p .0 .chained) _ _ (outside-in-chain (a .sizes .width) (flash (a .words .now) (a .contents .now)) (marked (a .marks .now)) (a .slot) holds) (chain-below _ _)))
 
 sub-other : tie.Need-sub-other Inv-loop μ-loop
 sub-other c = omega arith

@@ -9,6 +9,7 @@ use Rattle.bounded.specs.Below.{someBelow}
 use Rattle.bounded.specs.BelowLaws.{some-of, some-zero, some-more}
 use Rattle.record.specs.Slot.{holds, straddles, slotAt}
 use Rattle.rules.specs.Permission.{outdoneBy}
+use Rattle.chain.specs.declared.Key.the-variants.{Pointer}
 use Rattle.chain.specs.Chain.{chainOf}
 use Rattle.chain.specs.ChainLaws.{Left, chain-below, search-begins, search-goes-on, search-falls, search-ends}
 use Rattle.permit.specs.SearchLaws.{outdone-in-chain, outdone-not-needed, straddled-needed, nothing-straddled}
@@ -17,7 +18,7 @@ use Rattle.permit.proofs.is_needed.Tie as tie
 
 abbrev Inv-loop : tie.InvT-loop
 Inv-loop slots words chains found slot straddler needed i end₀ end =
-    Left slots (slotAt words) (chainOf straddler) (λ k. holds (outdoneBy straddler) (slotAt words k)) end
+    Left Pointer slots (slotAt words) (chainOf Pointer straddler) (λ k. holds (outdoneBy straddler) (slotAt words k)) end
 
 abbrev μ-loop : tie.MeasureT-loop
 μ-loop slots words chains found slot straddler needed i end₀ end = end
@@ -56,12 +57,12 @@ earlier-outdoes-requires c κs =
     (p .0 .slots-in, omega arith)
 
 chain-end-requires : tie.Need-chain-end-requires Inv-loop μ-loop Inv-search μ-search
-chain-end-requires c κs = c .before .before .before .before .before .before .before .before .before .pre .1 .1
+chain-end-requires c κs = tt
 
 loop-holds : tie.Need-loop-holds Inv-loop μ-loop Inv-search μ-search
 loop-holds c =
     let p = c .before .before .before .before .before .before .before .before .before .before .pre in
-    rw (c .chain-end .ensures) (search-begins _ _ _ (p .0 .chained) _ _ (outdone-in-chain _ _) (chain-below _ (p .1 .1)))
+    rw (c .chain-end .ensures) (search-begins _ _ _ (p .0 .chained) _ _ (outdone-in-chain _ _) (chain-below _ _))
 
 sub-other : tie.Need-sub-other Inv-loop μ-loop Inv-search μ-search
 sub-other c = omega arith

@@ -23,7 +23,7 @@ may-erase-record-requires : tie.Need-may-erase-record-requires
 may-erase-record-requires c κs =
     let p = c .before .before .before .before .before .before .before .pre in
     let holds = sym (c .before .before .before .slot-at .ensures) ∙ c .before .«record» .given .1 in
-    (p .0, (p .1 .1, (p .1 .0 .pages-few _ _ (p .1 .1) holds, p .1 .0 .pages-in _ _ (p .1 .1) holds)))
+    (p .0, (p .1 .1, p .1 .0 .pages-in _ _ (p .1 .1) holds))
 
 returns-2 : tie.Need-returns-2
 unfolding mayEraseBy

@@ -3,7 +3,7 @@ use native.Mathlib.Omega.{arith}
 use mathlib.Core.Path.{sym, _∙_}
 use Rattle.bounded.specs.Choice.{said-no, said-yes}
 use Rattle.outcome.specs.Reply.{reply-refused, reply-answer, settles-same}
-use Rattle.recovery.specs.Tables.{Surveyed, tops-records}
+use Rattle.links.specs.Tables.{Surveyed, tops-records}
 use Rattle.recovery.specs.Answers.{record-missing, answer-by-links}
 use Rattle.recovery.proofs.records_answer.Statement.{statement}
 use Rattle.recovery.proofs.records_answer.Tie as tie
@@ -23,7 +23,7 @@ returns c =
     let a = h .before .before .before .args in
     let pre = h .before .before .before .pre in
     let s : Surveyed (a .layout) (a .sizes .pages) (a .sizes .slots) (a .words .now) (h .highest-slots .last .1 .1 .1 .0) =
-    record { sized = pre .0; pages-most = pre .1 .0; sound = pre .1 .1; tops = h .highest-slots .ensures } in (
+    record { sized = pre .0; pages-most = pre .1 .0; slots-most = pre .1 .1 .0; sound = pre .1 .1 .1; tops = h .highest-slots .ensures } in (
       reply-refused _ 3 0 _ _ _ (c .reply .ensures)
           (record-missing _ _ _ _ (sym (tops-records _ _ _ _ _ s) ∙ said-no (c .before .before .records-present .ensures) (c .before .if1 .taken)))
           (λ e. omega arith),
@@ -32,18 +32,18 @@ returns c =
 
 links-answer-requires : tie.Need-links-answer-requires
 links-answer-requires c κs =
-    let h = c .before .before .before .before .before in
+    let h = c .before .before .before .before .before .before in
     let pre = h .before .before .before .pre in
-    record { sized = pre .0; pages-most = pre .1 .0; sound = pre .1 .1; tops = h .highest-slots .ensures }
+    record { sized = pre .0; pages-most = pre .1 .0; slots-most = pre .1 .1 .0; sound = pre .1 .1 .1; tops = h .highest-slots .ensures }
 
 returns-2 : tie.Need-returns-2
 returns-2 c =
-    let h = c .before .before .before .before .before .before in
+    let h = c .before .before .before .before .before .before .before in
     let a = h .before .before .before .args in
     let pre = h .before .before .before .pre in
     let s : Surveyed (a .layout) (a .sizes .pages) (a .sizes .slots) (a .words .now) (h .highest-slots .last .1 .1 .1 .0) =
-    record { sized = pre .0; pages-most = pre .1 .0; sound = pre .1 .1; tops = h .highest-slots .ensures } in
-    let d = c .before .before .before in (
+    record { sized = pre .0; pages-most = pre .1 .0; slots-most = pre .1 .1 .0; sound = pre .1 .1 .1; tops = h .highest-slots .ensures } in
+    let d = c .before .before .before .before in (
       settles-same _ _ _ _ (c .links-answer .ensures .0)
           (answer-by-links _ _ _ _ (sym (tops-records _ _ _ _ _ s) ∙ said-yes (d .before .records-present .ensures) (d .if1 .left))),
       c .links-answer .ensures .1,

@@ -42,10 +42,10 @@ returns-2 c =
 
 some-conflict-requires : tie.Need-some-conflict-requires
 some-conflict-requires c κs =
-    let f = fits-facts _ _ _ (said-yes (c .before .before .before .volume-fits .ensures) (c .before .before .if1 .left)) .flash-sized in
-    let w = f .words-sized in
-    let b = f .contents-sized in
-    (omega arith, omega arith)
+    let f = fits-facts _ _ _ (said-yes (c .before .before .before .before .volume-fits .ensures) (c .before .before .before .if1 .left)) in
+    let w = f .flash-sized .words-sized in
+    let b = f .flash-sized .contents-sized in
+    (omega arith, (omega arith, f .bounds .slots-most))
 
 reply-requires-3 : tie.Need-reply-requires-3
 reply-requires-3 c κs = tt
@@ -55,7 +55,7 @@ same-length-3 c = search needs
 
 returns-3 : tie.Need-returns-3
 returns-3 c =
-    let t = c .before .before .before in
+    let t = c .before .before .before .before in
     let v = t .before .before in
     let a = v .before .before .before .before .before .before .args in
     records-conflict _ _ _ _ _ _ _ _ (c .reply3 .ensures) (said-yes (v .before .volume-fits .ensures) (v .if1 .left)) (said-yes (t .before .table-sound .ensures) (t .if2 .left))
@@ -64,18 +64,18 @@ returns-3 c =
 
 recover-sound-requires : tie.Need-recover-sound-requires
 recover-sound-requires c κs =
-    let t = c .before .before .before in
+    let t = c .before .before .before .before .before in
     let v = t .before .before in
     let f = recover-fits _ _ _ (said-yes (v .before .volume-fits .ensures) (v .if1 .left)) in
-    (f .slots-in, (f .pages-most, (said-yes (t .before .table-sound .ensures) (t .if2 .left), f .state-sized)))
+    (f .slots-in, (f .pages-most, (f .slots-most, (said-yes (t .before .table-sound .ensures) (t .if2 .left), f .state-sized))))
 
 same-length-4 : tie.Need-same-length-4
 same-length-4 c = search needs
 
 returns-4 : tie.Need-returns-4
 returns-4 c =
-    let d = c .before .before .before .before in
-    let t = d .before .before in
+    let d = c .before .before .before .before .before in
+    let t = d .before .before .before in
     let v = t .before .before in
     let a = v .before .before .before .before .before .before .args in
     c .before .before .recover-sound .ensures

@@ -18,10 +18,10 @@ returns c =
 fill-state-requires : tie.Need-fill-state-requires
 fill-state-requires c κs =
     let t = c .before .before .before .before in
-    let pre = t .before .before .before .before .pre in
+    let pre = t .before .before .before .before .before .pre in
     let done = sym (c .before .before .before .answer-of .ensures) ∙ c .before .before .if1 .left in
     let zero = sym (settles-answer _ _ _ _ (t .records-answer .ensures .0)) ∙ done in
-    (pre .0, (pre .1 .0, (pre .1 .1 .0, (zero, (t .records-answer .ensures .1 done, pre .1 .1 .1)))))
+    (pre .0, (pre .1 .0, (pre .1 .1 .1 .0, (zero, (t .records-answer .ensures .1 done, pre .1 .1 .1 .1)))))
 
 same-length : tie.Need-same-length
 same-length c = search needs

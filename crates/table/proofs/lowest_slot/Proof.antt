@@ -1,6 +1,7 @@
 use Prim.Native.Nat.{ℕ, _≤_, _<_, _-_}
 use native.Mathlib.Omega.{arith}
 use mathlib.Core.Path.{_≡_, sym, ap, _∙_}
+use mathlib.Core.Logic.{inl, inr}
 use mathlib.Core.Bool.{false}
 use Rattle.bounded.specs.BelowLaws.{first-is, first-none, below-suc}
 use Rattle.record.specs.Slot.{slotIn, holds}
@@ -19,10 +20,15 @@ abbrev μ-loop : tie.MeasureT-loop
 loop-holds : tie.Need-loop-holds Inv-loop μ-loop
 loop-holds c = (omega arith, λ j h. absurd (omega arith))
 
-slot-in-requires : tie.Need-slot-in-requires Inv-loop μ-loop
-slot-in-requires c κs =
+names-version-requires : tie.Need-names-version-requires Inv-loop μ-loop
+names-version-requires c κs =
     let b = c .before .before .before in
     slot-inside (b .args .layout) (b .args .slots) (c .before .loop .k) (b .args .words .now) (b .pre) (c .loop-test .taken)
+
+slot-in-requires : tie.Need-slot-in-requires Inv-loop μ-loop
+slot-in-requires c κs =
+    let b = c .before .before .before .before .before in
+    slot-inside (b .args .layout) (b .args .slots) (c .before .before .before .loop .k) (b .args .words .now) (b .pre) (c .before .before .loop-test .taken)
 
 holds-version-requires : tie.Need-holds-version-requires Inv-loop μ-loop
 holds-version-requires c κs = tt
@@ -30,9 +36,9 @@ holds-version-requires c κs = tt
 returns : tie.Need-returns Inv-loop μ-loop
 unfolding lowestSlot
 returns c =
-    let l = c .before .before .before .before .loop in
-    let a = c .before .before .before .before .before .before .args in
-    sym (first-is _ _ (l .k) (omega arith) (ap (holds (ofVersion (a .page) (a .version))) (sym (c .before .before .slot-in .ensures)) ∙ sym (c .before .holds-version .ensures) ∙ c .if1 .taken) (l .inv .1))
+    let l = c .before .before .before .before .before .before .loop in
+    let a = c .before .before .before .before .before .before .before .before .args in
+    sym (first-is _ _ (l .k) (c .before .before .before .before .before .loop-test .taken) (ap (holds (ofVersion (a .page) (a .version))) (sym (c .before .before .slot-in .ensures)) ∙ sym (c .before .holds-version .ensures) ∙ c .if2 .taken) (l .inv .1))
 
 add-k : tie.Need-add-k Inv-loop μ-loop
 add-k c = omega arith
@@ -42,12 +48,16 @@ loop-less c = omega arith
 
 loop-again : tie.Need-loop-again Inv-loop μ-loop
 loop-again c =
-    let l = c .before .before .before .before .loop in
-    let a = c .before .before .before .before .before .before .args in
-    let f = holds (ofVersion (a .page) (a .version)) in (
+    let l = c .before .before .before .loop in
+    let a = c .before .before .before .before .before .args in
+    let f = holds (ofVersion (a .page) (a .version)) in
+    let fails : f (slotIn (a .layout) (a .words .now) (l .k)) ≡ false =
+    elim (c .if1 .came) [
+      | inl w ↦ ap f (sym (w .1 .ensures)) ∙ sym (w .2 .ensures) ∙ w .3 .left
+      | inr w ↦ c .before .names-version .ensures (w .left)
+    ] in (
       omega arith,
-      λ j h. below-suc j (l .k) (omega arith) (l .inv .1 j)
-          (λ q. ap (λ (x : ℕ). f (slotIn (a .layout) (a .words .now) x)) q ∙ ap f (sym (c .before .before .slot-in .ensures)) ∙ sym (c .before .holds-version .ensures) ∙ c .if1 .left),
+      λ j h. below-suc j (l .k) (omega arith) (l .inv .1 j) (λ q. ap (λ (x : ℕ). f (slotIn (a .layout) (a .words .now) x)) q ∙ fails),
     )
 
 returns-2 : tie.Need-returns-2 Inv-loop μ-loop
@@ -58,4 +68,4 @@ returns-2 c =
 
 pub lowest-slot-spec : {M : Type 1} → statement M
 lowest-slot-spec =
-    tie.close (tie.spec Inv-loop μ-loop loop-holds slot-in-requires holds-version-requires returns add-k loop-less loop-again returns-2)
+    tie.close (tie.spec Inv-loop μ-loop loop-holds names-version-requires slot-in-requires holds-version-requires returns add-k loop-less loop-again returns-2)

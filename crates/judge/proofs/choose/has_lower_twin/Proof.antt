@@ -13,6 +13,7 @@ use Rattle.record.specs.Slot.{slotAt}
 use Rattle.record.specs.SlotLaws.{not-blank-exactly}
 use Rattle.record.specs.Flash.{flash}
 use Rattle.twins.specs.Twins.{twins}
+use Rattle.chain.specs.declared.Key.the-variants.{Pointer}
 use Rattle.chain.specs.Chain.{chainOf}
 use Rattle.chain.specs.ChainLaws.{Left, search-goes-on, search-falls}
 use Rattle.judge.specs.Judgeable.{slot-inside}
@@ -25,7 +26,7 @@ Inv-loop sizes words contents chains block slot end₀ end =
     (end ≤ slot)
     × (r : Record)
     × (slotAt words slot ≡ Holds r)
-    × Left (sizes .slots) (slotAt words) (chainOf r) (lowerTwin (sizes .width) (flash words contents) (inBlock block) slot) end
+    × Left Pointer (sizes .slots) (slotAt words) (chainOf Pointer r) (lowerTwin (sizes .width) (flash words contents) (inBlock block) slot) end
 
 abbrev μ-loop : tie.MeasureT-loop
 μ-loop sizes words contents chains block slot end₀ end = end

@@ -38,7 +38,9 @@ returns-2 c =
     ∙ sym (simple-outcome twoWidths (a .sizes) (a .words .now) (a .state .now))
 
 some-clash-requires : tie.Need-some-clash-requires
-some-clash-requires c κs = simple-fits _ _ _ _ (said-yes (c .before .before .before .table-ok .ensures) (c .before .before .if1 .left)) .slots-in
+some-clash-requires c κs =
+    let f = simple-fits _ _ _ _ (said-yes (c .before .before .before .before .table-ok .ensures) (c .before .before .before .if1 .left)) in
+    (f .slots-in, f .slots-most)
 
 reply-requires-3 : tie.Need-reply-requires-3
 reply-requires-3 c κs = tt
@@ -48,7 +50,7 @@ same-length-3 c = search needs
 
 returns-3 : tie.Need-returns-3
 returns-3 c =
-    let t = c .before .before .before in
+    let t = c .before .before .before .before in
     let v = t .before .before in
     let a = v .before .before .before .before .before .args in
     records-conflict _ _ _ _ _ _ _ _ (c .reply3 .ensures) (said-yes (v .before .table-ok .ensures) (v .if1 .left)) (said-yes (t .before .table-sound .ensures) (t .if2 .left))
@@ -57,18 +59,18 @@ returns-3 c =
 
 recover-sound-requires : tie.Need-recover-sound-requires
 recover-sound-requires c κs =
-    let t = c .before .before .before in
+    let t = c .before .before .before .before .before in
     let v = t .before .before in
     let f = simple-fits _ _ _ _ (said-yes (v .before .table-ok .ensures) (v .if1 .left)) in
-    (f .slots-in, (f .pages-most, (said-yes (t .before .table-sound .ensures) (t .if2 .left), f .state-sized)))
+    (f .slots-in, (f .pages-most, (f .slots-most, (said-yes (t .before .table-sound .ensures) (t .if2 .left), f .state-sized))))
 
 same-length-4 : tie.Need-same-length-4
 same-length-4 c = search needs
 
 returns-4 : tie.Need-returns-4
 returns-4 c =
-    let d = c .before .before .before .before in
-    let t = d .before .before in
+    let d = c .before .before .before .before .before in
+    let t = d .before .before .before in
     let v = t .before .before in
     let a = v .before .before .before .before .before .args in
     c .before .before .recover-sound .ensures

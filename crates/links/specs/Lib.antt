@@ -1,0 +1,3 @@
+pub mod Committed
+pub mod Tables
+pub mod Answer
