@@ -284,7 +284,7 @@ uint64_t bpcc_sweep(uint32_t pages, uint32_t slots, uint32_t width,
  * The first call after power-up. Two records of one page and version are a clash (3) unless they are twins.
  * The second number is the number of links followed, summed over the pages as starts: one for each record whose link is compared,
  * the link that decides and the return to the start included. It is at most P*P, which one set of all pages reaches.
- * Refuses: 1, 2, 3, 4, 14. Uses less than 3.5 KB of stack.
+ * Refuses: 1, 2, 3, 4, 14. Uses less than 9 KiB of stack.
  */
 uint64_t bpcc_recover(uint32_t pages, uint32_t slots, uint32_t width,
                       const uint32_t *words, size_t words_length,
@@ -307,7 +307,7 @@ uint64_t bpcc_recover(uint32_t pages, uint32_t slots, uint32_t width,
  * The call is for a read of the flash that differs from the last: lend images in which each slot is a record that either read had, and
  * list the slots that only one of them had. It takes no state.
  * Refuses: 1, 2, 6 (a listed slot at or past S, listed twice, or blank; a list may be empty), 19 (more than BPCC_MAX_DOUBTFUL listed), 20
- * (no filling recovers). Uses less than 28 KiB of stack.
+ * (no filling recovers). Uses less than 33 KiB of stack.
  */
 uint64_t bpcc_doubtful(uint32_t pages, uint32_t slots, uint32_t width,
                        const uint32_t *words, size_t words_length,

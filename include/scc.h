@@ -93,7 +93,7 @@ uint64_t scc_erase(uint32_t pages, uint32_t slots, uint32_t width,
  * its highest or its second highest, the highest version that any record gives it or links to as used, not in flight, written 0.
  * The first call after power-up. The second number is the number of links followed, as bpcc_recover counts them, at most P*P.
  * Refuses: 1, 2, 3 (two records of one page and version, or a page without one), 4, 14 (a page whose highest version is not
- * committed has no other).
+ * committed has no other). Uses less than 9 KiB of stack.
  */
 uint64_t scc_recover(uint32_t pages, uint32_t slots, uint32_t width,
                      const uint32_t *words, size_t words_length,

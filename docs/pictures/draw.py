@@ -7,8 +7,9 @@ ring.svg     a complete ring, an unfinished one, and a record that straddles a l
 slot.svg     the life of a slot, and when it may be erased
 layers.svg   from the firmware to the chip: what is proved, what is tested, what is believed
 times.svg    how long the calls take: the table in times.txt, from tests/c/times.c
+recover.svg  how long recovery takes with more slots and more pages: the table in recover.txt, from tests/c/recover_times.c
 
-Either all five are written or, where times.txt is unreadable or malformed, none. The same table gives the same bytes.
+Either all six are written or, where a table is unreadable or malformed, none. The same tables give the same bytes.
 """
 
 import functools
@@ -300,19 +301,45 @@ def layers():
 # The times.
 
 def read_times(path):
-    """The comment, the numbers of slots and the rows of a table of times; ValueError says what is wrong with it."""
+    """The comment, the numbers of slots and the rows of a table of times, None for a '-' before a row's first; ValueError says what is
+    wrong with it."""
     lines = [words.strip() for words in path.read_text(encoding="utf-8").splitlines() if words.strip()]
     notes = [words.lstrip("# ") for words in lines if words.startswith("#")]
     rows = [words.split() for words in lines if not words.startswith("#")]
     if not notes or len(rows) < 2 or rows[0][0] != "slots":
         raise ValueError("a line '# ...', a line 'slots ...' and rows are expected")
-    slots, times = [int(word) for word in rows[0][1:]], {name: [float(word) for word in words] for name, *words in rows[1:]}
+    slots = [int(word) for word in rows[0][1:]]
+    times = {name: [None if word == "-" else float(word) for word in words] for name, *words in rows[1:]}
     if len(slots) < 2 or slots[0] < 1 or slots != sorted(set(slots)) or len(times) < len(rows) - 1:
         raise ValueError("numbers of slots that rise from 1 or above, and a name of its own for each row, are expected")
     for name, row in times.items():
-        if len(row) != len(slots) or not all(0 < value < math.inf for value in row):
-            raise ValueError(f"row {name}: {len(slots)} times above 0 are expected")
+        measured = list(itertools.dropwhile(lambda value: value is None, row))
+        if len(row) != len(slots) or len(measured) < 2 or not all(value is not None and 0 < value < math.inf for value in measured):
+            raise ValueError(f"row {name}: {len(slots)} times above 0 are expected, '-' for some of the first")
     return " ".join(notes), slots, times
+
+
+def whole(table):
+    """A table of times without a '-'."""
+    for name, row in table[2].items():
+        if None in row:
+            raise ValueError(f"row {name}: no '-' is expected")
+    return table
+
+
+def by_pages(table, names):
+    """A table of microseconds whose rows are called NAME_PAGES: its comment, the numbers of slots, and for each name the rows in
+    milliseconds by their pages."""
+    note, slots, rows = table
+    families = {name: {} for name in names}
+    for row, times in rows.items():
+        name, _, pages = row.rpartition("_")
+        if name not in families or not (pages.isascii() and pages.isdigit()) or int(pages) in families[name]:
+            raise ValueError(f"row {row}: one of {', '.join(names)}, '_' and a number of pages of its own are expected")
+        families[name][int(pages)] = [None if value is None else value / 1000 for value in times]
+    if not all(families.values()):
+        raise ValueError(f"rows of {' and '.join(names)} are expected")
+    return note, slots, families
 
 
 def duration(ms):
@@ -321,10 +348,17 @@ def duration(ms):
     return f"{round(ms / unit, 1 if ms < 9.95 * unit else 0):g} {name}"
 
 
-def times(note, slots, rows):
-    left, right, top, bottom = 92, 720, 100, 444
-    low = math.floor(math.log10(min(map(min, rows.values()))))
-    high = max(low + 1, math.ceil(math.log10(max(map(max, rows.values())))))
+def powers(times):
+    """The powers of ten between which the times of all rows lie."""
+    times = [ms for row in times for ms in row if ms is not None]
+    low = math.floor(math.log10(min(times)))
+    return low, max(low + 1, math.ceil(math.log10(max(times))))
+
+
+def curves(left, right, top, bottom, slots, bounds, rows, straight=None):
+    """Two logarithmic scales, and on them each row as a curve with its label behind it, the straight one dotted; and the others' labels,
+    from the top."""
+    low, high = bounds
 
     def across(n):
         return left + (right - left) * math.log(n / slots[0]) / math.log(slots[-1] / slots[0])
@@ -332,29 +366,70 @@ def times(note, slots, rows):
     def up(ms):
         return bottom - (bottom - top) * (math.log10(ms) - low) / (high - low)
 
-    parts = [text(20, 56, textwrap.wrap(note, 130), GREY), middle((left + right) / 2, bottom + 42, "slots S (there are at most 256 pages)", GREY)]
+    parts = []
     for n in slots:
         parts += [line([(across(n), top), (across(n), bottom)], RULE, width=1), middle(across(n), bottom + 20, f"{n:,}", GREY)]
     for ms in [10.0 ** power for power in range(low, high + 1)]:
         parts += [line([(left, up(ms)), (right, up(ms))], RULE, width=1), text(left - 10, up(ms) + 4, duration(ms), GREY, anchor="end")]
-    order = sorted(rows, key=lambda name: -rows[name][-1])
-    ends = [f"{name.replace('_', ' ')}, {duration(rows[name][-1])}" for name in order]
-    levels = itertools.accumulate([up(rows[name][-1]) for name in order], lambda above, level: max(level, above + 17))
-    for i, (name, end, level) in enumerate(zip(order, ends, levels)):
-        colour, dash = [BLUE, ORANGE, GREY][i % 3], [None, "7 4", "2 3"][i // 3 % 3]
-        points = [(across(n), up(ms)) for n, ms in zip(slots, rows[name])]
-        parts += [line(points, colour, dash, 2), *[dot(x, y, colour, colour, 3) for x, y in points], text(right + 14, level + 4, end, colour, 13)]
+    order = sorted(rows, key=lambda label: -rows[label][-1])
+    levels = itertools.accumulate([up(rows[label][-1]) for label in order], lambda above, level: max(level, above + 17))
+    told = [label for label in order if label != straight]
+    styles = {label: ([BLUE, ORANGE, GREY][i % 3], [None, "7 4", "2 3"][i // 3 % 3]) for i, label in enumerate(told)}
+    for label, level in zip(order, levels):
+        colour, dash = styles.get(label, (GREY, "2 3"))
+        points = [(across(n), up(ms)) for n, ms in zip(slots, rows[label]) if ms is not None]
+        dots = [dot(x, y, colour, colour, 3) for x, y in points] if label in styles else []
+        parts += [line(points, colour, dash, 2), *dots, text(right + 14, level + 4, label, colour, 13)]
+    return parts, told
+
+
+def times(note, slots, rows):
+    left, right, top, bottom = 92, 720, 100, 444
+    ends = {f"{name.replace('_', ' ')}, {duration(row[-1])}": row for name, row in rows.items()}
+    parts, order = curves(left, right, top, bottom, slots, powers(rows.values()), ends)
     return picture(504, "How long the calls take",
-                   f"Times for volumes of {', '.join(map(str, slots))} slots, on two logarithmic scales. At {slots[-1]} slots: {'; '.join(ends)}.",
-                   parts)
+                   f"Times for volumes of {', '.join(map(str, slots))} slots, on two logarithmic scales. At {slots[-1]} slots: {'; '.join(order)}.",
+                   [text(20, 56, textwrap.wrap(note, 130), GREY),
+                    middle((left + right) / 2, bottom + 42, "slots S (there are at most 256 pages)", GREY), *parts])
+
+
+# How long recovery takes: of each family's call its row names, its place, and what its records have.
+RECOVERIES = {"recover": (76, "bpcc_recover, records of five words"), "scc_recover": (496, "scc_recover, records of four words")}
+
+
+def straight_line(slots, rows):
+    """The times of the fewest pages if they rose in proportion to S from the first on."""
+    at, first = next((n, ms) for n, ms in zip(slots, rows[min(rows)]) if ms is not None)
+    return [first * n / at for n in slots]
+
+
+def recover(note, slots, families):
+    top, bottom, across, straight = 130, 444, 236, "in proportion to S"
+    lines = {name: straight_line(slots, rows) for name, rows in families.items()}
+    bounds = powers([*lines.values(), *(row for rows in families.values() for row in rows.values())])
+    parts, told = [text(20, 56, textwrap.wrap(note, 130), GREY)], []
+    for name, rows in families.items():
+        left, title = RECOVERIES[name]
+        ends = {f"P = {pages}, {duration(row[-1])}": row for pages, row in rows.items()}
+        drawn, labels = curves(left, left + across, top, bottom, slots, bounds, {**ends, straight: lines[name]}, straight)
+        parts += [text(left, top - 16, title, size=14, bold=True), middle(left + across / 2, bottom + 42, "slots S", GREY), *drawn]
+        told += [f"{title}: {'; '.join(labels)}"]
+    return picture(504, "How long recovery takes, by slots and pages",
+                   f"Times of recovery of volumes of {', '.join(map(str, slots))} slots and P pages, on two logarithmic scales, beside a line that "
+                   f"rises in proportion to S. At {slots[-1]} slots, {'. '.join(told)}.", parts)
+
+
+def read(name, take):
+    """What a table beside this script says."""
+    try:
+        return take(read_times(HERE / name))
+    except (OSError, ValueError) as wrong:
+        sys.exit(f"draw.py: {name} cannot be drawn, and no picture is written: {wrong}")
 
 
 def main():
-    try:
-        measured = read_times(HERE / "times.txt")
-    except (OSError, ValueError) as wrong:
-        sys.exit(f"draw.py: times.txt cannot be drawn, and no picture is written: {wrong}")
-    pictures = {"store": store(), "ring": ring(), "slot": slot(), "layers": layers(), "times": times(*measured)}
+    calls, recovery = read("times.txt", whole), read("recover.txt", lambda table: by_pages(table, RECOVERIES))
+    pictures = {"store": store(), "ring": ring(), "slot": slot(), "layers": layers(), "times": times(*calls), "recover": recover(*recovery)}
     for name, svg in pictures.items():
         (HERE / f"{name}.svg").write_text(svg, encoding="utf-8", newline="\n")
 

@@ -9,6 +9,7 @@ pub mod links;
 pub mod models;
 pub mod runs;
 pub mod scripts;
+pub mod speed;
 pub mod van;
 
 use crate::harness::Group;
@@ -19,7 +20,7 @@ use crate::volume::Layout;
 pub type Tests = fn(&mut Group, Layout);
 
 /// Every group by its name, with the families that have it, in the order in which they run.
-pub const GROUPS: [(&str, &[Family], Tests); 10] = [
+pub const GROUPS: [(&str, &[Family], Tests); 11] = [
     ("cases", BOTH, cases::tests),
     ("calls", BOTH, calls::tests),
     ("links", BOTH, links::tests),
@@ -30,6 +31,7 @@ pub const GROUPS: [(&str, &[Family], Tests); 10] = [
     ("cuts", &[Family::Bpcc], cuts::tests),
     ("van", &[Family::Bpcc], van::tests),
     ("impostors", BOTH, impostors::tests),
+    ("speed", BOTH, speed::tests),
 ];
 
 const BOTH: &[Family] = &[Family::Bpcc, Family::Scc];

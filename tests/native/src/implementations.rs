@@ -1,4 +1,4 @@
-//! What has the interface: the C library, the second implementation, both side by side, and wrong ones.
+//! What has the interface: the C library, the second implementation, both side by side, the simple recovery of docs/src, and wrong ones.
 
 pub mod compared;
 pub mod cuts_program;
@@ -9,6 +9,7 @@ pub mod impostors;
 pub mod library;
 pub mod reference;
 pub mod script_program;
+pub mod simple;
 pub mod van_program;
 
 use crate::interface::Calls;

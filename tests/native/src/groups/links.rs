@@ -89,7 +89,7 @@ fn scattered(random: &mut Random, layout: Layout, pages: u32, mut held: Vec<Reco
 }
 
 /// Each page of a ring of k pages has k links.
-fn rings(calls: &dyn Calls, layout: Layout) {
+pub fn rings(calls: &dyn Calls, layout: Layout) {
     let random = &mut Random::new(u64::from(layout.width));
     let by_hand: [(&[u32], u32); 6] = [
         (&[1, 1, 1], 1 + 1 + 1),
@@ -125,7 +125,7 @@ fn assert_rings(calls: &dyn Calls, random: &mut Random, layout: Layout, lengths:
 /// A chain of n pages whose last link decides has n + … + 2 + 1 links, and the page behind it 1 of its own. The last link is to a
 /// version that is not there, to one that a record straddles (without back pointers none does), and to one that was replaced, its
 /// record there or gone.
-fn chains(calls: &dyn Calls, layout: Layout) {
+pub fn chains(calls: &dyn Calls, layout: Layout) {
     let random = &mut Random::new(u64::from(layout.width));
     for n in 1..256 {
         let pages = n + 1;
@@ -145,7 +145,7 @@ fn chains(calls: &dyn Calls, layout: Layout) {
 }
 
 /// A refused recovery has no links, however many it followed before, and leaves the volume.
-fn refusals(calls: &dyn Calls, layout: Layout) {
+pub fn refusals(calls: &dyn Calls, layout: Layout) {
     for pages in 2..=256 {
         let list: Vec<u32> = (0..pages).collect();
         let whole = ring(&list);

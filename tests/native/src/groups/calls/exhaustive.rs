@@ -52,7 +52,7 @@ pub fn doubtful_tables(compared: &Compared, sizes: Sizes, highest: u32, rising: 
 
 /// Every table of sound records and blank slots, equal up to the slots' order, each slot with bytes of its own and, where records are
 /// equal, with equal bytes too. Gives their number.
-fn each_table(sizes: Sizes, highest: u32, mut each: impl FnMut(Volume)) -> u64 {
+pub fn each_table(sizes: Sizes, highest: u32, mut each: impl FnMut(Volume)) -> u64 {
     let mut held = sound_records(sizes.family, sizes.pages, highest);
     held.push(Record::BLANK);
     let mut chosen = vec![0; sizes.slots as usize];
