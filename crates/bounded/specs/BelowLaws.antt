@@ -6,7 +6,7 @@ use native.Mathlib.Numerals.{add-one}
 use mathlib.Core.Path.{_≡_, refl, sym, ap, ap₂, _∙_, subst}
 use mathlib.Core.Logic.{_⊎_, inl, inr, _↔_}
 use mathlib.Core.Bool.{Bool, true, false, _&&_, _||_}
-use lib.Dec.{eqb}
+use lib.Dec.{ltb, eqb}
 use borrow.Author.Tests.{lt-ltb, le-ltb, eqb-true, eqb-false, eq-eqb, ne-eqb}
 use Rattle.bounded.specs.Choice.{on-lt, on-test, never, both, both-left, both-right, either-left, either-right}
 use Rattle.bounded.specs.Below.{allBelow, someBelow, sumBelow, maxBelow, minBelow, firstBelow}
@@ -145,6 +145,13 @@ module _ (f : ℕ → Bool) where
   first-found n e =
       let w = some-at n e in
       on-lt (firstBelow n f) n (λ l. l) (λ l. absurd (never (w .2) (first-none-before n (w .0) (omega arith))))
+
+  -- some number passes exactly where the first that does is below n
+  pub first-tells : (n : ℕ) → someBelow n f ≡ ltb (firstBelow n f) n
+  first-tells n =
+      on-test (someBelow n f)
+      (λ e. e ∙ sym (lt-ltb (firstBelow n f) n (first-found n e)))
+      (λ e. e ∙ sym (le-ltb (firstBelow n f) n (on-lt (firstBelow n f) n (λ l. absurd (never (some-of n (firstBelow n f) l (first-passes n l)) e)) (λ l. l))))
 
 -- ---- the highest
 

@@ -20,7 +20,7 @@ unfoldable pub mayStraddle : Record → Bool
 mayStraddle r = ltb 1 (r .v - r .c)
 
 -- a record's chain by a key: a page has one, one for the records that may straddle a link (all others share one), four by the back
--- pointer, or many by the version, which it shares with other pages (by 181 pages with few versions and few pages with many share least)
+-- pointer, or many by the version, which it shares with other pages: by 181 both many pages of few versions and few pages of many share few
 unfoldable pub chainOf : Key → Record → ℕ
 chainOf Page r = r .p % 256
 chainOf Straddler r = cond (mayStraddle r) (r .p % 256) 256

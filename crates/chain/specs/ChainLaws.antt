@@ -9,9 +9,9 @@ use lib.ListN.{getD, set, replicate, length-set, length-replicate, getD-replicat
 use lib.Seq.{getD-set-same, getD-set-other}
 use borrow.Author.Tests.{eq-eqb, ne-eqb, eqb-true, lt-ltb, le-ltb, ltb-true}
 use Rattle.bounded.specs.Limits.{maxSlots}
-use Rattle.bounded.specs.Choice.{on-eq, on-lt, on-test, never, both-left, both-right}
+use Rattle.bounded.specs.Choice.{on-eq, on-lt, never, both-left, both-right}
 use Rattle.bounded.specs.Below.{someBelow, maxBelow, firstBelow, endBelow}
-use Rattle.bounded.specs.BelowLaws.{some-zero, some-of, some-none, first-passes, first-found}
+use Rattle.bounded.specs.BelowLaws.{some-zero, some-of, some-none, first-passes, first-tells}
 use Rattle.bounded.specs.Passing.{end-le, end-here, end-stays, end-passes, some-from-end, some-go-on, max-from-end, max-go-on}
 use Rattle.record.specs.declared.Record.{Record}
 use Rattle.record.specs.declared.Slot.{Slot}
@@ -239,23 +239,23 @@ found-empty key b n t chains c r e =
     found-none n t chains c (chainOf key r) q (version-in-chain key b t r) (getD chains (chainOf key r) 0) (search-begins n t chains c (chainOf key r) q (version-in-chain key b t r) (chain-below key r)) e
 
 -- a look at all slots: the lowest that passes, or none
-pub found-lowest : (n : ℕ) (t : ℕ → Slot) (p v : ℕ) → lowestSlot n t p v < n → Found n (λ k. holds (ofVersion p v) (t k)) (lowestSlot n t p v + 1)
-unfolding lowestSlot
-found-lowest n t p v h =
-    let passes = first-passes (λ k. holds (ofVersion p v) (t k)) n h in record {
-      tells = some-of (λ k. holds (ofVersion p v) (t k)) n (firstBelow n (λ k. holds (ofVersion p v) (t k))) h passes ∙ sym (lt-ltb 0 (firstBelow n (λ k. holds (ofVersion p v) (t k)) + 1) (omega arith));
-      passes = λ k e. let s : k ≡ firstBelow n (λ k. holds (ofVersion p v) (t k)) = omega arith in (omega arith, ap (λ (j : ℕ). holds (ofVersion p v) (t j)) s ∙ passes);
-    }
+module _ (n : ℕ) (t : ℕ → Slot) (p v : ℕ) where
+  sought : ℕ → Bool
+  sought k = holds (ofVersion p v) (t k)
 
-pub found-nowhere : (n : ℕ) (t : ℕ → Slot) (p v : ℕ) → n ≤ lowestSlot n t p v → Found n (λ k. holds (ofVersion p v) (t k)) 0
-unfolding lowestSlot
-found-nowhere n t p v h = record {
-  tells =
-      on-test (someBelow n (λ k. holds (ofVersion p v) (t k)))
-      (λ e. let l = first-found (λ k. holds (ofVersion p v) (t k)) n e in absurd (omega arith))
-      (λ e. e ∙ sym (le-ltb 0 0 (omega arith)));
-  passes = λ k e. absurd (omega arith);
-}
+  pub found-lowest : lowestSlot n t p v < n → Found n (λ k. holds (ofVersion p v) (t k)) (lowestSlot n t p v + 1)
+  unfolding lowestSlot sought
+  found-lowest h = record {
+    tells = first-tells sought n ∙ lt-ltb (firstBelow n sought) n h ∙ sym (lt-ltb 0 (firstBelow n sought + 1) (omega arith));
+    passes = λ k e. let s : k ≡ firstBelow n sought = omega arith in (omega arith, ap sought s ∙ first-passes sought n h);
+  }
+
+  pub found-nowhere : n ≤ lowestSlot n t p v → Found n (λ k. holds (ofVersion p v) (t k)) 0
+  unfolding lowestSlot sought
+  found-nowhere h = record {
+    tells = first-tells sought n ∙ le-ltb (firstBelow n sought) n h ∙ sym (le-ltb 0 0 (omega arith));
+    passes = λ k e. absurd (omega arith);
+  }
 
 -- a blank slot is "of equal page and version" with none
 pub blank-clashes-none : (t : ℕ → Slot) (k : ℕ) → t k ≡ Blank → Found k (λ j. clash (t j) (t k)) 0

@@ -6,10 +6,8 @@ use mathlib.Core.List.{List}
 use mathlib.Core.Bool.{true}
 use lib.Dec.{ltb}
 use lib.ListN.{length, getD}
-use borrow.Author.Tests.{lt-ltb, ltb-true}
-use Rattle.bounded.specs.Choice.{same-test}
-use Rattle.bounded.specs.Below.{allBelow, someBelow, firstBelow, sumBelow}
-use Rattle.bounded.specs.BelowLaws.{all-cong, some-cong, some-of, first-found, first-passes, sum-most}
+use Rattle.bounded.specs.Below.{allBelow, someBelow, sumBelow}
+use Rattle.bounded.specs.BelowLaws.{all-cong, some-cong, first-tells, sum-most}
 use Rattle.bounded.specs.Tabulate.{tabulate, tabulate-at}
 use Rattle.sizes.specs.declared.Layout.{Layout}
 use Rattle.sizes.specs.declared.Layout.the-variants.{FiveWords}
@@ -109,10 +107,7 @@ module _ (layout : Layout) (P S : ℕ) (words top : List ℕ) (s : Surveyed layo
 -- a page's version is there, by a search for it
 pub version-found : (S : ℕ) (t : ℕ → Slot) (p v : ℕ) → someBelow S (λ k. holds (ofVersion p v) (t k)) ≡ hasVersion S t p v
 unfolding hasVersion lowestSlot
-version-found S t p v =
-    same-test (someBelow S (λ k. holds (ofVersion p v) (t k))) (ltb (firstBelow S (λ k. holds (ofVersion p v) (t k))) S)
-    (λ e. lt-ltb _ _ (first-found (λ k. holds (ofVersion p v) (t k)) S e))
-    (λ e. let l = ltb-true _ _ e in some-of (λ k. holds (ofVersion p v) (t k)) S (firstBelow S (λ k. holds (ofVersion p v) (t k))) l (first-passes (λ k. holds (ofVersion p v) (t k)) S l))
+version-found S t p v = first-tells (λ k. holds (ofVersion p v) (t k)) S
 
 -- the committed versions are there, by their table
 pub versions-by-table : (layout : Layout) (P S : ℕ) (t : ℕ → Slot) (committed : List ℕ) → P ≤ 256 → committed ≡ tabulate 256 (committedIn layout P S t) → allBelow P (λ p. hasVersion S t p (getD committed p 0)) ≡ allBelow P (λ p. hasVersion S t p (committedIn layout P S t p))

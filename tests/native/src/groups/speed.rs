@@ -11,12 +11,13 @@ use crate::implementations::simple::{Agreed, Simple, MUTANTS};
 use crate::volume::Layout;
 use tables::Table;
 
-/// How many times as long as the simple recovery the library's may take: document 02's "at most twice as long", on every table; our own
-/// aims on rings and chains of all pages, and on every other table that a console has. On a table made against the library's chains it is MADE.
-pub const WISHED: f64 = 2.0;
-pub const MADE: f64 = 4.0;
+/// How many times as long as the simple recovery the library's may take: our own aims on rings and chains of all pages, and on every other
+/// table that a console has; document 02's "at most twice as long" where they do not hold. Only on tables made so that all records meet in
+/// one of the library's chains may it take longer than that, and does by a little in some builds.
 pub const LONGEST: f64 = 0.1;
 pub const OTHER: f64 = 1.0;
+pub const WISHED: f64 = 2.0;
+pub const MADE: f64 = 4.0;
 
 pub fn tests(group: &mut Group, layout: Layout) {
     let tables = tables::all(layout);
