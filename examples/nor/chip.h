@@ -12,7 +12,7 @@
 /* A small serial chip: nine blocks ("sectors") of 4 KiB. An address is a byte of the chip. */
 enum { CHIP_BLOCKS = 9, CHIP_BLOCK_BYTES = 4096, CHIP_BYTES = CHIP_BLOCKS * CHIP_BLOCK_BYTES };
 
-/* How many bytes can be programmed at once. */
+/* A page is what can be programmed at once: bytes beyond its end would go to its front. */
 enum { CHIP_PAGE_BYTES = 256 };
 
 /* What an erased byte reads as. */
@@ -20,26 +20,29 @@ enum { CHIP_ERASED = 255 };
 
 void chip_read(uint32_t address, uint8_t *bytes, size_t count);
 
-/* Clears, byte by byte in rising order, the bits that are 0 in `bytes`; a bit that is 0 already stays 0. */
+/* Clears the bits of a page that are 0 in `bytes`; a bit that is 0 already stays 0. */
 void chip_program(uint32_t address, const uint8_t *bytes, size_t count);
 
-/* Sets all bits of a block. Until a later erasure is finished, a block whose erasure was cut short does not hold what is programmed,
- * also where it reads as erased. */
+/* Sets all bits of a block. A block whose erasure was cut short does not hold what is programmed, also where it reads as erased, until
+ * an erasure of it is finished. */
 void chip_erase(uint32_t block);
 
 /* The bench. A chip that was never used, whose chance is decided by a seed. */
 void chip_new(uint32_t seed);
 
-/* Power fails at the byte before which so many more are programmed or erased, or programmed where erased ones do not count; CHIP_HOLDS:
- * it does not fail. The byte that is met is torn: any of its bits are altered and the others not. Then `chip_dies` is jumped to, with 1. */
-#define CHIP_HOLDS UINT32_MAX
-void chip_cut_after(uint32_t bytes, int erased_count);
+/* Where power fails: nowhere; at the byte before which so many more are programmed or erased; at the one before which so many more are
+ * programmed; or at one of the last few bytes of an erasure, before which there are so many others. */
+enum chip_cuts { CHIP_HOLDS, CHIP_CUT_ANYWHERE, CHIP_CUT_IN_A_PROGRAM, CHIP_CUT_NEAR_AN_END };
+
+/* The bytes of one operation are altered in any order. The one at which power fails is torn: any of its bits are altered and the others
+ * not. Then `chip_dies` is jumped to, with 1. */
+void chip_cut(enum chip_cuts where, uint32_t after);
 extern jmp_buf chip_dies;
 
 /* What the chip was put to since it was new, and what it does now. */
 struct chip_use {
     uint64_t programmed;           /* bytes */
-    uint64_t nanoseconds;          /* the time that programming and erasing took */
+    uint64_t nanoseconds;          /* the time that reading, programming and erasing took */
     uint32_t erased[CHIP_BLOCKS];  /* how often each block was erased, or begun to be */
     int is_erasing;
 };

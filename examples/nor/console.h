@@ -7,6 +7,10 @@
 
 #include "driver.h"
 
+/* What power-up comes to: ready; ready on a chip that was not formatted and now is; refused, a chip of other sizes or damaged, which is
+ * left as it is. */
+enum powered_up { READY, FORMATTED, REFUSED };
+
 struct console {
     const char *name;
 
@@ -14,7 +18,6 @@ struct console {
     void *memory;
     size_t memory_bytes;
 
-    /* Power-up: gives 0 where the chip was not formatted and now is. */
     int (*power_up)(uint32_t width);
 
     /* Makes every piston silent and forgets what was stored. */
@@ -32,7 +35,7 @@ struct console {
 };
 
 /* The largest set that is stored. */
-enum { LARGEST_SET = 8 };
+enum { LARGEST_SET = PAGES < 8 ? PAGES : 8 };
 
 extern const struct console ring_console, halves_console;
 

@@ -46,10 +46,16 @@ static int is_erased(const uint8_t *bytes, size_t count) {
 
 void driver_put(uint32_t address, const uint8_t *bytes, size_t count) {
     uint8_t back[CHIP_PAGE_BYTES];
-    chip_program(address, bytes, count);
-    chip_read(address, back, count);
-    if (memcmp(back, bytes, count) != 0) {
-        driver_gives_up("the chip does not hold what was programmed");
+    while (count > 0) {
+        const uint32_t room = CHIP_PAGE_BYTES - address % CHIP_PAGE_BYTES, part = count < room ? (uint32_t)count : room;
+        chip_program(address, bytes, part);
+        chip_read(address, back, part);
+        if (memcmp(back, bytes, part) != 0) {
+            driver_gives_up("the chip does not hold what was programmed");
+        }
+        address += part;
+        bytes += part;
+        count -= part;
     }
 }
 
@@ -84,22 +90,27 @@ void driver_program(struct volume *v, uint32_t slot) {
     driver_put(slot_address(v, v->home[block], i), piece, SLOT_BYTES(v->width));
 }
 
-/* Loads a slot into the images; an erased one has BPCC_NONE in its words and 255 in its bytes, as the library's blank slots have. */
-static void load_slot(struct volume *v, uint32_t slot) {
+/* Loads a slot into the images, what is not sound as the library's blank slots are: BPCC_NONE in its words and 255 in its bytes. */
+static int load_slot(struct volume *v, uint32_t block, uint32_t i) {
+    const uint32_t slot = block * BLOCK_SLOTS(v->width) + i;
     uint8_t piece[SLOT_BYTES(BPCC_MAX_WIDTH)];
+    const int kind = read_slot(v, v->home[block], i, piece);
     uint32_t word;
-    read_slot(v, v->home[slot / BLOCK_SLOTS(v->width)], slot % BLOCK_SLOTS(v->width), piece);
+    if (kind != SOUND) {
+        memset(piece, 255, sizeof piece);
+    }
     for (word = 0; word < BPCC_SLOT_WORDS; word++) {
         v->words[BPCC_SLOT_WORDS * slot + word] = driver_word(piece + 4 * word);
     }
     memcpy(v->contents + v->width * slot, piece + WORD_BYTES, v->width);
+    return kind;
 }
 
 /* ---- Blocks ---- */
 
 struct head {
     int is_counted, is_claimed;
-    uint32_t erased, block, sequence, width;
+    uint32_t erased, block, sequence, sizes;
 };
 
 static struct head read_head(uint32_t chip_block) {
@@ -112,15 +123,18 @@ static struct head read_head(uint32_t chip_block) {
     head.is_claimed = driver_is_sealed(claim, CLAIM_BYTES);
     head.block = driver_word(claim);
     head.sequence = driver_word(claim + 4);
-    head.width = driver_word(claim + 8);
+    head.sizes = driver_word(claim + 8);
     return head;
 }
 
+/* Erases a block of the chip. Its old count is struck out first, by programming zeros over it: while an erasure is not finished, there is
+ * none. */
 static void erase(struct volume *v, uint32_t chip_block) {
+    static const uint8_t zeros[COUNT_BYTES + SEAL_BYTES] = {0};
     uint8_t count[COUNT_BYTES + SEAL_BYTES];
+    driver_put(chip_block * CHIP_BLOCK_BYTES, zeros, sizeof zeros);
     chip_erase(chip_block);
-    v->erased[chip_block]++;
-    driver_put_word(count, v->erased[chip_block]);
+    driver_put_word(count, ++v->erased[chip_block]);
     driver_seal(count, COUNT_BYTES);
     driver_put(chip_block * CHIP_BLOCK_BYTES, count, sizeof count);
 }
@@ -132,21 +146,34 @@ void driver_erase_spare(struct volume *v) {
     }
 }
 
-/* Makes a block of the chip the home of a block of the volume: from the last byte of this on it is. */
+/* The sizes of a volume as one word: its width, pages, blocks, and slots of a block. */
+static uint32_t sizes_word(const struct volume *v) {
+    return v->width << 25 | (uint32_t)PAGES << 16 | (uint32_t)BLOCKS << 11 | (uint32_t)BLOCK_SLOTS(v->width);
+}
+
+/* What the mark claims: it is no block of the volume. */
+enum { FORMATTING = BLOCKS };
+
+static int is_mark(uint32_t chip_block) {
+    const struct head head = read_head(chip_block);
+    return head.is_claimed && head.block == FORMATTING;
+}
+
+/* Programs a claim: from its last byte on the block of the chip is the home of that block of the volume, or marks the chip. */
 static void claim(struct volume *v, uint32_t block, uint32_t chip_block) {
     uint8_t bytes[CLAIM_BYTES + SEAL_BYTES];
     driver_put_word(bytes, block);
     driver_put_word(bytes + 4, ++v->sequence);
-    driver_put_word(bytes + 8, v->width);
+    driver_put_word(bytes + 8, sizes_word(v));
     driver_seal(bytes, CLAIM_BYTES);
     driver_put(chip_block * CHIP_BLOCK_BYTES + CLAIM_AT, bytes, sizeof bytes);
-    v->home[block] = chip_block;
 }
 
 /* Moves a block of the volume to the spare, with what is there by now; its old home is the new spare. */
 static void move(struct volume *v, uint32_t block) {
     const uint32_t old = v->home[block];
     claim(v, block, v->spare);
+    v->home[block] = v->spare;
     v->spare = old;
     v->spare_is_erased = 0;
 }
@@ -192,144 +219,119 @@ static void read_counts(struct volume *v) {
     uint32_t sum = 0, counted = 0, b;
     for (b = 0; b < CHIP_BLOCKS; b++) {
         const struct head head = read_head(b);
+        v->erased[b] = head.is_counted ? head.erased : UINT32_MAX;
         sum += head.is_counted ? head.erased : 0;
         counted += (uint32_t)head.is_counted;
     }
     for (b = 0; b < CHIP_BLOCKS; b++) {
-        const struct head head = read_head(b);
-        v->erased[b] = head.is_counted ? head.erased : counted == 0 ? 0 : sum / counted;
+        if (v->erased[b] == UINT32_MAX) {
+            v->erased[b] = counted == 0 ? 0 : sum / counted;
+        }
     }
 }
 
-/* Finds each block's home, by the claims, and the spare. */
+/* Finds each block's home, by the claims, and the spare: the mark, or else a block that is nobody's home. */
 static int find_homes(struct volume *v) {
-    uint32_t sequence[BLOCKS] = {0}, is_home[CHIP_BLOCKS] = {0}, b;
+    uint32_t sequence[BLOCKS] = {0}, is_home[CHIP_BLOCKS] = {0}, claims = 0, homes = 0, b;
+    int is_other = 0;
     v->sequence = 0;
     for (b = 0; b < CHIP_BLOCKS; b++) {
         const struct head head = read_head(b);
-        if (!head.is_claimed || head.block >= BLOCKS) {
+        if (!head.is_claimed) {
             continue;
         }
-        if (head.block == 0 && head.width != v->width) {
-            return DRIVER_OTHER_WIDTH;
-        }
-        if (head.sequence > sequence[head.block]) {
+        claims++;
+        is_other |= head.sizes != sizes_word(v);
+        v->sequence = head.sequence > v->sequence ? head.sequence : v->sequence;
+        if (head.block < BLOCKS && head.sequence > sequence[head.block]) {
             sequence[head.block] = head.sequence;
             v->home[head.block] = b;
         }
-        v->sequence = head.sequence > v->sequence ? head.sequence : v->sequence;
-    }
-    if (sequence[0] == 0) {
-        return DRIVER_NOT_FORMATTED;
     }
     for (b = 0; b < BLOCKS; b++) {
-        if (sequence[b] == 0) {
-            return DRIVER_DAMAGED;
+        if (sequence[b] != 0) {
+            is_home[v->home[b]] = 1;
+            homes++;
         }
-        is_home[v->home[b]] = 1;
     }
-    for (b = 0; b < CHIP_BLOCKS; b++) {
-        v->spare = is_home[b] ? v->spare : b;
+    for (b = v->spare = 0; b < CHIP_BLOCKS; b++) {
+        v->spare = is_home[b] || is_mark(v->spare) ? v->spare : b;
     }
-    return DRIVER_READY;
+    if (claims == 0 || is_mark(v->spare)) {
+        return DRIVER_NOT_FORMATTED;
+    }
+    if (is_other) {
+        return DRIVER_OTHER_SIZES;
+    }
+    return homes < BLOCKS || v->sequence == UINT32_MAX ? DRIVER_DAMAGED : DRIVER_READY;
 }
 
 /* Whether a block of the chip has its count and nothing else: a cut in an erasure, a move or a rewriting leaves one that is not so. */
 static int is_ready(uint32_t chip_block) {
-    uint8_t byte;
-    uint32_t i;
-    for (i = CLAIM_AT; i < CHIP_BLOCK_BYTES; i++) {
-        chip_read(chip_block * CHIP_BLOCK_BYTES + i, &byte, 1);
-        if (byte != CHIP_ERASED) {
+    uint8_t bytes[CHIP_PAGE_BYTES];
+    uint32_t i, part;
+    for (i = CLAIM_AT; i < CHIP_BLOCK_BYTES; i += part) {
+        part = CHIP_BLOCK_BYTES - i < sizeof bytes ? CHIP_BLOCK_BYTES - i : (uint32_t)sizeof bytes;
+        chip_read(chip_block * CHIP_BLOCK_BYTES + i, bytes, part);
+        if (!is_erased(bytes, part)) {
             return 0;
         }
     }
     return read_head(chip_block).is_counted;
 }
 
-static int has_torn_slot(const struct volume *v, uint32_t block) {
-    uint8_t piece[SLOT_BYTES(BPCC_MAX_WIDTH)];
+/* Loads a block's slots, and rewrites it where one is torn, so that no slot is blank in the images that is not erased. */
+static void load_block(struct volume *v, uint32_t block) {
+    int is_torn = 0;
     uint32_t i;
     for (i = 0; i < BLOCK_SLOTS(v->width); i++) {
-        if (read_slot(v, v->home[block], i, piece) == TORN) {
-            return 1;
-        }
+        is_torn |= load_slot(v, block, i) == TORN;
     }
-    return 0;
+    if (is_torn) {
+        rewrite(v, block);
+    }
 }
 
-/* The sizes, and the table of blocks of the volume. */
-static void set_sizes(struct volume *v, uint32_t width) {
+int driver_power_up(struct volume *v, uint32_t width) {
     uint32_t b;
+    int found;
     v->width = width;
     v->slots = SLOTS(width);
     for (b = 0; b < BLOCKS; b++) {
         v->starts[b] = b * BLOCK_SLOTS(width);
     }
-}
-
-int driver_power_up(struct volume *v, uint32_t width) {
-    uint32_t b, slot;
-    int found;
-    set_sizes(v, width);
     read_counts(v);
     found = find_homes(v);
-    if (found != DRIVER_READY) {
-        return found;
-    }
     v->spare_is_erased = is_ready(v->spare);
-    for (b = 0; b < BLOCKS; b++) {
-        if (has_torn_slot(v, b)) {
-            rewrite(v, b);
-        }
+    for (b = 0; b < BLOCKS && found == DRIVER_READY; b++) {
+        load_block(v, b);
     }
-    for (slot = 0; slot < v->slots; slot++) {
-        load_slot(v, slot);
-    }
-    return DRIVER_READY;
+    return found;
 }
 
 /* ---- Formatting ---- */
 
-/* Takes the marker away: every claim to block 0 is struck out, by programming zeros over its checksum, the oldest first, so that none
- * that no longer counts ever counts again. A cut leaves the marker, and the volume, or not. */
-static void strike_marker(void) {
-    static const uint8_t zeros[SEAL_BYTES] = {0};
-    for (;;) {
-        uint32_t b, oldest = CHIP_BLOCKS, sequence = 0;
-        for (b = 0; b < CHIP_BLOCKS; b++) {
-            const struct head head = read_head(b);
-            if (head.is_claimed && head.block == 0 && (oldest == CHIP_BLOCKS || head.sequence < sequence)) {
-                oldest = b;
-                sequence = head.sequence;
-            }
-        }
-        if (oldest == CHIP_BLOCKS) {
-            return;
-        }
-        driver_put(oldest * CHIP_BLOCK_BYTES + CLAIM_AT + CLAIM_BYTES, zeros, SEAL_BYTES);
-    }
-}
-
+/* The spare marks the chip, and is erased last: of a volume that was there nothing is touched before the mark is whole, and the new one
+ * is there, with all its claims, before the mark goes. */
 void driver_format(struct volume *v) {
+    const uint32_t mark = v->spare;
     uint32_t b, slot;
-    read_counts(v);
-    strike_marker();
-    for (b = 0; b < CHIP_BLOCKS; b++) {
-        erase(v, b);
+    if (!is_mark(mark)) {
+        driver_erase_spare(v);
+        claim(v, FORMATTING, mark);
     }
-    v->sequence = 0;
-    v->spare = BLOCKS;
-    v->spare_is_erased = 1;
     for (b = 0; b < BLOCKS; b++) {
-        v->home[b] = b;
+        v->home[b] = b < mark ? b : b + 1;
+        erase(v, v->home[b]);
     }
     for (slot = 0; slot < v->slots; slot++) {
         if (v->words[BPCC_SLOT_WORDS * slot] != BPCC_NONE) {
             driver_program(v, slot);
         }
     }
-    for (b = BLOCKS; b > 0; b--) {
-        claim(v, b - 1, b - 1);
+    for (b = 0; b < BLOCKS; b++) {
+        claim(v, b, v->home[b]);
     }
+    v->spare_is_erased = 0;
+    driver_erase_spare(v);
 }

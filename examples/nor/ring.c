@@ -47,13 +47,13 @@ static int power_up(uint32_t width) {
     done(bpcc_check_blocks(VOLUME, STARTS));
     if (found == DRIVER_NOT_FORMATTED) {
         format();
-        return 0;
+        return FORMATTED;
     }
     if (found != DRIVER_READY) {
-        driver_gives_up(found == DRIVER_OTHER_WIDTH ? "the chip has pistons of the other width" : "the chip is damaged");
+        return REFUSED;
     }
     done(bpcc_recover(VOLUME, WORDS, CONTENTS, STATE));
-    return 1;
+    return READY;
 }
 
 /* Cleans a block: in the images, then on the chip, where all copies are programmed, rising, before the block is blanked. Gives 0 where

@@ -14,14 +14,15 @@
 #include <string.h>
 
 /* How many sets are stored without a cut, and of how many pistons; the others are never stored, which is hardest on the wear. */
-enum { SETS = 10000, IN_USE = 16 };
+enum { SETS = 10000, IN_USE = PAGES < 16 ? PAGES : 16 };
 
 /* What the bench knows: of each piston the set that stored it last, by number, and the set that is being stored. It outlives the cuts. */
 static struct {
     const struct console *console;
-    uint32_t width, in_use, n;
+    uint32_t width, in_use, sets;
     uint32_t kept[PAGES];   /* 0: silent, as formatted */
     uint8_t in_set[PAGES];  /* the pistons of the set that is being stored */
+    uint32_t n;             /* its number, or 0 where the chip is being formatted */
     int is_up;
 } bench;
 
@@ -84,11 +85,11 @@ static void store_set(void) {
     uint8_t bytes[LARGEST_SET * BPCC_MAX_WIDTH];
     uint32_t set[LARGEST_SET], i;
     const uint32_t count = 1 + chip_chance(LARGEST_SET), pieces = chip_chance(5) == 0 ? chip_chance(count) : count;
-    const uint32_t first = chip_chance(bench.in_use), stride = 1 + 2 * chip_chance(bench.in_use / 2);
+    const uint32_t first = chip_chance(bench.in_use);
     const uint64_t begun = chip_use.nanoseconds;
-    bench.n++;
+    bench.n = ++bench.sets;
     for (i = 0; i < count; i++) {
-        set[i] = (first + stride * i) % bench.in_use;
+        set[i] = (first + i) % bench.in_use;
         bench.in_set[set[i]] = pieces == count;
         piston(bytes + i * bench.width, set[i], bench.n);
     }
@@ -111,21 +112,45 @@ static void format(void) {
 }
 
 /* Memory holds anything when power comes back. */
-static void power_up(void) {
-    const uint64_t begun = chip_use.nanoseconds;
+static int start(uint32_t width) {
     memset(bench.console->memory, (int)chip_chance(256), bench.console->memory_bytes);
     bench.is_up = 0;
-    if (bench.console->power_up(bench.width)) {
+    return bench.console->power_up(width);
+}
+
+static void power_up(void) {
+    const uint64_t begun = chip_use.nanoseconds;
+    const int came_to = start(bench.width);
+    if (came_to == REFUSED) {
+        driver_gives_up("the chip is refused");
+    }
+    if (came_to == READY) {
         figures.longest_start = longer(figures.longest_start, chip_use.nanoseconds - begun);
     }
     bench.is_up = 1;
     check_whole();
 }
 
-/* Power fails at one of the next bytes that are programmed, or that are programmed or erased, of which there are far more. */
+/* A chip of the other width is refused, and nothing on it altered. */
+static void check_other_width(void) {
+    struct chip_use before = chip_use;
+    if (start(BPCC_WIDTH_32 + BPCC_WIDTH_64 - bench.width) != REFUSED) {
+        driver_gives_up("a chip of the other width is not refused");
+    }
+    before.nanoseconds = chip_use.nanoseconds;
+    if (memcmp(&before, &chip_use, sizeof before) != 0) {
+        driver_gives_up("a chip of the other width is altered");
+    }
+}
+
+/* Power fails at a byte by chance: far more are erased than programmed, and some errors show at an erasure's end alone. */
 static void cut_somewhere(void) {
-    const int erased_count = chip_chance(2) == 0;
-    chip_cut_after(chip_chance((erased_count ? 20000 : 2000) * (chip_chance(4) == 0 ? 5 : 1)), erased_count);
+    const uint32_t times = chip_chance(4) == 0 ? 5 : 1;
+    switch (chip_chance(3)) {
+    case 0: chip_cut(CHIP_CUT_ANYWHERE, chip_chance(20000 * times)); break;
+    case 1: chip_cut(CHIP_CUT_IN_A_PROGRAM, chip_chance(2000 * times)); break;
+    default: chip_cut(CHIP_CUT_NEAR_AN_END, chip_chance(4 * times)); break;
+    }
 }
 
 /* Powers up and stores sets until power fails; now and then the chip is formatted again. */
@@ -171,7 +196,9 @@ static struct figures cut_off(const struct console *console, uint32_t width, uin
     while (figures.cuts < cuts) {
         play_until_cut();
     }
-    chip_cut_after(CHIP_HOLDS, 0);
+    chip_cut(CHIP_HOLDS, 0);
+    power_up();
+    check_other_width();
     power_up();
     return figures;
 }
@@ -229,13 +256,17 @@ static void measure(uint32_t width, uint32_t seed) {
     struct chip_use ring_use, halves_use;
     const struct figures rings = store_sets(&ring_console, width, seed, &ring_use);
     const struct figures halves = store_sets(&halves_console, width, seed, &halves_use);
-    printf("  without a cut, %d sets of %d pistons:\n", SETS, IN_USE);
+    if (wear(&ring_use, 1) - wear(&ring_use, 0) > WEAR_APART + 1) {
+        driver_gives_up("the wear is not level");
+    }
+    printf("  without a cut, %d sets of 1 to %d of %d pistons:\n", SETS, LARGEST_SET, IN_USE);
     row_of_parts("bytes programmed for each byte stored", per_byte(&ring_use, &rings, width), per_byte(&halves_use, &halves, width));
-    row("blocks erased", erasures(&ring_use), erasures(&halves_use));
+    row("erasures", erasures(&ring_use), erasures(&halves_use));
     row("  the least erased block", wear(&ring_use, 0), wear(&halves_use, 0));
     row("  the most erased block", wear(&ring_use, 1), wear(&halves_use, 1));
     row_of_parts("pause for a set, ms", (double)rings.pauses / SETS / 1e6, (double)halves.pauses / SETS / 1e6);
     row_of_parts("  the longest", (double)rings.longest_pause / 1e6, (double)halves.longest_pause / 1e6);
+    row("bytes of memory", ring_console.memory_bytes, halves_console.memory_bytes);
 }
 
 /* Neither what is erased nor zeros pass for sealed. */

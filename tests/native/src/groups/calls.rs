@@ -20,7 +20,7 @@ use crate::volume::Layout;
 
 pub fn tests(group: &mut Group, layout: Layout) {
     let compared = Compared::new(TESTED);
-    for seed in 1..=10 {
+    for seed in 1..=seeds() {
         group.plain(&format!("all calls on 40,000 volumes, seed {seed}"), || volumes::compare(&compared, layout, 40_000, seed));
     }
     group.test("each answer of each call seen at least 100 times, and no other", || {
@@ -52,6 +52,11 @@ pub fn tests(group: &mut Group, layout: Layout) {
         });
     }
     group.test("every state of two pages, words of five values", || format!("{} states", exhaustive::states(&compared, layout)));
+}
+
+/// How many times 40,000 volumes are compared: ten, or as often as BPCC_SEEDS says.
+fn seeds() -> u64 {
+    std::env::var("BPCC_SEEDS").map_or(10, |n| n.parse().expect("BPCC_SEEDS is a number"))
 }
 
 /// Tables of blocks, and what is cleaned by them.
