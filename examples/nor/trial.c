@@ -164,7 +164,8 @@ static void play_until_cut(void) {
     bench.in_use = chip_chance(2) == 0 ? PAGES : IN_USE;
     cut_somewhere();
     power_up();
-    if (chip_chance(40) == 0) {
+    if (chip_chance(20) == 0) {
+        chip_cut(CHIP_CUT_IN_A_PROGRAM, chip_chance(6000));
         format();
     }
     for (;;) {
