@@ -255,11 +255,12 @@ static unsigned long wear(const struct chip_use *use, int most) {
 
 static void measure(uint32_t width, uint32_t seed) {
     struct chip_use ring_use, halves_use;
-    const struct figures rings = store_sets(&ring_console, width, seed, &ring_use);
-    const struct figures halves = store_sets(&halves_console, width, seed, &halves_use);
+    struct figures rings, halves;
+    rings = store_sets(&ring_console, width, seed, &ring_use);
     if (wear(&ring_use, 1) - wear(&ring_use, 0) > WEAR_APART + 1) {
         driver_gives_up("the wear is not level");
     }
+    halves = store_sets(&halves_console, width, seed, &halves_use);
     printf("  without a cut, %d sets of 1 to %d of %d pistons:\n", SETS, LARGEST_SET, IN_USE);
     row_of_parts("bytes programmed for each byte stored", per_byte(&ring_use, &rings, width), per_byte(&halves_use, &halves, width));
     row("erasures", erasures(&ring_use), erasures(&halves_use));
