@@ -24,36 +24,37 @@ use Rattle.atomicity.specs.Companions.{StateKnown}
 abbrev pub SpareAt : Volume → ℕ → Type 0
 SpareAt v k = holds (λ r. isExposed (stateAt (v .state)) r && not (isCurrent (stateAt (v .state)) r)) (slotIn FourWords (v .flash .words) k) ≡ true
 
-pub record Unburied : Type 0 where
-  -- after every list under the premises that leaves the state known, where no slot holds such a record, no write is refused by 16;
-  pub where-none :
-      (widths : Widths) (sizes : Sizes) (v : Volume) (events : List Event)
-      → Premises simple widths sizes v events
-      → StateKnown simple widths sizes v events
-      → ((k : ℕ) → k < sizes .slots → ¬ (SpareAt (after simple widths sizes (started simple widths sizes v) events .volume) k))
-      → (page slot : ℕ) (bytes : List ℕ)
-      → ¬ (simpleWriteAnswer widths sizes (after simple widths sizes (started simple widths sizes v) events .volume) page slot bytes ≡ 16)
-  -- nor is one after an erase of a list that has every slot that holds one;
+-- the list has every slot that holds one
+abbrev pub ListsSpare : Sizes → Volume → List ℕ → Type 0
+ListsSpare sizes v slots = (k : ℕ) → k < sizes .slots → SpareAt v k → (i : ℕ) × (i < length slots) × (getD slots i 0 ≡ k)
+
+-- of a volume, and of it after an erase of such a list:
+pub record UnburiedAt (widths : Widths) (sizes : Sizes) (v : Volume) : Type 0 where
+  -- where no slot holds such a record, no write is refused by 16;
+  pub where-none : ((k : ℕ) → k < sizes .slots → ¬ (SpareAt v k)) → (page slot : ℕ) (bytes : List ℕ) → ¬ (simpleWriteAnswer widths sizes v page slot bytes ≡ 16)
+  -- nor is one after the erase;
   pub after-erase :
-      (widths : Widths) (sizes : Sizes) (v : Volume) (events : List Event)
-      → Premises simple widths sizes v events
-      → StateKnown simple widths sizes v events
-      → (slots : List ℕ)
-      → ((k : ℕ) → k < sizes .slots → SpareAt (after simple widths sizes (started simple widths sizes v) events .volume) k → (i : ℕ) × (i < length slots) × (getD slots i 0 ≡ k))
-      → simpleEraseAnswer widths sizes (after simple widths sizes (started simple widths sizes v) events .volume) slots ≡ 0
+      (slots : List ℕ)
+      → ListsSpare sizes v slots
+      → simpleEraseAnswer widths sizes v slots ≡ 0
       → (page slot : ℕ) (bytes : List ℕ)
-      → ¬ (simpleWriteAnswer widths sizes (perform simple widths sizes (after simple widths sizes (started simple widths sizes v) events .volume) (Call.Erase slots) .left) page slot bytes ≡ 16)
-  -- the write that was refused by 16 is then accepted;
+      → ¬ (simpleWriteAnswer widths sizes (perform simple widths sizes v (Call.Erase slots) .left) page slot bytes ≡ 16)
+  -- and the write that was refused by 16 is then accepted
   pub then-done :
+      (slots : List ℕ)
+      → ListsSpare sizes v slots
+      → simpleEraseAnswer widths sizes v slots ≡ 0
+      → (page slot : ℕ) (bytes : List ℕ)
+      → simpleWriteAnswer widths sizes v page slot bytes ≡ 16
+      → simpleWriteAnswer widths sizes (perform simple widths sizes v (Call.Erase slots) .left) page slot bytes ≡ 0
+
+pub record Unburied : Type 0 where
+  -- so it is after every list under the premises that leaves the state known;
+  pub reached :
       (widths : Widths) (sizes : Sizes) (v : Volume) (events : List Event)
       → Premises simple widths sizes v events
       → StateKnown simple widths sizes v events
-      → (slots : List ℕ)
-      → ((k : ℕ) → k < sizes .slots → SpareAt (after simple widths sizes (started simple widths sizes v) events .volume) k → (i : ℕ) × (i < length slots) × (getD slots i 0 ≡ k))
-      → simpleEraseAnswer widths sizes (after simple widths sizes (started simple widths sizes v) events .volume) slots ≡ 0
-      → (page slot : ℕ) (bytes : List ℕ)
-      → simpleWriteAnswer widths sizes (after simple widths sizes (started simple widths sizes v) events .volume) page slot bytes ≡ 16
-      → simpleWriteAnswer widths sizes (perform simple widths sizes (after simple widths sizes (started simple widths sizes v) events .volume) (Call.Erase slots) .left) page slot bytes ≡ 0
+      → UnburiedAt widths sizes (after simple widths sizes (started simple widths sizes v) events .volume)
   -- and a list of such slots, none of them twice, is accepted wherever a write is refused by 16.
   pub accepted :
       (widths : Widths) (sizes : Sizes) (v : Volume) (page slot : ℕ) (bytes slots : List ℕ)

@@ -21,7 +21,7 @@ use Rattle.rules.specs.laws.Volume.{FitsIn}
 use Rattle.rules.specs.Read.{readOutcomeIn}
 use Rattle.atomicity.specs.Family.{Family, backPointer}
 use Rattle.atomicity.specs.Call.{Call, perform, flashStages}
-use Rattle.atomicity.specs.Run.{Event, doneOf, cutShort, wasDone, happens, started, after}
+use Rattle.atomicity.specs.Run.{Event, wasDone, cutShort, happens, started, after}
 use Rattle.atomicity.specs.Promise.{Premises}
 
 -- ---- the paper's InvComm and InvUsed
@@ -71,19 +71,12 @@ pub record PremisesMet (F : Family) : Type 0 where
 
 -- ---- stages
 
--- the steps of which the test says that they were done, by the numbers of stage and step; the first of the stages has number k
-unfoldable pub doneIn : (ℕ → ℕ → Bool) → ℕ → List (List Step) → List Step
-doneIn test k [] = []
-doneIn test k (first ∷ rest) = doneOf (test k) 0 first ++ doneIn test (suc k) rest
-
 -- What ties a call's stages to what it leaves, and a crash to the stages.
 pub record StagesInOrder (F : Family) : Type 0 where
   -- a call that returns leaves the flash that all its stages leave, done one after the other
   pub performed : (widths : Widths) (sizes : Sizes) (v : Volume) (call : Call) → perform F widths sizes v call .left .flash ≡ applyAllIn (F .layout) (sizes .width) (v .flash) (flatten (flashStages F widths sizes v call))
   -- a crash past the last stage leaves all done
   pub past-last : (stage : ℕ) (done : ℕ → Bool) (stages : List (List Step)) → length stages ≤ stage → cutShort stage done stages ≡ flatten stages
-  -- any crash leaves done exactly the steps that `wasDone` names
-  pub exactly : (stage : ℕ) (done : ℕ → Bool) (stages : List (List Step)) → cutShort stage done stages ≡ doneIn (wasDone stage done) 0 stages
   -- where a step of a stage was done, every step of each stage before it was
   pub in-order : (stage : ℕ) (done : ℕ → Bool) (k i j n : ℕ) → wasDone stage done k i ≡ true → j < k → wasDone stage done j n ≡ true
 

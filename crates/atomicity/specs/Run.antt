@@ -24,15 +24,18 @@ unfoldable pub doneOf : (ℕ → Bool) → ℕ → List Step → List Step
 doneOf done i [] = []
 doneOf done i (s ∷ steps) = cond (done i) (s ∷ doneOf done (suc i) steps) (doneOf done (suc i) steps)
 
--- The steps that a crash leaves done: the stages before its own whole, any part of its own, and nothing of those behind it.
-unfoldable pub cutShort : (stage : ℕ) (done : ℕ → Bool) → List (List Step) → List Step
-cutShort stage done [] = []
-cutShort zero done (first ∷ rest) = doneOf done 0 first
-cutShort (suc stage) done (first ∷ rest) = first ++ cutShort stage done rest
+-- of stages, of which the first has number k, the steps that were done, by the numbers of stage and step
+unfoldable pub doneIn : (ℕ → ℕ → Bool) → ℕ → List (List Step) → List Step
+doneIn done k [] = []
+doneIn done k (first ∷ rest) = doneOf (done k) 0 first ++ doneIn done (suc k) rest
 
--- step i of stage k was done: its stage is before the crash's, or is the crash's and the step is among those done
+-- A crash leaves done all steps of the stages before its own, any of its own, and none of those behind it: step i of stage k was done.
 unfoldable pub wasDone : (stage : ℕ) (done : ℕ → Bool) → (k i : ℕ) → Bool
 wasDone stage done k i = ltb k stage || (eqb k stage && done i)
+
+-- the steps that a crash leaves done
+unfoldable pub cutShort : (stage : ℕ) (done : ℕ → Bool) → List (List Step) → List Step
+cutShort stage done stages = doneIn (wasDone stage done) 0 stages
 
 -- a volume, and whether its state is lost: there was a crash, and no recover has answered 0 since
 pub record World : Type 0 where

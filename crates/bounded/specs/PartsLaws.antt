@@ -3,7 +3,7 @@ use Prim.Native.Nat.{ℕ, zero, suc, _+_, _*_, _-_, _≤_, _<_}
 use native.Mathlib.Nat.{mul-le-mul-left, mul-suc, mul-zero}
 use native.Mathlib.Omega.{arith}
 use mathlib.Core.Path.{_≡_, refl, sym, ap, ap₂, _∙_, subst, fun-ext}
-use mathlib.Core.List.{List, [], _++_, append-nil, append-assoc}
+use mathlib.Core.List.{List, [], _∷_, _++_, append-nil, append-assoc}
 use borrow.Author.Tests.{eq-eqb, ne-eqb}
 use lib.ListN.{length, take, drop, getD, length-append, length-take, length-drop, take-append-drop}
 use lib.Seq.{take-append-le, drop-append-le, take-at, drop-at, drop-append-add, drop-drop, length-take-le, getD-take, getD-drop}
@@ -80,6 +80,12 @@ module _ {A : Type 0} where
   pub part-length : (w n k : ℕ) (l : List A) → k < n → length l ≡ w * n → length (part w k l) ≡ w
   unfolding part
   part-length w n k l h q = simp (length-take, length-drop) (let i = part-inside w n k h in omega arith)
+
+  -- an element of the list is the same, whatever stands for those outside it
+  pub element-there : (l : List A) (i : ℕ) (d e : A) → i < length l → getD l i d ≡ getD l i e
+  element-there [] i d e h = absurd (omega arith)
+  element-there (x ∷ l) zero d e h = refl
+  element-there (x ∷ l) (suc i) d e h = element-there l i d e (omega arith)
 
   -- element j of part k is element wk + j
   pub part-at : (w k : ℕ) (l : List A) (j : ℕ) (d : A) → j < w → getD (part w k l) j d ≡ getD l (w * k + j) d

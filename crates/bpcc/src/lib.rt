@@ -1,4 +1,4 @@
-// The C interface: every call, exported. The functions `star_cases`, `exposed_found`, `promise_3`, `cleaning`, `sweeping`, `picking`, `doubting`, `two_widths` and `slowest_start` pin theorems in their contracts.
+// The C interface: every call, exported. The functions `star_cases`, `meanings`, `exposed_found`, `promise_3`, `cleaning`, `sweeping`, `picking`, `doubting`, `two_widths` and `slowest_start` pin theorems in their contracts.
 
 pub mod scc; // scc.rt: the second family
 
@@ -28,7 +28,7 @@ ghost use Rattle.upkeep.specs.Sweep.{sweepOutcome};
 ghost use Rattle.upkeep.specs.Pick.{pickOutcome};
 ghost use Rattle.rules.specs.Recover.{recoverOutcome};
 ghost use Rattle.upkeep.specs.Doubtful.{doubtfulOutcome};
-ghost use Rattle.rules.specs.Links.{backPointing, LinksAtMost, OneRingReaches, LinksAreSteps, LinksApart};
+ghost use Rattle.rules.specs.Links.{backPointing, simply, LinksAtMost, OneRingReaches, LinksAreSteps, LinksApart};
 ghost use Rattle.rules.specs.cases.Star.{starTable};
 ghost use Rattle.rules.specs.cases.Found.{foundRows};
 ghost use Rattle.rules.specs.cases.Links.{linkRows};
@@ -44,6 +44,7 @@ ghost use Rattle.upkeep.specs.Picked.{GoingRound, Picked, LargerFindsNoLess};
 ghost use Rattle.upkeep.specs.Doubted.{Fillings, Doubted, NoneRecovers, EmptyListRecovers};
 ghost use Rattle.cases.specs.Doubtful.{doubtfulRows};
 ghost use Rattle.rules.specs.laws.Found.{FoundExactly, JudgedByFound};
+ghost use Rattle.rules.specs.Meanings.{SoundMeans, PermissionMeans, EraseMeans, SuggestMeans, AstrayMeans, TwinsAlone, SecondMeans, SimpleEraseMeans, BuryMeans};
 ghost use Rattle.atomicity.specs.Family.{backPointer};
 ghost use Rattle.atomicity.specs.Promise.{PromiseAt, Promise3, OwnState};
 ghost use Rattle.atomicity.specs.Companions.{StatesAgree, PremisesMet, StagesInOrder, CleaningUnseen, Sweeping};
@@ -393,6 +394,21 @@ pub fn star_cases()
     ensures bounds { λ _. ⌜ RowsHold boundRows ⌝ }
     ensures records { λ _. ⌜ RowsHold writeRows ⌝ }
     ensures suggested { λ _. ⌜ RowsHold suggestRows ⌝ }
+{}
+
+// The tests and answers are exactly documents 01's and 02's sentences: what is sound; what may be erased, and what 12 and 13 mean; where links go astray, in both families; that recovery and suggest see
+// of the contents only which slots are twins; and of records without a back pointer the second highest version, what may be erased, and what 16 means.
+pub fn meanings()
+    ensures sound { λ _. ⌜ SoundMeans ⌝ }
+    ensures permission { λ _. ⌜ PermissionMeans ⌝ }
+    ensures erases { λ _. ⌜ EraseMeans ⌝ }
+    ensures suggests { λ _. ⌜ SuggestMeans ⌝ }
+    ensures astray { λ _. ⌜ AstrayMeans backPointing ⌝ }
+    ensures twins { λ _. ⌜ TwinsAlone ⌝ }
+    ensures simply_astray { λ _. ⌜ AstrayMeans simply ⌝ }
+    ensures second_highest { λ _. ⌜ SecondMeans ⌝ }
+    ensures simply_erases { λ _. ⌜ SimpleEraseMeans ⌝ }
+    ensures buries { λ _. ⌜ BuryMeans ⌝ }
 {}
 
 // Document 02, wish 2: "what is found is every exposed record and no other, and … judging by it is the rule's permission for any list"; and what is

@@ -16,6 +16,7 @@ ghost use Rattle.record.specs.Slot.{slotAt, isBlank};
 ghost use Rattle.record.specs.Flash.{flash};
 ghost use Rattle.state.specs.State.{stateAt};
 ghost use Rattle.twins.specs.Twins.{twins};
+ghost use Rattle.rules.specs.Permission.{sceneOf};
 ghost use Rattle.rules.specs.Volume.{volume};
 ghost use Rattle.upkeep.specs.Clean.{isCopied, blankOutside, cleanFrom};
 ghost use Rattle.clean.specs.Choosing.{Chosen};
@@ -37,8 +38,7 @@ fn is_copied(
     requires { ⌜ Chosen sizes (now words) (now contents) (now state) (now chains) (now found) (now marks) block ⌝ }
     requires { ⌜ slot < sizes .slots ⌝ }
     requires { ⌜ inBlock block slot ≡ true ⌝ }
-    ensures { λ r. ⌜ r ≡ isCopied (sizes .slots) (slotAt (now (words .entry))) (stateAt (now (state .entry)))
-        (twins (sizes .width) (flash (now (words .entry)) (now (contents .entry)))) (inBlock block) slot ⌝ }
+    ensures { λ r. ⌜ r ≡ isCopied (sceneOf sizes (volume (now (words .entry)) (now (contents .entry)) (now (state .entry)))) (inBlock block) slot ⌝ }
 {
     if record::slot_at(words, slot).is_blank() {
         return false;
@@ -62,8 +62,7 @@ fn note_copied(
     from: &mut [u16; 1024],
 ) -> usize
     requires { ⌜ Chosen sizes (now words) (now contents) (now state) (now chains) (now found) (now marks) block ⌝ }
-    ensures { λ r. ⌜ Noted (isCopied (sizes .slots) (slotAt (now (words .entry))) (stateAt (now (state .entry)))
-        (twins (sizes .width) (flash (now (words .entry)) (now (contents .entry)))) (inBlock block)) (sizes .slots) (now (from .exit)) r ⌝ }
+    ensures { λ r. ⌜ Noted (isCopied (sceneOf sizes (volume (now (words .entry)) (now (contents .entry)) (now (state .entry)))) (inBlock block)) (sizes .slots) (now (from .exit)) r ⌝ }
 {
     *from = [0; 1024];
     let mut count = 0;
@@ -96,8 +95,7 @@ pub fn find_copied(
     from: &mut [u16; 1024],
 ) -> usize
     requires { ⌜ Cleanable sizes (now words) (now contents) (now state) block ⌝ }
-    ensures kept { λ r. ⌜ Noted (isCopied (sizes .slots) (slotAt (now (words .entry))) (stateAt (now (state .entry)))
-        (twins (sizes .width) (flash (now (words .entry)) (now (contents .entry)))) (inBlock block)) (sizes .slots) (now (from .exit)) r ⌝ }
+    ensures kept { λ r. ⌜ Noted (isCopied (sceneOf sizes (volume (now (words .entry)) (now (contents .entry)) (now (state .entry)))) (inBlock block)) (sizes .slots) (now (from .exit)) r ⌝ }
     ensures finds { λ r. ⌜ take r (now (from .exit)) ≡ cleanFrom sizes (volume (now (words .entry)) (now (contents .entry)) (now (state .entry))) block ⌝ }
 {
     let mut chains = [0u16; 2048];

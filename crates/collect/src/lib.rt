@@ -12,6 +12,7 @@ ghost use Rattle.record.specs.Flash.{flash, Step, applyIn, applyAllIn};
 ghost use Rattle.state.specs.State.{stateAt};
 ghost use Rattle.table.specs.Table.{tableSound};
 ghost use Rattle.twins.specs.Twins.{twins};
+ghost use Rattle.rules.specs.Permission.{scene};
 ghost use Rattle.rules.specs.Volume.{volume};
 ghost use Rattle.rules.specs.Erase.{eraseSteps};
 ghost use Rattle.rules.specs.laws.Families.{mayEraseAllIn, eraseAnswerIn, eraseOutcomeIn};
@@ -58,8 +59,7 @@ fn may_erase_all(
     requires { ⌜ sizes .width * sizes .slots ≤ length (now contents) ⌝ }
     requires { ⌜ tableSound (sizes .pages) (sizes .slots) (slotIn layout (now words)) ≡ true ⌝ }
     requires { ⌜ Listed (sizes .slots) (now list) ⌝ }
-    ensures { λ r. ⌜ r ≡ mayEraseAllIn layout (sizes .slots) (slotIn layout (now (words .entry))) (stateAt (now (state .entry)))
-        (twins (sizes .width) (flash (now (words .entry)) (now (contents .entry)))) (now (list .entry)) ⌝ }
+    ensures { λ r. ⌜ r ≡ mayEraseAllIn layout (scene (sizes .slots) (slotIn layout (now (words .entry))) (stateAt (now (state .entry))) (twins (sizes .width) (flash (now (words .entry)) (now (contents .entry))))) (now (list .entry)) ⌝ }
 {
     match layout {
         Layout::FiveWords => judge::may_erase_all(sizes, words, contents, state, list),

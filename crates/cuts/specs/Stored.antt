@@ -15,7 +15,7 @@ use Rattle.outcome.specs.Outcome.{Outcome}
 use Rattle.outcome.specs.OutcomeLaws.{settled-done, settled-refused}
 use Rattle.sizes.specs.declared.Layout.the-variants.{FiveWords}
 use Rattle.sizes.specs.declared.Sizes.{Sizes}
-use Rattle.record.specs.Flash.{Flash, applyAll, applyAllIn}
+use Rattle.record.specs.Flash.{Flash, Step, applyAll, applyAllIn}
 use Rattle.record.specs.FlashLaws.{SizedIn, members-below, blanks-sized, store-sized}
 use Rattle.state.specs.declared.PageState.{PageState}
 use Rattle.state.specs.State.{stateAt, stateWords, inFlight}
@@ -31,7 +31,8 @@ use Rattle.rules.specs.laws.Outcomes.{write-refused, write-done}
 use Rattle.dispatch.specs.Dispatch.{lost}
 use Rattle.atomicity.specs.Family.{Family, backPointer}
 use Rattle.atomicity.specs.Call.{Call, withFlash, perform, plannedStages, flashStages}
-use Rattle.atomicity.specs.Run.{Event, World, doneOf, cutShort, wasDone, happens}
+use Rattle.atomicity.specs.Run.{Event, World, doneOf, doneIn, cutShort, wasDone, happens}
+use Rattle.atomicity.specs.steps.Stages.{cut-first}
 use Rattle.atomicity.specs.Model.{Told, Model, closeAll, enter, accept, learns}
 use Rattle.atomicity.specs.Promise.{toldOfCrash, told}
 use Rattle.everywhere.specs.Cuts.{wipedState, Recorded, Point, upTo, slotOf, stagePoints, pointsFrom, readsKept, comesBack, sameAfter, cutsIn, answerBy, eraseOutcomeBy, erasing}
@@ -103,11 +104,11 @@ module _ (widths : Widths) (sizes : Sizes) where
             })
 
     pub erase-cuts : (trial b : Bool) (slots : List ℕ) → cutsIn (erasing trial) widths sizes (world d b) m (Recorded.Makes (Call.Erase slots)) ≡ cutsOfErase widths sizes trial d slots
-    unfolding cutsIn cutsOfErase flashStages perform withFlash plannedStages pointsFrom stagePoints eraseCuts sameAfter happens told toldOfCrash learns closeAll cutShort filled
+    unfolding cutsIn cutsOfErase flashStages perform withFlash plannedStages pointsFrom stagePoints eraseCuts sameAfter happens told toldOfCrash learns closeAll filled
     erase-cuts trial b slots =
         on-test (eqb (eraseOutcomeBy trial widths sizes (d .volume) slots .answer) 0)
         (λ y. rw (y, append-nil (stagePoints 0 (map slotOf (eraseSteps slots))), slots-of slots)
-        (at-points _ _ _ slots (λ k. back-either trial _ _ ∙ back-cong backPointer _ (m .kept) (filled (sizes .width) (d .kept)) (f .kept-is))))
+        (at-points _ _ _ slots (λ k. ap (λ (l : List Step). comesBack (erasing trial) widths sizes (record { flash = applyAllIn FiveWords (sizes .width) (d .volume .flash) l; state = wipedState sizes }) (m .kept)) (cut-first (upTo slots k) (eraseSteps slots) []) ∙ back-either trial _ _ ∙ back-cong backPointer _ (m .kept) (filled (sizes .width) (d .kept)) (f .kept-is))))
         (λ n. rw n)
 
     -- ---- write
@@ -220,7 +221,7 @@ module _ (widths : Widths) (sizes : Sizes) where
       stored-same :
           (trial b : Bool) → writeAnswer widths sizes (d .volume) page slot bytes ≡ 0 → eqb (outcome .answer) 0 ≡ true
           → sameAfter (erasing trial) widths sizes (world d b) m (Event.CrashIn call 0 (upTo (slot ∷ []) slot) (wipedState sizes)) ≡ deskBack widths sizes (writeDesk widths sizes d page slot fill)
-      unfolding sameAfter happens told toldOfCrash learns closeAll flashStages perform plannedStages cutShort doneOf wasDone upTo deskBack writeChange writeStep filled enter applyAllIn
+      unfolding sameAfter happens told toldOfCrash learns closeAll flashStages perform plannedStages cutShort doneIn doneOf wasDone upTo deskBack writeChange writeStep filled enter applyAllIn
       stored-same trial b e y =
           let l : leb slot slot ≡ true = le-leb slot slot (omega arith) in
           let v : writeDesk widths sizes d page slot fill .volume ≡ writeChange sizes (d .volume) page slot bytes = sym write-volume ∙ ap (λ (o : Outcome Volume). o .left) (write-done widths sizes (d .volume) page slot bytes e) in

@@ -15,9 +15,9 @@ use Rattle.record.specs.declared.Slot.the-variants.{Blank, Holds}
 use Rattle.record.specs.Slot.{holds}
 use Rattle.state.specs.declared.PageState.{PageState}
 use Rattle.state.specs.State.{isSet}
-use Rattle.rules.specs.Permission.{isObsolete, isNeeded, mayEraseRecord, mayErase}
-use Rattle.rules.specs.Found.{exposedSlots, mayEraseBy}
-use Rattle.rules.specs.laws.Found.{judged-by-found}
+use Rattle.rules.specs.Permission.{isObsolete, isNeeded, mayEraseRecord, mayErase, Scene, noTwins, untwinned}
+use Rattle.rules.specs.Found.{exposedSlots, byFound}
+use Rattle.rules.specs.laws.Found.{found-scene}
 use Rattle.permit.specs.SearchLaws.{holds-record}
 use Rattle.fleet.specs.Figures.{isNeededStraddler, slotsWith, setPages, figuresOf}
 use Rattle.fleet.specs.FiguresLaws.{erased-unless-needed}
@@ -96,20 +96,20 @@ module _ (S : ℕ) (t : ℕ → Slot) (st : ℕ → PageState) where
         ap₂ (λ (a b : ℕ). record { all = a; needed = b }) (no-more obsoleteAt k all-so-far e) (no-more neededAt k needed-so-far (not-needed (t k) e))
 
     -- with one, judged by the exposed records:
-    module _ {r : Record} (here : t k ≡ Holds r) (obsolete : isObsolete st r ≡ true) {found : List ℕ} (all-found : found ≡ exposedSlots S t st) {may : Bool} (judged : may ≡ mayEraseBy S t st found k) where
+    module _ {r : Record} (here : t k ≡ Holds r) (obsolete : isObsolete st r ≡ true) {found : List ℕ} (all-found : found ≡ exposedSlots S t st) {may : Bool} (judged : may ≡ mayErase (byFound (untwinned S t st) found) k) where
       is-obsolete : obsoleteAt k ≡ true
       is-obsolete = holds-record (isObsolete st) here ∙ obsolete
 
-      may-unless-needed : may ≡ not (isNeeded S t st r)
+      may-unless-needed : may ≡ not (isNeeded (untwinned S t st) r)
       unfolding mayErase
       may-unless-needed =
           judged
-          ∙ ap (λ (l : List ℕ). mayEraseBy S t st l k) all-found
-          ∙ judged-by-found S t st k
-          ∙ holds-record (mayEraseRecord S t st) here
+          ∙ ap (λ (l : List ℕ). mayErase (byFound (untwinned S t st) l) k) all-found
+          ∙ ap (λ (s : Scene). mayErase s k) (found-scene S t st noTwins)
+          ∙ holds-record (mayEraseRecord (untwinned S t st)) here
           ∙ erased-unless-needed S t st r obsolete
 
-      is-needed : neededAt k ≡ isNeeded S t st r
+      is-needed : neededAt k ≡ isNeeded (untwinned S t st) r
       unfolding isNeededStraddler
       is-needed = holds-record (isNeededStraddler S t st) here ∙ rw obsolete
 
@@ -119,7 +119,7 @@ module _ (S : ℕ) (t : ℕ → Slot) (st : ℕ → PageState) where
       one-spare e =
           ap₂ (λ (a b : ℕ). record { all = a; needed = b })
           (one-more obsoleteAt k all-so-far is-obsolete)
-          (no-more neededAt k needed-so-far (is-needed ∙ not-true (isNeeded S t st r) (sym may-unless-needed ∙ e)))
+          (no-more neededAt k needed-so-far (is-needed ∙ not-true (isNeeded (untwinned S t st) r) (sym may-unless-needed ∙ e)))
 
       -- or is needed
       pub one-needed : may ≡ false → record { all = before .all + 1; needed = before .needed + 1 } ≡ obsoleteBelow S t st (k + 1)
@@ -127,7 +127,7 @@ module _ (S : ℕ) (t : ℕ → Slot) (st : ℕ → PageState) where
       one-needed e =
           ap₂ (λ (a b : ℕ). record { all = a; needed = b })
           (one-more obsoleteAt k all-so-far is-obsolete)
-          (one-more neededAt k needed-so-far (is-needed ∙ not-false (isNeeded S t st r) (sym may-unless-needed ∙ e)))
+          (one-more neededAt k needed-so-far (is-needed ∙ not-false (isNeeded (untwinned S t st) r) (sym may-unless-needed ∙ e)))
 
   -- ---- the figures
 

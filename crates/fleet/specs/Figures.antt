@@ -13,7 +13,7 @@ use Rattle.record.specs.Slot.{slotAt, holds}
 use Rattle.record.specs.Flash.{Flash}
 use Rattle.state.specs.declared.PageState.{PageState}
 use Rattle.state.specs.State.{stateAt, isSet}
-use Rattle.rules.specs.Permission.{isObsolete, isExposed, isNeeded}
+use Rattle.rules.specs.Permission.{isObsolete, isExposed, isNeeded, untwinned}
 use Rattle.upkeep.specs.Doubtful.{recoveryOf}
 use Rattle.fleet.specs.declared.Figures.{Figures}
 use Rattle.fleet.specs.declared.Entry.{Entry}
@@ -21,7 +21,7 @@ use Rattle.fleet.specs.declared.Entry.the-variants.{Counted, Refused}
 
 -- "needed-straddler records": "An obsolete K is needed if …"
 unfoldable pub isNeededStraddler : (S : ℕ) → (ℕ → Slot) → (ℕ → PageState) → Record → Bool
-isNeededStraddler S t st K = isObsolete st K && isNeeded S t st K
+isNeededStraddler S t st K = isObsolete st K && isNeeded (untwinned S t st) K
 
 -- the slots that hold such a record; each of some twins is one
 unfoldable pub slotsWith : (S : ℕ) → (ℕ → Slot) → (Record → Bool) → List ℕ

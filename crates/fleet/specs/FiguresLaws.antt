@@ -9,7 +9,7 @@ use lib.ListN.{length, length-append}
 use borrow.Author.Tests.{lt-ltb, le-ltb, eq-eqb, ne-eqb}
 use Rattle.bounded.specs.Limits.{Widths}
 use Rattle.bounded.specs.Below.{listBelow}
-use Rattle.bounded.specs.Choice.{on-lt, on-eq, on-test, or-false}
+use Rattle.bounded.specs.Choice.{on-lt, on-eq, on-test}
 use Rattle.bounded.specs.Members.{list-none, count-more, count-stays}
 use Rattle.record.specs.declared.Record.{Record}
 use Rattle.record.specs.declared.Slot.{Slot}
@@ -17,8 +17,8 @@ use Rattle.record.specs.declared.Slot.the-variants.{Blank, Holds}
 use Rattle.record.specs.Slot.{isBlank, holds}
 use Rattle.state.specs.declared.PageState.{PageState}
 use Rattle.state.specs.State.{isSet}
-use Rattle.rules.specs.Permission.{isObsolete, isExposed, isNeeded, mayEraseRecord}
-use Rattle.rules.specs.laws.Found.{obsolete-unexposed}
+use Rattle.rules.specs.Permission.{isObsolete, isExposed, isNeeded, mayEraseRecord, untwinned}
+use Rattle.rules.specs.laws.Permission.{by-kind}
 use Rattle.upkeep.specs.Doubtful.{recoveryOf}
 use Rattle.upkeep.specs.laws.Doubtful.{any-sheet-answer, any-sheet-left}
 use Rattle.fleet.specs.Figures.{isNeededStraddler, slotsWith, setPages, figuresOf, entryOf}
@@ -73,19 +73,18 @@ module _ (S : ℕ) (t : ℕ → Slot) (st : ℕ → PageState) where
   slot-parted (Holds r) = record-parted r
 
   -- an obsolete record may be erased unless it is needed
-  pub erased-unless-needed : (r : Record) → isObsolete st r ≡ true → mayEraseRecord S t st r ≡ not (isNeeded S t st r)
-  unfolding mayEraseRecord
-  erased-unless-needed r o = rw (o, obsolete-unexposed S t st r o) (or-false (not (isNeeded S t st r)))
+  pub erased-unless-needed : (r : Record) → isObsolete st r ≡ true → mayEraseRecord (untwinned S t st) r ≡ not (isNeeded (untwinned S t st) r)
+  erased-unless-needed r o = by-kind (untwinned S t st) r ∙ rw o
 
-  needed-parted : (r : Record) → one (isNeededStraddler S t st r) + one (isObsolete st r && mayEraseRecord S t st r) ≡ one (isObsolete st r)
+  needed-parted : (r : Record) → one (isNeededStraddler S t st r) + one (isObsolete st r && mayEraseRecord (untwinned S t st) r) ≡ one (isObsolete st r)
   unfolding isNeededStraddler
-  needed-parted r = on-test (isObsolete st r) (λ o. rw (erased-unless-needed r o, o) (by (isNeeded S t st r))) (λ o. rw o)
+  needed-parted r = on-test (isObsolete st r) (λ o. rw (erased-unless-needed r o, o) (by (isNeeded (untwinned S t st) r))) (λ o. rw o)
     where
       by : (b : Bool) → one b + one (not b) ≡ 1
       by true = refl
       by false = refl
 
-  slot-needed : (s : Slot) → one (holds (isNeededStraddler S t st) s) + one (holds (λ r. isObsolete st r && mayEraseRecord S t st r) s) ≡ one (holds (isObsolete st) s)
+  slot-needed : (s : Slot) → one (holds (isNeededStraddler S t st) s) + one (holds (λ r. isObsolete st r && mayEraseRecord (untwinned S t st) r) s) ≡ one (holds (isObsolete st) s)
   unfolding holds
   slot-needed Blank = refl
   slot-needed (Holds r) = needed-parted r

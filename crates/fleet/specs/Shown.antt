@@ -21,7 +21,7 @@ use Rattle.state.specs.declared.PageState.{PageState}
 use Rattle.state.specs.State.{stateAt}
 use Rattle.rules.specs.Volume.{Volume}
 use Rattle.rules.specs.Recover.{recoverOutcome}
-use Rattle.rules.specs.Permission.{isObsolete, isExposed, mayEraseRecord}
+use Rattle.rules.specs.Permission.{isObsolete, isExposed, mayEraseRecord, untwinned}
 use Rattle.fleet.specs.declared.Figures.{Figures}
 use Rattle.fleet.specs.declared.Entry.{Entry}
 use Rattle.fleet.specs.declared.Entry.the-variants.{Counted, Refused}
@@ -42,7 +42,7 @@ pub record FiguresShown (P S : ℕ) (t : ℕ → Slot) (st : ℕ → PageState) 
       figuresOf P S t st .obsolete + figuresOf P S t st .exposed + length (listBelow S (λ k. holds (λ r. eqb (r .v) (st (r .p) .committed)) (t k)))
       ≡ length (listBelow S (λ k. not (isBlank (t k))))
   -- of the obsolete ones the needed straddlers are those that document 01 does not let go (one with a twin outside the erase list may go, by document 02)
-  pub needed-stay : figuresOf P S t st .needed + length (listBelow S (λ k. holds (λ r. isObsolete st r && mayEraseRecord S t st r) (t k))) ≡ figuresOf P S t st .obsolete
+  pub needed-stay : figuresOf P S t st .needed + length (listBelow S (λ k. holds (λ r. isObsolete st r && mayEraseRecord (untwinned S t st) r) (t k))) ≡ figuresOf P S t st .obsolete
 
 -- Of every volume, recovered on any state of the right length:
 pub record EntriesShown (widths : Widths) : Type 0 where

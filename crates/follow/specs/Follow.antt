@@ -1,4 +1,4 @@
--- Following verdicts from a start, over any table of verdicts: no record and no state is mentioned.
+-- The walk from a start, computed: `Walked` of Steps says what it is, and that the two agree is `LinksAreSteps` of crate rules. Over any table of verdicts: no record and no state is mentioned.
 use Prim.Native.Nat.{ℕ, zero, suc, _+_, _<_}
 use mathlib.Core.Path.{_≡_}
 use mathlib.Core.Bool.{Bool, true, false, cond}

@@ -1,5 +1,5 @@
--- A walk as its steps, apart from how it is computed: which page k links lead to, which link ends it, how many are followed; pages in a ring; and the end of a
--- walk, not counted. Over any table of verdicts: no record is mentioned.
+-- What it is to follow links from a start: which page k links lead to, which link ends the walk, how many are followed; and pages in a ring. Over any table of
+-- verdicts: no record is mentioned. (`Follow` computes such a walk; at the end stands one that is not counted.)
 use Prim.Native.Nat.{ℕ, zero, suc, _+_, _<_}
 use mathlib.Core.Path.{_≡_}
 use mathlib.Core.Bool.{cond}

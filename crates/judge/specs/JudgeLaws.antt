@@ -20,8 +20,9 @@ use Rattle.twins.specs.Twins.{twins}
 use Rattle.twins.specs.TwinsLaws.{twins-hold}
 use Rattle.chain.specs.declared.Key.the-variants.{Pointer}
 use Rattle.chain.specs.Chain.{chainOf, inChain}
-use Rattle.rules.specs.Permission.{twinOutside}
-use Rattle.rules.specs.Found.{mayEraseBy, mayEraseFromBy}
+use Rattle.rules.specs.Permission.{Scene, scene, untwinned, mayErase, twinOutside, mayEraseFrom}
+use Rattle.rules.specs.Found.{byFound}
+use Rattle.rules.specs.laws.Permission.{twins-apart}
 
 -- ---- a slot's twins
 
@@ -56,27 +57,32 @@ module _ (w : ℕ) (f : Flash) (inList : ℕ → Bool) (k : ℕ) where
   pub unlisted-outside : (j : ℕ) → inList j ≡ false → outside j ≡ twins w f j k
   unlisted-outside j e = on-test (twins w f j k) (λ t. rw (t, e)) (λ t. rw t)
 
-  pub blank-none-outside : (S : ℕ) → slotAt (f .words) k ≡ Blank → twinOutside S (twins w f) inList k ≡ false
+  pub blank-none-outside : (S : ℕ) (st : ℕ → PageState) → slotAt (f .words) k ≡ Blank → twinOutside (scene S (slotAt (f .words)) st (twins w f)) inList k ≡ false
   unfolding twinOutside
-  blank-none-outside S e = some-none outside S (λ j h. rw (blank-no-twin w f j k e))
+  blank-none-outside S st e = some-none outside S (λ j h. rw (blank-no-twin w f j k e))
 
 -- ---- by the old rule, or by a twin
 
 module _ (S : ℕ) (t : ℕ → Slot) (st : ℕ → PageState) (found : List ℕ) (twin : ℕ → ℕ → Bool) (inList : ℕ → Bool) (k : ℕ) where
-  pub by-old-rule : mayEraseBy S t st found k ≡ true → mayEraseFromBy S t st found twin inList k ≡ true
-  unfolding mayEraseFromBy
-  by-old-rule e = either-right (twinOutside S twin inList k) e
+  -- what was found, with the twins
+  abbrev twinned : Scene
+  twinned = byFound (scene S t st twin) found
 
-  pub by-twin : mayEraseBy S t st found k ≡ false → mayEraseFromBy S t st found twin inList k ≡ twinOutside S twin inList k
-  unfolding mayEraseFromBy
-  by-twin e = rw e (or-false (twinOutside S twin inList k))
+  old-rule : mayErase twinned k ≡ mayErase (byFound (untwinned S t st) found) k
+  unfolding byFound
+  old-rule = twins-apart (byFound (untwinned S t st) found) twin k
+
+  pub by-old-rule : mayErase (byFound (untwinned S t st) found) k ≡ true → mayEraseFrom twinned inList k ≡ true
+  unfolding mayEraseFrom
+  by-old-rule e = either-right (twinOutside twinned inList k) (old-rule ∙ e)
+
+  pub by-twin : mayErase (byFound (untwinned S t st) found) k ≡ false → mayEraseFrom twinned inList k ≡ twinOutside (scene S t st twin) inList k
+  unfolding byFound mayEraseFrom twinOutside
+  by-twin e = rw (old-rule ∙ e) (or-false (twinOutside twinned inList k))
 
 -- the marks are the list
-pub by-list :
-    (S : ℕ) (t : ℕ → Slot) (st : ℕ → PageState) (found : List ℕ) (twin : ℕ → ℕ → Bool) (k : ℕ) {marks list : ℕ → Bool}
-    → marks ≡ list
-    → mayEraseFromBy S t st found twin marks k ≡ mayEraseFromBy S t st found twin list k
-by-list S t st found twin k e = ap (λ (inList : ℕ → Bool). mayEraseFromBy S t st found twin inList k) e
+pub by-list : (s : Scene) (k : ℕ) {marks list : ℕ → Bool} → marks ≡ list → mayEraseFrom s marks k ≡ mayEraseFrom s list k
+by-list s k e = ap (λ (inList : ℕ → Bool). mayEraseFrom s inList k) e
 
 -- ---- a search upward
 

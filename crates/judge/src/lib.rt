@@ -5,7 +5,6 @@ pub mod choose; // choose.rt: slots that a call chooses itself
 
 ghost use mathlib.Core.Path.{_≡_};
 ghost use mathlib.Core.Bool.{not, _&&_};
-ghost use mathlib.Core.List.{[], _∷_};
 ghost use Prim.Native.Nat.{ℕ, _*_, _≤_, _<_};
 ghost use lib.ListN.{length, getD};
 ghost use Rattle.bounded.specs.Below.{firstBelow};
@@ -13,12 +12,13 @@ ghost use Rattle.sizes.specs.Sizes.{listed};
 ghost use Rattle.sizes.specs.Lists.{Listed};
 ghost use Rattle.record.specs.Slot.{slotAt};
 ghost use Rattle.record.specs.Flash.{flash};
+ghost use Rattle.state.specs.declared.PageState.{PageState};
 ghost use Rattle.state.specs.State.{stateAt};
 ghost use Rattle.chain.specs.Chain.{Linkable};
 ghost use Rattle.twins.specs.Twins.{twins};
 ghost use Rattle.rules.specs.Volume.{volume};
-ghost use Rattle.rules.specs.Permission.{twinOutside, mayEraseAll};
-ghost use Rattle.rules.specs.Found.{mayEraseFromBy, mayEraseAllBy};
+ghost use Rattle.rules.specs.Permission.{twinOutside, scene, sceneOf, mayEraseFrom, mayEraseAll, mayEraseAlone};
+ghost use Rattle.rules.specs.Found.{byFound};
 ghost use Rattle.rules.specs.Suggest.{suggestedSlot};
 ghost use Rattle.judge.specs.Marked.{marked, NoMarks};
 ghost use Rattle.judge.specs.Judgeable.{Comparable, Judgeable};
@@ -59,7 +59,7 @@ fn twin_outside(
 ) -> bool
     requires { ⌜ Comparable (sizes .pages) (sizes .slots) (sizes .width) (now words) (now contents) (now chains) ⌝ }
     requires { ⌜ slot < sizes .slots ⌝ }
-    ensures { λ r. ⌜ r ≡ twinOutside (sizes .slots) (twins (sizes .width) (flash (now (words .entry)) (now (contents .entry)))) (marked (now (marks .entry))) slot ⌝ }
+    ensures { λ r. ⌜ ((st : ℕ → PageState) → r ≡ twinOutside (scene (sizes .slots) (slotAt (now (words .entry))) st (twins (sizes .width) (flash (now (words .entry)) (now (contents .entry))))) (marked (now (marks .entry))) slot) ⌝ }
 {
     let Slot::Holds(record) = record::slot_at(words, slot) else {
         return false;
@@ -89,8 +89,7 @@ pub fn may_erase_from(
 ) -> bool
     requires { ⌜ Judgeable (sizes .pages) (sizes .slots) (sizes .width) (now words) (now contents) (now state) (now chains) (now found) ⌝ }
     requires { ⌜ slot < sizes .slots ⌝ }
-    ensures { λ r. ⌜ r ≡ mayEraseFromBy (sizes .slots) (slotAt (now (words .entry))) (stateAt (now (state .entry))) (now (found .entry))
-        (twins (sizes .width) (flash (now (words .entry)) (now (contents .entry)))) (marked (now (marks .entry))) slot ⌝ }
+    ensures { λ r. ⌜ r ≡ mayEraseFrom (byFound (sceneOf sizes (volume (now (words .entry)) (now (contents .entry)) (now (state .entry)))) (now (found .entry))) (marked (now (marks .entry))) slot ⌝ }
 {
     if permit::may_erase(sizes.slots, words, state, chains, found, slot) {
         return true;
@@ -125,8 +124,7 @@ fn all_permitted(
     requires { ⌜ Judgeable (sizes .pages) (sizes .slots) (sizes .width) (now words) (now contents) (now state) (now chains) (now found) ⌝ }
     requires { ⌜ Listed (sizes .slots) (now list) ⌝ }
     requires { ⌜ marked (now marks) ≡ listed (now list) ⌝ }
-    ensures { λ r. ⌜ r ≡ mayEraseAllBy (sizes .slots) (slotAt (now (words .entry))) (stateAt (now (state .entry))) (now (found .entry))
-        (twins (sizes .width) (flash (now (words .entry)) (now (contents .entry)))) (now (list .entry)) ⌝ }
+    ensures { λ r. ⌜ r ≡ mayEraseAll (byFound (sceneOf sizes (volume (now (words .entry)) (now (contents .entry)) (now (state .entry)))) (now (found .entry))) (now (list .entry)) ⌝ }
 {
     let mut i = 0;
     while i < list.len() {
@@ -152,8 +150,7 @@ pub fn may_erase_alone(
     requires { ⌜ Judgeable (sizes .pages) (sizes .slots) (sizes .width) (now words) (now contents) (now state) (now chains) (now found) ⌝ }
     requires { ⌜ slot < sizes .slots ⌝ }
     requires { ⌜ NoMarks (now marks) ⌝ }
-    ensures { λ r. ⌜ r ≡ mayEraseFromBy (sizes .slots) (slotAt (now (words .entry))) (stateAt (now (state .entry))) (now (found .entry))
-        (twins (sizes .width) (flash (now (words .entry)) (now (contents .entry)))) (listed (slot ∷ [])) slot ⌝ }
+    ensures { λ r. ⌜ r ≡ mayEraseAlone (byFound (sceneOf sizes (volume (now (words .entry)) (now (contents .entry)) (now (state .entry)))) (now (found .entry))) slot ⌝ }
     ensures { λ _. ⌜ NoMarks (now (marks .exit)) ⌝ }
 {
     marks[slot as usize] = 1;
@@ -172,8 +169,7 @@ fn first_permitted(
     found: &[u16],
 ) -> u32
     requires { ⌜ Judgeable (sizes .pages) (sizes .slots) (sizes .width) (now words) (now contents) (now state) (now chains) (now found) ⌝ }
-    ensures { λ r. ⌜ r ≡ firstBelow (sizes .slots) (λ k. mayEraseFromBy (sizes .slots) (slotAt (now (words .entry))) (stateAt (now (state .entry))) (now (found .entry))
-        (twins (sizes .width) (flash (now (words .entry)) (now (contents .entry)))) (listed (k ∷ [])) k) ⌝ }
+    ensures { λ r. ⌜ r ≡ firstBelow (sizes .slots) (mayEraseAlone (byFound (sceneOf sizes (volume (now (words .entry)) (now (contents .entry)) (now (state .entry)))) (now (found .entry)))) ⌝ }
 {
     let mut marks = [0u8; 1024];
     let mut slot = 0;
@@ -208,8 +204,7 @@ pub fn may_erase_all(
     requires { ⌜ 4 * sizes .pages ≤ length (now state) ⌝ }
     requires { ⌜ sizes .width * sizes .slots ≤ length (now contents) ⌝ }
     requires { ⌜ Listed (sizes .slots) (now list) ⌝ }
-    ensures { λ r. ⌜ r ≡ mayEraseAll (sizes .slots) (slotAt (now (words .entry))) (stateAt (now (state .entry)))
-        (twins (sizes .width) (flash (now (words .entry)) (now (contents .entry)))) (now (list .entry)) ⌝ }
+    ensures { λ r. ⌜ r ≡ mayEraseAll (sceneOf sizes (volume (now (words .entry)) (now (contents .entry)) (now (state .entry)))) (now (list .entry)) ⌝ }
 {
     let mut chains = [0u16; 2048];
     chain::link_slots(

@@ -1,6 +1,6 @@
 -- The permission as the code decides it: what one slot, one straddler and one record settle.
 use Prim.Native.Nat.{ℕ, _<_}
-use mathlib.Core.Path.{_≡_, refl}
+use mathlib.Core.Path.{_≡_, refl, _∙_}
 use mathlib.Core.List.{List}
 use mathlib.Core.Bool.{Bool, true, false, not, _&&_}
 use lib.Dec.{ltb, eqb}
@@ -16,8 +16,9 @@ use Rattle.record.specs.Slot.{holds, someRecord, straddles}
 use Rattle.state.specs.declared.PageState.{PageState}
 use Rattle.record.specs.SlotLaws.{holds-exactly}
 use Rattle.table.specs.TableLaws.{holds-of}
-use Rattle.rules.specs.Permission.{isObsolete, isExposed, outdoneBy, isCurrent}
-use Rattle.rules.specs.Found.{neededBy, mayEraseRecordBy}
+use Rattle.rules.specs.Permission.{isObsolete, isExposed, isCurrent, untwinned, outdoneBy, isNeeded, mayEraseRecord}
+use Rattle.rules.specs.Found.{byFound}
+use Rattle.rules.specs.laws.Permission.{by-kind}
 use Rattle.chain.specs.declared.Key.the-variants.{Pointer}
 use Rattle.chain.specs.Chain.{chainOf, inChain}
 
@@ -46,20 +47,21 @@ outdone-in-chain t K k e =
         let c = eqb-true (r .c) (K .c) (both-left (eqb (r .c) (K .c)) (ltb (K .v) (r .v)) (both-right (eqb (r .p) (K .p)) (eqb (r .c) (K .c) && ltb (K .v) (r .v)) q)) in
         eq-eqb (chainOf Pointer r) (chainOf Pointer K) (rw (p, c))
 
-module _ (S : ℕ) (t : ℕ → Slot) (found : List ℕ) (K : Record) where
+module _ (S : ℕ) (t : ℕ → Slot) (found : List ℕ) (K : Record) (st : ℕ → PageState) where
   -- a better straddler settles it
-  pub outdone-not-needed : someBelow S (λ k. holds (outdoneBy K) (t k)) ≡ true → neededBy S t found K ≡ false
-  unfolding neededBy someRecord
+  pub outdone-not-needed : someBelow S (λ k. holds (outdoneBy K) (t k)) ≡ true → isNeeded (byFound (untwinned S t st) found) K ≡ false
+  unfolding byFound isNeeded someRecord
   outdone-not-needed e = rw e
 
   -- an exposed link settles it, where there is no better straddler
-  pub straddled-needed : (i : ℕ) → i < length found → holds (straddles K) (t (getD found i 0)) ≡ true → someBelow S (λ k. holds (outdoneBy K) (t k)) ≡ false → neededBy S t found K ≡ true
-  unfolding neededBy someRecord
+  pub straddled-needed :
+      (i : ℕ) → i < length found → holds (straddles K) (t (getD found i 0)) ≡ true → someBelow S (λ k. holds (outdoneBy K) (t k)) ≡ false → isNeeded (byFound (untwinned S t st) found) K ≡ true
+  unfolding byFound isNeeded someRecord
   straddled-needed i h e none = rw (none, some-of (λ j. holds (straddles K) (t (getD found j 0))) (length found) i h e)
 
   -- no exposed link
-  pub nothing-straddled : someBelow (length found) (λ i. holds (straddles K) (t (getD found i 0))) ≡ false → neededBy S t found K ≡ false
-  unfolding neededBy
+  pub nothing-straddled : someBelow (length found) (λ i. holds (straddles K) (t (getD found i 0))) ≡ false → isNeeded (byFound (untwinned S t st) found) K ≡ false
+  unfolding byFound isNeeded
   nothing-straddled e = rw e (never-both (not (someRecord S t (outdoneBy K))))
     where
       never-both : (b : Bool) → (b && false) ≡ false
@@ -69,15 +71,15 @@ module _ (S : ℕ) (t : ℕ → Slot) (found : List ℕ) (K : Record) where
 -- ---- a record
 
 module _ (S : ℕ) (t : ℕ → Slot) (st : ℕ → PageState) (found : List ℕ) (r : Record) where
-  pub obsolete-by : isObsolete st r ≡ true → mayEraseRecordBy S t st found r ≡ not (neededBy S t found r)
-  unfolding mayEraseRecordBy
-  obsolete-by e = rw e
+  pub obsolete-by : isObsolete st r ≡ true → mayEraseRecord (byFound (untwinned S t st) found) r ≡ not (isNeeded (byFound (untwinned S t st) found) r)
+  unfolding byFound
+  obsolete-by e = by-kind (byFound (untwinned S t st) found) r ∙ rw e
 
-  pub exposed-by : isObsolete st r ≡ false → isExposed st r ≡ true → mayEraseRecordBy S t st found r ≡ not (isCurrent st r)
-  unfolding mayEraseRecordBy
-  exposed-by e h = rw (e, h)
+  pub exposed-by : isObsolete st r ≡ false → isExposed st r ≡ true → mayEraseRecord (byFound (untwinned S t st) found) r ≡ not (isCurrent st r)
+  unfolding byFound
+  exposed-by e h = by-kind (byFound (untwinned S t st) found) r ∙ rw (e, h)
 
   -- a committed record stays
-  pub committed-stays : isObsolete st r ≡ false → isExposed st r ≡ false → mayEraseRecordBy S t st found r ≡ false
-  unfolding mayEraseRecordBy
-  committed-stays e h = rw (e, h)
+  pub committed-stays : isObsolete st r ≡ false → isExposed st r ≡ false → mayEraseRecord (byFound (untwinned S t st) found) r ≡ false
+  unfolding byFound
+  committed-stays e h = by-kind (byFound (untwinned S t st) found) r ∙ rw (e, h)

@@ -4,14 +4,15 @@ pub mod simple; // simple.rt: records without a back pointer
 
 ghost use mathlib.Core.Path.{_≡_};
 ghost use mathlib.Core.Bool.{true};
-ghost use Prim.Native.Nat.{_+_, _*_, _≤_, _<_};
+ghost use Prim.Native.Nat.{ℕ, _+_, _*_, _≤_, _<_};
 ghost use lib.ListN.{length, take};
 ghost use Rattle.bounded.specs.Below.{someBelow};
 ghost use Rattle.bounded.specs.Noted.{Noted};
 ghost use Rattle.record.specs.Slot.{holds, straddles, slotAt};
+ghost use Rattle.state.specs.declared.PageState.{PageState};
 ghost use Rattle.state.specs.State.{stateAt};
-ghost use Rattle.rules.specs.Permission.{isObsolete, isExposed, outdoneBy, isCurrent};
-ghost use Rattle.rules.specs.Found.{exposedSlots, neededBy, mayEraseRecordBy, mayEraseBy};
+ghost use Rattle.rules.specs.Permission.{isObsolete, isExposed, outdoneBy, isCurrent, untwinned, isNeeded, mayEraseRecord, mayErase};
+ghost use Rattle.rules.specs.Found.{exposedSlots, byFound};
 ghost use Rattle.permit.specs.Prepared.{exposedAt, Within, Searchable};
 use chain::Key;
 use record::Record;
@@ -116,7 +117,7 @@ fn is_needed(
 ) -> bool
     requires { ⌜ Searchable slots (now words) (now chains) (now found) ⌝ }
     requires { ⌜ slot < slots ⌝ }
-    ensures { λ r. ⌜ r ≡ neededBy slots (slotAt (now (words .entry))) (now (found .entry)) straddler ⌝ }
+    ensures { λ r. ⌜ ((st : ℕ → PageState) → r ≡ isNeeded (byFound (untwinned slots (slotAt (now (words .entry))) st) (now (found .entry))) straddler) ⌝ }
 {
     let mut needed = false;
     let mut i = 0;
@@ -154,7 +155,7 @@ fn may_erase_record(
     requires { ⌜ Searchable slots (now words) (now chains) (now found) ⌝ }
     requires { ⌜ slot < slots ⌝ }
     requires { ⌜ 4 * «record» .p + 4 ≤ length (now state) ⌝ }
-    ensures { λ r. ⌜ r ≡ mayEraseRecordBy slots (slotAt (now (words .entry))) (stateAt (now (state .entry))) (now (found .entry)) «record» ⌝ }
+    ensures { λ r. ⌜ r ≡ mayEraseRecord (byFound (untwinned slots (slotAt (now (words .entry))) (stateAt (now (state .entry)))) (now (found .entry))) «record» ⌝ }
 {
     if is_obsolete(state, record) {
         return !is_needed(slots, words, chains, found, slot, record);
@@ -177,7 +178,7 @@ pub fn may_erase(
     requires { ⌜ Searchable slots (now words) (now chains) (now found) ⌝ }
     requires { ⌜ Within slots (now words) (now state) ⌝ }
     requires { ⌜ slot < slots ⌝ }
-    ensures { λ r. ⌜ r ≡ mayEraseBy slots (slotAt (now (words .entry))) (stateAt (now (state .entry))) (now (found .entry)) slot ⌝ }
+    ensures { λ r. ⌜ r ≡ mayErase (byFound (untwinned slots (slotAt (now (words .entry))) (stateAt (now (state .entry)))) (now (found .entry))) slot ⌝ }
 {
     let Slot::Holds(record) = record::slot_at(words, slot) else {
         return false;

@@ -14,7 +14,7 @@ use Rattle.sizes.specs.declared.Sizes.{Sizes}
 use Rattle.sizes.specs.Blocks.{NamedBlock, startsOk, blockOk}
 use Rattle.chain.specs.Chain.{Linkable}
 use Rattle.rules.specs.Volume.{Volume, volume}
-use Rattle.upkeep.specs.Pick.{lookedAt, frees, mostFreed, pickedBlock, unseenLead, pickedWords, pickAnswer}
+use Rattle.upkeep.specs.Pick.{lookedAt, frees, mostFreed, pickedBlock, unseenLead, pickOf, fourWords, pickAnswer}
 use Rattle.rules.specs.laws.Chains.{blockJudged, block-judged-passed, volume-spans}
 use Rattle.upkeep.specs.laws.Tests.{pickOwn, pick-chain}
 use Rattle.upkeep.specs.laws.Pick.{unseen-by-place, pick-passes}
@@ -88,6 +88,6 @@ module _ (sizes : Sizes) (v : Volume) (block : NamedBlock) (there : block .numbe
         let f = ap (λ (b : Freed). b .frees) best-picked in
         omega arith
 
-    pub words-picked : (out : List ℕ) → length out ≡ 4 → set (set (set (set out 0 (best .block)) 1 (best .frees)) 2 looked) 3 lead ≡ pickedWords sizes v block n
-    unfolding pickedWords
+    pub words-picked : (out : List ℕ) → length out ≡ 4 → set (set (set (set out 0 (best .block)) 1 (best .frees)) 2 looked) 3 lead ≡ fourWords (pickOf sizes v block n)
+    unfolding pickOf
     words-picked out four = stored out four (best .block) (best .frees) looked lead ∙ rw (best-picked, is-looked, lead-picked)

@@ -8,19 +8,19 @@ use Rattle.bounded.specs.Below.{maxBelow, listBelow}
 use Rattle.bounded.specs.BelowLaws.{firstMost}
 use Rattle.sizes.specs.declared.Block.{Block}
 use Rattle.sizes.specs.declared.Sizes.{Sizes}
-use Rattle.sizes.specs.Sizes.{listed}
 use Rattle.sizes.specs.Blocks.{NamedBlock, blockAt, inBlock}
 use Rattle.record.specs.Slot.{slotAt}
 use Rattle.state.specs.State.{stateAt}
 use Rattle.twins.specs.Twins.{twins}
+use Rattle.rules.specs.Permission.{sceneOf, mayEraseAlone}
 use Rattle.rules.specs.Volume.{Volume}
-use Rattle.rules.specs.Found.{mayEraseFromBy}
+use Rattle.rules.specs.Found.{byFound}
 use Rattle.upkeep.specs.Pick.{seenAt, blockSize}
 use Rattle.pick.specs.declared.Freed.{Freed}
 
 -- slot k may be erased, "a list of one", by what was found
 unfoldable pub aloneBy : Sizes → Volume → (found : List ℕ) → ℕ → Bool
-aloneBy sizes v found k = mayEraseFromBy (sizes .slots) (slotAt (v .flash .words)) (stateAt (v .state)) found (twins (sizes .width) (v .flash)) (listed (k ∷ [])) k
+aloneBy sizes v found k = mayEraseAlone (byFound (sceneOf sizes v) found) k
 
 -- what a block frees, by what was found
 unfoldable pub freesBy : Sizes → Volume → (found : List ℕ) → Block → ℕ

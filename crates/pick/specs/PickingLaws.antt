@@ -14,18 +14,17 @@ use Rattle.bounded.specs.Members.{list-none, count-more, count-stays}
 use Rattle.bounded.specs.Noted.{list-goes-on}
 use Rattle.sizes.specs.declared.Block.{Block}
 use Rattle.sizes.specs.declared.Sizes.{Sizes}
-use Rattle.sizes.specs.Sizes.{listed}
 use Rattle.sizes.specs.Blocks.{NamedBlock, named, startsOk, blockOk, blockAt, inBlock}
 use Rattle.sizes.specs.BlocksLaws.{BlockIn, inside-block, before-block, behind-block, named-inside}
 use Rattle.record.specs.Slot.{slotAt}
 use Rattle.state.specs.State.{stateAt}
 use Rattle.twins.specs.Twins.{twins}
 use Rattle.rules.specs.Volume.{Volume}
-use Rattle.rules.specs.Permission.{mayEraseAlone}
+use Rattle.rules.specs.Permission.{Scene, mayEraseAlone}
 use Rattle.rules.specs.Found.{exposedSlots}
 use Rattle.rules.specs.Suggest.{suggestible}
 use Rattle.upkeep.specs.Pick.{seenAt, blockSize, frees}
-use Rattle.rules.specs.laws.Found.{judged-from-found}
+use Rattle.rules.specs.laws.Found.{found-scene}
 use Rattle.upkeep.specs.laws.Pick.{seen-below}
 use Rattle.pick.specs.declared.Freed.{Freed}
 use Rattle.pick.specs.Picking.{aloneBy, freesBy, bestBy, unseenBy}
@@ -111,10 +110,10 @@ module _ (block : NamedBlock) (f : NamedBlock → ℕ) where
 frees-by-found :
     (sizes : Sizes) (v : Volume) (block : NamedBlock)
     → freesBy sizes v (exposedSlots (sizes .slots) (slotAt (v .flash .words)) (stateAt (v .state))) (blockAt (sizes .slots) block) ≡ frees sizes v block
-unfolding freesBy aloneBy frees suggestible mayEraseAlone
+unfolding freesBy aloneBy frees suggestible
 frees-by-found sizes v block =
-    ap (λ (f : ℕ → Bool). length (listBelow (sizes .slots) (λ k. inBlock (blockAt (sizes .slots) block) k && f k)))
-    (fun-ext (λ k. judged-from-found (sizes .slots) (slotAt (v .flash .words)) (stateAt (v .state)) (twins (sizes .width) (v .flash)) (listed (k ∷ [])) k))
+    ap (λ (s : Scene). length (listBelow (sizes .slots) (λ k. inBlock (blockAt (sizes .slots) block) k && mayEraseAlone s k)))
+    (found-scene (sizes .slots) (slotAt (v .flash .words)) (stateAt (v .state)) (twins (sizes .width) (v .flash)))
 
 pub best-by-found :
     (sizes : Sizes) (v : Volume) (block : NamedBlock) (looked : ℕ) {found : List ℕ}

@@ -3,14 +3,14 @@ use Prim.Native.Nat.{ℕ, _<_}
 use mathlib.Core.Path.{_≡_, refl, subst}
 use mathlib.Core.List.{List}
 use mathlib.Core.Logic.{_⊎_, inl, inr}
-use mathlib.Core.Bool.{true}
+use mathlib.Core.Bool.{Bool, true}
 use Rattle.record.specs.declared.Record.{Record}
 use Rattle.record.specs.declared.Slot.{Slot}
 use Rattle.record.specs.declared.Slot.the-variants.{Holds}
 use Rattle.record.specs.SlotLaws.{Straddles}
 use Rattle.state.specs.declared.PageState.{PageState}
 use Rattle.state.specs.State.{inFlight}
-use Rattle.rules.specs.Permission.{mayErase}
+use Rattle.rules.specs.Permission.{mayErase, scene}
 use Rattle.rules.specs.laws.Permission as slots
 use Rattle.protocol.specs.View.{View, recordView, InSlots, Exposed, Obsolete}
 use Rattle.protocol.specs.Shared.{commOf}
@@ -48,12 +48,12 @@ permitted-same forth back st r (inr x) = inr x
 
 -- the permission of a slot is that of its record over the set
 pub may-erase-permitted :
-    (S : ℕ) (t : ℕ → Slot) (bytes : ℕ → List ℕ) (st : ℕ → PageState) (k : ℕ) (r : Record)
-    → mayErase S t st k ≡ true
+    (S : ℕ) (t : ℕ → Slot) (bytes : ℕ → List ℕ) (st : ℕ → PageState) (twin : ℕ → ℕ → Bool) (k : ℕ) (r : Record)
+    → mayErase (scene S t st twin) k ≡ true
     → t k ≡ Holds r
     → Permitted (InSlots S t bytes) st r
-may-erase-permitted S t bytes st k r e h =
-    let w = slots.may-erase-exactly S t st k .0 e in
+may-erase-permitted S t bytes st twin k r e h =
+    let w = slots.may-erase-exactly S t st twin k .0 e in
     let same : w .0 ≡ r = cc (w .1) in
     subst (Permitted (InSlots S t bytes) st) same (over (w .0) (w .2))
   where

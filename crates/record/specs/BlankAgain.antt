@@ -19,7 +19,7 @@ use Rattle.record.specs.Flash.{Flash, flash, Step, putSlotIn, applyIn, a
 use Rattle.record.specs.FlashLaws.{SizedIn, Blanked}
 
 -- the words of a blank record
-none-at : (layout : Layout) (i : ℕ) → i < strideOf layout → getD (encoded layout blankRecord) i 0 ≡ noNumber
+none-at : (layout : Layout) (i : ℕ) → i < strideOf layout → getD (encoded layout blankRecord) i noNumber ≡ noNumber
 unfolding encoded blankRecord
 none-at FiveWords zero h = refl
 none-at FiveWords (suc zero) h = refl
@@ -41,7 +41,7 @@ module _ (layout : Layout) (w S : ℕ) where
       let l = part-length (strideOf layout) S k words h q in
       let m = encoded-length layout blankRecord in
       let each = slot-blank-exactly layout (part (strideOf layout) k words) .0 e in
-      ext-getD 0 (part (strideOf layout) k words) (encoded layout blankRecord) (l ∙ sym m) (λ i b. each i (omega arith) ∙ sym (none-at layout i (omega arith)))
+      ext-getD noNumber (part (strideOf layout) k words) (encoded layout blankRecord) (l ∙ sym m) (λ i b. each i (omega arith) ∙ sym (none-at layout i (omega arith)))
 
   -- writing over a part what stands there alters nothing
   put-own : (n k : ℕ) (s l : List ℕ) → k < S → length s ≡ n → length l ≡ n * S → part n k l ≡ s → putPart n k s l ≡ l

@@ -21,12 +21,12 @@ encoded FourWords r = r .p ∷ r .v ∷ r .np ∷ r .nv ∷ []
 
 -- the record that words are in a layout; of four, its back pointer is 0
 unfoldable pub decoded : Layout → List ℕ → Record
-decoded FiveWords ws = record { p = getD ws 0 0; v = getD ws 1 0; c = getD ws 2 0; np = getD ws 3 0; nv = getD ws 4 0 }
-decoded FourWords ws = record { p = getD ws 0 0; v = getD ws 1 0; c = 0; np = getD ws 2 0; nv = getD ws 3 0 }
+decoded FiveWords ws = record { p = getD ws 0 noNumber; v = getD ws 1 noNumber; c = getD ws 2 noNumber; np = getD ws 3 noNumber; nv = getD ws 4 noNumber }
+decoded FourWords ws = record { p = getD ws 0 noNumber; v = getD ws 1 noNumber; c = 0; np = getD ws 2 noNumber; nv = getD ws 3 noNumber }
 
 -- "A blank slot has 4,294,967,295 in all five words", or in all four.
 unfoldable pub blankIn : Layout → List ℕ → Bool
-blankIn layout ws = allBelow (strideOf layout) (λ i. eqb (getD ws i 0) noNumber)
+blankIn layout ws = allBelow (strideOf layout) (λ i. eqb (getD ws i noNumber) noNumber)
 
 -- "Any other slot is a record."
 unfoldable pub slotFrom : Layout → List ℕ → Slot

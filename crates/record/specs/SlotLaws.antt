@@ -3,7 +3,7 @@ use Prim.Native.Nat.{ℕ, _≤_, _<_}
 use native.Mathlib.Omega.{arith}
 use mathlib.Core.Path.{_≡_, refl, sym, ap, _∙_}
 use mathlib.Core.Logic.{_⊎_, inl, inr, _↔_}
-use mathlib.Core.List.{List}
+use mathlib.Core.List.{List, [], _∷_}
 use mathlib.Core.Bool.{Bool, true, false, not, _&&_, _||_, false≢true}
 use lib.Dec.{ltb, leb, eqb}
 use lib.ListN.{length, getD}
@@ -167,14 +167,14 @@ record-of-words r = refl
 
 -- "A blank slot has 4,294,967,295 in all five words. Any other slot is a record."
 abbrev pub BlankWords : Layout → List ℕ → Type 0
-BlankWords layout ws = (i : ℕ) → i < strideOf layout → getD ws i 0 ≡ noNumber
+BlankWords layout ws = (i : ℕ) → i < strideOf layout → getD ws i noNumber ≡ noNumber
 
 module _ (layout : Layout) (ws : List ℕ) where
   pub all-blank-exactly : (blankIn layout ws ≡ true) ↔ BlankWords layout ws
   unfolding blankIn
   all-blank-exactly = (
-    λ e i h. eqb-true _ _ (all-at (λ i. eqb (getD ws i 0) noNumber) (strideOf layout) i e h),
-    λ f. all-of (λ i. eqb (getD ws i 0) noNumber) (strideOf layout) (λ i h. eq-eqb _ _ (f i h)),
+    λ e i h. eqb-true _ _ (all-at (λ i. eqb (getD ws i noNumber) noNumber) (strideOf layout) i e h),
+    λ f. all-of (λ i. eqb (getD ws i noNumber) noNumber) (strideOf layout) (λ i h. eq-eqb _ _ (f i h)),
   )
 
   pub slot-blank : blankIn layout ws ≡ true → slotFrom layout ws ≡ Blank
@@ -186,9 +186,9 @@ module _ (layout : Layout) (ws : List ℕ) where
   slot-holds e = rw e
 
   -- one word that is not 4,294,967,295 makes a slot a record
-  pub word-not-blank : (i : ℕ) → i < strideOf layout → ¬ (getD ws i 0 ≡ noNumber) → blankIn layout ws ≡ false
+  pub word-not-blank : (i : ℕ) → i < strideOf layout → ¬ (getD ws i noNumber ≡ noNumber) → blankIn layout ws ≡ false
   unfolding blankIn
-  word-not-blank i h d = all-fails (λ i. eqb (getD ws i 0) noNumber) (strideOf layout) i h (ne-eqb _ _ d)
+  word-not-blank i h d = all-fails (λ i. eqb (getD ws i noNumber) noNumber) (strideOf layout) i h (ne-eqb _ _ d)
 
   pub slot-blank-exactly : (slotFrom layout ws ≡ Blank) ↔ BlankWords layout ws
   slot-blank-exactly = (
@@ -199,15 +199,41 @@ module _ (layout : Layout) (ws : List ℕ) where
       clash : {s : Slot} {r : Record} → s ≡ Blank → s ≡ Holds r → ⊥
       clash e h = let z : _≡_ {A = ℕ} 0 1 = cc in omega arith
 
+-- the words of a slot, read one by one, are those of a record
+pub five-words : (ws : List ℕ) → length ws ≡ 5 → ws ≡ wordsOf (record { p = getD ws 0 0; v = getD ws 1 0; c = getD ws 2 0; np = getD ws 3 0; nv = getD ws 4 0 })
+unfolding encoded
+five-words [] e = absurd (omega arith)
+five-words (a ∷ []) e = absurd (omega arith)
+five-words (a ∷ b ∷ []) e = absurd (omega arith)
+five-words (a ∷ b ∷ c ∷ []) e = absurd (omega arith)
+five-words (a ∷ b ∷ c ∷ d ∷ []) e = absurd (omega arith)
+five-words (a ∷ b ∷ c ∷ d ∷ f ∷ []) e = refl
+five-words (a ∷ b ∷ c ∷ d ∷ f ∷ g ∷ ws) e = absurd (omega arith)
+
 -- four words are blank where they are so in five with a fifth that is
-pub four-blank : (ws : List ℕ) → allBlank (wordsOf (record { p = getD ws 0 0; v = getD ws 1 0; c = noNumber; np = getD ws 2 0; nv = getD ws 3 0 })) ≡ blankIn FourWords ws
+pub four-blank : (ws : List ℕ) → length ws ≡ 4 → allBlank (wordsOf (record { p = getD ws 0 0; v = getD ws 1 0; c = noNumber; np = getD ws 2 0; nv = getD ws 3 0 })) ≡ blankIn FourWords ws
 unfolding blankIn allBelow encoded
-four-blank ws = by (eqb (getD ws 0 0) noNumber) (eqb (getD ws 1 0) noNumber) (eqb (getD ws 2 0) noNumber) (eqb (getD ws 3 0) noNumber)
+four-blank [] e = absurd (omega arith)
+four-blank (a ∷ []) e = absurd (omega arith)
+four-blank (a ∷ b ∷ []) e = absurd (omega arith)
+four-blank (a ∷ b ∷ c ∷ []) e = absurd (omega arith)
+four-blank (a ∷ b ∷ c ∷ d ∷ []) e = by (eqb a noNumber) (eqb b noNumber) (eqb c noNumber) (eqb d noNumber)
   where
     by : (a b c d : Bool) → (((((true && a) && b) && true) && c) && d) ≡ ((((true && a) && b) && c) && d)
     by true true c d = refl
     by true false c d = refl
     by false b c d = refl
+four-blank (a ∷ b ∷ c ∷ d ∷ f ∷ ws) e = absurd (omega arith)
+
+-- the record in four words, read one by one
+pub four-decoded : (ws : List ℕ) → length ws ≡ 4 → decoded FourWords ws ≡ record { p = getD ws 0 0; v = getD ws 1 0; c = 0; np = getD ws 2 0; nv = getD ws 3 0 }
+unfolding decoded
+four-decoded [] e = absurd (omega arith)
+four-decoded (a ∷ []) e = absurd (omega arith)
+four-decoded (a ∷ b ∷ []) e = absurd (omega arith)
+four-decoded (a ∷ b ∷ c ∷ []) e = absurd (omega arith)
+four-decoded (a ∷ b ∷ c ∷ d ∷ []) e = refl
+four-decoded (a ∷ b ∷ c ∷ d ∷ f ∷ ws) e = absurd (omega arith)
 
 -- A record that is not blank in v is decoded from its words; from four where its back pointer is 0.
 abbrev pub Storable : Layout → Record → Type 0

@@ -20,7 +20,7 @@ use Rattle.state.specs.State.{stateAt, stateSound}
 use Rattle.table.specs.Table.{tableSound}
 use Rattle.twins.specs.Twins.{twins}
 use Rattle.rules.specs.Volume.{Volume, volumeFits}
-use Rattle.rules.specs.Permission.{mayEraseAll}
+use Rattle.rules.specs.Permission.{mayEraseAll, sceneOf}
 use Rattle.rules.specs.Erase.{eraseAnswer, eraseSteps, eraseOutcome}
 use Rattle.rules.specs.laws.Volume.{Fits, fits-facts}
 use Rattle.collect.specs.EraseLaws.{ListedIn, listed-in}
@@ -55,7 +55,7 @@ module _ (trial : Bool) (widths : Widths) (sizes : Sizes) (v : Volume) (list : L
       (tableSound (sizes .pages) (sizes .slots) (slotAt (v .flash .words)))
       (stateSound (sizes .pages) (stateAt (v .state)))
       (listOk (sizes .slots) list)
-      (mayEraseAll (sizes .slots) (slotAt (v .flash .words)) (stateAt (v .state)) (twins (sizes .width) (v .flash)) list)
+      (mayEraseAll (sceneOf sizes v) list)
       done
 
   done-fits : Fits widths sizes v

@@ -14,5 +14,6 @@ pub mod Links
 pub mod Simple
 pub mod SimpleCalls
 pub mod Read
+pub mod Meanings
 pub mod laws
 pub mod cases

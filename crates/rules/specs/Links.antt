@@ -14,7 +14,6 @@ use Rattle.sizes.specs.declared.Sizes.{Sizes}
 use Rattle.sizes.specs.Sizes.{sizesOk}
 use Rattle.record.specs.declared.Record.{Record}
 use Rattle.record.specs.declared.Slot.{Slot}
-use Rattle.record.specs.Slot.{slotIn}
 use Rattle.state.specs.declared.PageState.{PageState}
 use Rattle.state.specs.State.{stateWords}
 use Rattle.state.specs.Change.{atRest}
@@ -25,7 +24,7 @@ use Rattle.follow.specs.declared.End.{End}
 use Rattle.follow.specs.declared.End.the-variants as ends
 use Rattle.follow.specs.Follow.{follow}
 use Rattle.follow.specs.Steps.{Walked, Ring, nextInRing, endFrom}
-use Rattle.rules.specs.Volume.{Volume, volume}
+use Rattle.rules.specs.Volume.{Volume, volume, slotsIn}
 use Rattle.rules.specs.Verdict.{verdict}
 use Rattle.rules.specs.Recover.{recovered, recoverAnswer, recoverOutcome}
 use Rattle.rules.specs.Simple.{simpleVerdict, simpleRecovered}
@@ -47,6 +46,10 @@ backPointing = record { layout = FiveWords; verdict = verdict; recovered = recov
 -- document 02's, wish 5, without one
 abbrev pub simply : Following
 simply = record { layout = FourWords; verdict = simpleVerdict; recovered = simpleRecovered; answer = λ widths sizes v. simpleRecoverAnswer widths sizes (v .flash .words) (v .state); outcome = λ widths sizes v. simpleRecoverOutcome widths sizes (v .flash .words) (v .state) }
+
+-- the verdict of each page's highest record, in a volume
+abbrev pub verdictsOf : Following → Sizes → Volume → ℕ → Verdict
+verdictsOf F sizes v = F .verdict (sizes .slots) (slotsIn (F .layout) v)
 
 -- "the one-ring table": all P pages at version 1 in one ring, in the order of their numbers,
 unfoldable pub ringRecord : (P p : ℕ) → Record
@@ -94,12 +97,12 @@ pub record LinksAreSteps (F : Following) : Type 0 where
       → F .answer widths sizes v ≡ 0
       → (p : ℕ)
       → p < sizes .pages
-      → ¬ (follow (sizes .pages) (F .verdict (sizes .slots) (slotIn (F .layout) (v .flash .words))) p .end ≡ ends.Astray)
+      → ¬ (follow (sizes .pages) (verdictsOf F sizes v) p .end ≡ ends.Astray)
   pub summed :
       (widths : Widths) (sizes : Sizes) (v : Volume)
       → F .answer widths sizes v ≡ 0
       → (end : ℕ → End) (links : ℕ → ℕ)
-      → ((p : ℕ) → p < sizes .pages → Walked (F .verdict (sizes .slots) (slotIn (F .layout) (v .flash .words))) p (end p) (links p))
+      → ((p : ℕ) → p < sizes .pages → Walked (verdictsOf F sizes v) p (end p) (links p))
       → F .outcome widths sizes v .second ≡ sumBelow (sizes .pages) links
   pub least : (widths : Widths) (sizes : Sizes) (v : Volume) → F .answer widths sizes v ≡ 0 → sizes .pages ≤ F .outcome widths sizes v .second
   -- "on refusal 0";
@@ -121,5 +124,5 @@ pub record LinksApart (F : Following) : Type 0 where
   pub filled :
       (widths : Widths) (sizes : Sizes) (v : Volume)
       → F .answer widths sizes v ≡ 0
-      → F .outcome widths sizes v .left ≡ stateWords (sizes .pages) (F .recovered (sizes .pages) (sizes .slots) (slotIn (F .layout) (v .flash .words)))
+      → F .outcome widths sizes v .left ≡ stateWords (sizes .pages) (F .recovered (sizes .pages) (sizes .slots) (slotsIn (F .layout) v))
   pub unaltered : (widths : Widths) (sizes : Sizes) (v : Volume) → ¬ (F .answer widths sizes v ≡ 0) → F .outcome widths sizes v .left ≡ v .state

@@ -9,22 +9,22 @@ use Rattle.outcome.specs.Outcome.{_⇒_otherwise_, Outcome, settled}
 use Rattle.sizes.specs.declared.Layout.{Layout}
 use Rattle.sizes.specs.declared.Layout.the-variants.{FiveWords}
 use Rattle.sizes.specs.declared.Sizes.{Sizes}
-use Rattle.record.specs.Slot.{slotIn, bytesAt}
-use Rattle.state.specs.State.{stateAt, stateSound}
+use Rattle.record.specs.Slot.{bytesAt}
+use Rattle.state.specs.State.{stateSound}
 use Rattle.table.specs.Table.{tableSound, lowestSlot, hasVersion}
-use Rattle.rules.specs.Volume.{Volume, volumeFitsIn}
+use Rattle.rules.specs.Volume.{Volume, volumeFitsIn, slotsIn, pagesOf}
 
 -- "the lowest slot holding the page at its committed version"; S where there is none
 unfoldable pub readSlotIn : Layout → ℕ → Volume → ℕ → ℕ
-readSlotIn layout S v page = lowestSlot S (slotIn layout (v .flash .words)) page (stateAt (v .state) page .committed)
+readSlotIn layout S v page = lowestSlot S (slotsIn layout v) page (pagesOf v page .committed)
 
 unfoldable pub readAnswerIn : Layout → Widths → Sizes → Volume → (page : ℕ) (out : List ℕ) → ℕ
 readAnswerIn layout widths sizes v page out =
     not (volumeFitsIn layout widths sizes v && eqb (length out) (sizes .width)) ⇒ 1 otherwise
-    not (tableSound (sizes .pages) (sizes .slots) (slotIn layout (v .flash .words))) ⇒ 2 otherwise
-    not (stateSound (sizes .pages) (stateAt (v .state))) ⇒ 5 otherwise
+    not (tableSound (sizes .pages) (sizes .slots) (slotsIn layout v)) ⇒ 2 otherwise
+    not (stateSound (sizes .pages) (pagesOf v)) ⇒ 5 otherwise
     not (ltb page (sizes .pages)) ⇒ 6 otherwise
-    not (hasVersion (sizes .slots) (slotIn layout (v .flash .words)) page (stateAt (v .state) page .committed)) ⇒ 14 otherwise
+    not (hasVersion (sizes .slots) (slotsIn layout v) page (pagesOf v page .committed)) ⇒ 14 otherwise
     0
 
 -- "copies to a lent 32-byte slice the bytes of" that slot, or to one as long as the width says; it alters nothing but `out`

@@ -8,7 +8,6 @@ use Rattle.outcome.specs.Outcome.{_⇒_otherwise_, Outcome, settled}
 use Rattle.sizes.specs.declared.Sizes.{Sizes}
 use Rattle.record.specs.declared.Slot.{Slot}
 use Rattle.record.specs.declared.Slot.the-variants.{Blank, Holds}
-use Rattle.record.specs.Slot.{slotAt}
 use Rattle.state.specs.declared.PageState.{PageState}
 use Rattle.state.specs.State.{stateWords}
 use Rattle.state.specs.Change.{atRest}
@@ -18,7 +17,7 @@ use Rattle.follow.specs.declared.End.the-variants as ends
 use Rattle.follow.specs.declared.Walk.{Walk}
 use Rattle.follow.specs.Follow.{follow, linksFollowed, isAstray}
 use Rattle.twins.specs.Twins.{twins, someConflict}
-use Rattle.rules.specs.Volume.{Volume, volumeFits}
+use Rattle.rules.specs.Volume.{Volume, volumeFits, slotsOf}
 use Rattle.rules.specs.Verdict.{verdict}
 
 -- the walk from page p's highest record
@@ -52,15 +51,15 @@ recovered P S t p = atRest (committedOf P S t p) (usedOf S t p)
 unfoldable pub recoverAnswer : Widths → Sizes → Volume → ℕ
 recoverAnswer widths sizes v =
     not (volumeFits widths sizes v) ⇒ 1 otherwise
-    not (tableSound (sizes .pages) (sizes .slots) (slotAt (v .flash .words))) ⇒ 2 otherwise
-    (someConflict (sizes .slots) (slotAt (v .flash .words)) (twins (sizes .width) (v .flash)) || not (allBelow (sizes .pages) (hasRecord (sizes .slots) (slotAt (v .flash .words))))) ⇒ 3 otherwise
-    someBelow (sizes .pages) (λ p. isAstray (walkOf (sizes .pages) (sizes .slots) (slotAt (v .flash .words)) p .end)) ⇒ 4 otherwise
-    not (allBelow (sizes .pages) (λ p. hasVersion (sizes .slots) (slotAt (v .flash .words)) p (committedOf (sizes .pages) (sizes .slots) (slotAt (v .flash .words)) p))) ⇒ 14 otherwise
+    not (tableSound (sizes .pages) (sizes .slots) (slotsOf v)) ⇒ 2 otherwise
+    (someConflict (sizes .slots) (slotsOf v) (twins (sizes .width) (v .flash)) || not (allBelow (sizes .pages) (hasRecord (sizes .slots) (slotsOf v)))) ⇒ 3 otherwise
+    someBelow (sizes .pages) (λ p. isAstray (walkOf (sizes .pages) (sizes .slots) (slotsOf v) p .end)) ⇒ 4 otherwise
+    not (allBelow (sizes .pages) (λ p. hasVersion (sizes .slots) (slotsOf v) p (committedOf (sizes .pages) (sizes .slots) (slotsOf v) p))) ⇒ 14 otherwise
     0
 
 -- "Recover: fills the sheet from the slot table". It alters the state alone. Document 02: "Recovery … shall also return the number of links followed …; on
 -- refusal 0."
 unfoldable pub recoverOutcome : Widths → Sizes → Volume → Outcome (List ℕ)
 recoverOutcome widths sizes v =
-    settled (recoverAnswer widths sizes v) 0 (linksOf (sizes .pages) (sizes .slots) (slotAt (v .flash .words)))
-    (v .state) (stateWords (sizes .pages) (recovered (sizes .pages) (sizes .slots) (slotAt (v .flash .words))))
+    settled (recoverAnswer widths sizes v) 0 (linksOf (sizes .pages) (sizes .slots) (slotsOf v))
+    (v .state) (stateWords (sizes .pages) (recovered (sizes .pages) (sizes .slots) (slotsOf v)))

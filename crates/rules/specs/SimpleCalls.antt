@@ -16,11 +16,11 @@ use Rattle.record.specs.declared.Slot.{Slot}
 use Rattle.record.specs.Slot.{slotIn, plannedRecord, isBlank}
 use Rattle.record.specs.Flash.{Flash, Step, applyIn, applyAllIn}
 use Rattle.state.specs.declared.PageState.{PageState}
-use Rattle.state.specs.State.{stateAt, stateWords, stateSound, inFlight, isWritten}
+use Rattle.state.specs.State.{stateWords, stateSound, inFlight, isWritten}
 use Rattle.state.specs.Change.{afterWrite}
 use Rattle.table.specs.Table.{tableSound, someClash, hasRecord}
 use Rattle.follow.specs.Follow.{linksFollowed, isAstray}
-use Rattle.rules.specs.Volume.{Volume, volumeFitsIn}
+use Rattle.rules.specs.Volume.{Volume, volumeFitsIn, slotsIn, pagesOf}
 use Rattle.rules.specs.Write.{writeDone}
 use Rattle.rules.specs.Erase.{eraseSteps}
 use Rattle.rules.specs.Simple.{simpleVerdict, simpleWalkOf, hasCommitted, simpleRecovered, simpleMayEraseAll, wouldBury}
@@ -36,35 +36,35 @@ simplePlanOf st p = plannedRecord p (st p .used) 0 (st p .next) (st (st p .next)
 unfoldable pub simpleWriteAnswer : Widths → Sizes → Volume → (page slot : ℕ) (bytes : List ℕ) → ℕ
 simpleWriteAnswer widths sizes v page slot bytes =
     not (volumeFitsIn FourWords widths sizes v && eqb (length bytes) (sizes .width)) ⇒ 1 otherwise
-    not (tableSound (sizes .pages) (sizes .slots) (slotIn FourWords (v .flash .words))) ⇒ 2 otherwise
-    not (stateSound (sizes .pages) (stateAt (v .state))) ⇒ 5 otherwise
+    not (tableSound (sizes .pages) (sizes .slots) (slotsIn FourWords v)) ⇒ 2 otherwise
+    not (stateSound (sizes .pages) (pagesOf v)) ⇒ 5 otherwise
     not (ltb page (sizes .pages) && ltb slot (sizes .slots)) ⇒ 6 otherwise
-    not (inFlight (stateAt (v .state) page)) ⇒ 9 otherwise
-    isWritten (stateAt (v .state) page) ⇒ 10 otherwise
-    not (isBlank (slotIn FourWords (v .flash .words) slot)) ⇒ 11 otherwise
-    wouldBury (sizes .slots) (slotIn FourWords (v .flash .words)) (stateAt (v .state)) page ⇒ 16 otherwise
+    not (inFlight (pagesOf v page)) ⇒ 9 otherwise
+    isWritten (pagesOf v page) ⇒ 10 otherwise
+    not (isBlank (slotsIn FourWords v slot)) ⇒ 11 otherwise
+    wouldBury (sizes .slots) (slotsIn FourWords v) (pagesOf v) page ⇒ 16 otherwise
     0
 
 unfoldable pub simpleWriteChange : Sizes → Volume → (page slot : ℕ) (bytes : List ℕ) → Volume
 simpleWriteChange sizes v page slot bytes =
     record {
-      flash = applyIn FourWords (sizes .width) (v .flash) (Step.Store slot (simplePlanOf (stateAt (v .state)) page) bytes);
-      state = stateWords (sizes .pages) (afterWrite (sizes .pages) (stateAt (v .state)) page);
+      flash = applyIn FourWords (sizes .width) (v .flash) (Step.Store slot (simplePlanOf (pagesOf v) page) bytes);
+      state = stateWords (sizes .pages) (afterWrite (sizes .pages) (pagesOf v) page);
     }
 
 unfoldable pub simpleWriteOutcome : Widths → Sizes → Volume → (page slot : ℕ) (bytes : List ℕ) → Outcome Volume
 simpleWriteOutcome widths sizes v page slot bytes =
-    settled (simpleWriteAnswer widths sizes v page slot bytes) 0 (writeDone (sizes .pages) (stateAt (v .state)) page) v (simpleWriteChange sizes v page slot bytes)
+    settled (simpleWriteAnswer widths sizes v page slot bytes) 0 (writeDone (sizes .pages) (pagesOf v) page) v (simpleWriteChange sizes v page slot bytes)
 
 -- ---- erase
 
 unfoldable pub simpleEraseAnswer : Widths → Sizes → Volume → (slots : List ℕ) → ℕ
 simpleEraseAnswer widths sizes v slots =
     not (volumeFitsIn FourWords widths sizes v) ⇒ 1 otherwise
-    not (tableSound (sizes .pages) (sizes .slots) (slotIn FourWords (v .flash .words))) ⇒ 2 otherwise
-    not (stateSound (sizes .pages) (stateAt (v .state))) ⇒ 5 otherwise
+    not (tableSound (sizes .pages) (sizes .slots) (slotsIn FourWords v)) ⇒ 2 otherwise
+    not (stateSound (sizes .pages) (pagesOf v)) ⇒ 5 otherwise
     not (listOk (sizes .slots) slots) ⇒ 6 otherwise
-    not (simpleMayEraseAll (slotIn FourWords (v .flash .words)) (stateAt (v .state)) slots) ⇒ 12 otherwise
+    not (simpleMayEraseAll (slotsIn FourWords v) (pagesOf v) slots) ⇒ 12 otherwise
     0
 
 unfoldable pub simpleEraseOutcome : Widths → Sizes → Volume → (slots : List ℕ) → Outcome Flash

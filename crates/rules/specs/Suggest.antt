@@ -5,22 +5,20 @@ use Rattle.bounded.specs.Limits.{noNumber, Widths}
 use Rattle.bounded.specs.Below.{someBelow, firstBelow}
 use Rattle.outcome.specs.Outcome.{_⇒_otherwise_, Outcome, settled}
 use Rattle.sizes.specs.declared.Sizes.{Sizes}
-use Rattle.record.specs.Slot.{slotAt}
-use Rattle.state.specs.State.{stateAt, stateSound}
+use Rattle.state.specs.State.{stateSound}
 use Rattle.table.specs.Table.{tableSound}
-use Rattle.twins.specs.Twins.{twins}
-use Rattle.rules.specs.Volume.{Volume, volumeFits}
-use Rattle.rules.specs.Permission.{mayEraseAlone}
+use Rattle.rules.specs.Volume.{Volume, volumeFits, slotsOf, pagesOf}
+use Rattle.rules.specs.Permission.{sceneOf, mayEraseAlone}
 
 -- slot k may be erased, "a list of one"
 unfoldable pub suggestible : Sizes → Volume → ℕ → Bool
-suggestible sizes v k = mayEraseAlone (sizes .slots) (slotAt (v .flash .words)) (stateAt (v .state)) (twins (sizes .width) (v .flash)) k
+suggestible sizes v k = mayEraseAlone (sceneOf sizes v) k
 
 unfoldable pub suggestAnswer : Widths → Sizes → Volume → ℕ
 suggestAnswer widths sizes v =
     not (volumeFits widths sizes v) ⇒ 1 otherwise
-    not (tableSound (sizes .pages) (sizes .slots) (slotAt (v .flash .words))) ⇒ 2 otherwise
-    not (stateSound (sizes .pages) (stateAt (v .state))) ⇒ 5 otherwise
+    not (tableSound (sizes .pages) (sizes .slots) (slotsOf v)) ⇒ 2 otherwise
+    not (stateSound (sizes .pages) (pagesOf v)) ⇒ 5 otherwise
     not (someBelow (sizes .slots) (suggestible sizes v)) ⇒ 13 otherwise
     0
 

@@ -10,3 +10,4 @@ pub mod Recover
 pub mod Links
 pub mod Simple
 pub mod SimpleAccepted
+pub mod Meanings

@@ -17,10 +17,11 @@ use Rattle.record.specs.SlotLaws.{is-blank-exactly}
 use Rattle.record.specs.Flash.{Flash}
 use Rattle.state.specs.declared.PageState.{PageState}
 use Rattle.twins.specs.Twins.{twins}
-use Rattle.rules.specs.Permission.{isObsolete, isExposed, isCurrent, mayErase}
-use Rattle.rules.specs.Found.{exposedSlots, mayEraseBy}
+use Rattle.rules.specs.Permission.{isObsolete, isExposed, isCurrent, mayErase, scene, untwinned, Scene, noTwins}
+use Rattle.rules.specs.Found.{exposedSlots, byFound}
 use Rattle.upkeep.specs.Sweep.{isSpareExposed, isObsoleteAt, isErasableObsolete, isHigherTwin}
-use Rattle.rules.specs.laws.Found.{judged-by-found}
+use Rattle.rules.specs.laws.Permission.{twins-apart}
+use Rattle.rules.specs.laws.Found.{found-scene}
 use Rattle.upkeep.specs.laws.Sweep.{erasable-obsolete}
 use Rattle.permit.specs.SearchLaws.{holds-none, holds-record}
 use Rattle.judge.specs.JudgeLaws.{blank-no-twin}
@@ -49,20 +50,20 @@ module _ (t : ℕ → Slot) (st : ℕ → PageState) (k : ℕ) where
 module _ (S : ℕ) (t : ℕ → Slot) (st : ℕ → PageState) {found list : List ℕ} {count : ℕ} where
   pub obsolete-noted :
       found ≡ exposedSlots S t st
-      → Noted (λ k. isObsoleteAt t st k && mayEraseBy S t st found k) S list count
-      → Noted (λ k. isObsoleteAt t st k && mayErase S t st k) S list count
+      → Noted (λ k. isObsoleteAt t st k && mayErase (byFound (untwinned S t st) found) k) S list count
+      → Noted (λ k. isObsoleteAt t st k && mayErase (untwinned S t st) k) S list count
   obsolete-noted e n =
       subst (λ (f : ℕ → Bool). Noted f S list count)
-      (fun-ext (λ k. ap (λ (b : Bool). isObsoleteAt t st k && b) (ap (λ (l : List ℕ). mayEraseBy S t st l k) e ∙ judged-by-found S t st k)))
+      (fun-ext (λ k. ap (λ (b : Bool). isObsoleteAt t st k && b) (ap (λ (l : List ℕ). mayErase (byFound (untwinned S t st) l) k) e ∙ ap (λ (s : Scene). mayErase s k) (found-scene S t st noTwins))))
       n
 
 module _ (w : ℕ) (f : Flash) where
   -- an obsolete record's twins are listed with it: the old rule judges it
   pub erasable-noted :
       (S : ℕ) (st : ℕ → PageState) {list : List ℕ} {count : ℕ}
-      → Noted (λ k. isObsoleteAt (slotAt (f .words)) st k && mayErase S (slotAt (f .words)) st k) S list count
-      → Noted (isErasableObsolete S (slotAt (f .words)) st (twins w f)) S list count
-  erasable-noted S st {list} {count} n = subst (λ (g : ℕ → Bool). Noted g S list count) (sym (fun-ext (erasable-obsolete w S f st))) n
+      → Noted (λ k. isObsoleteAt (slotAt (f .words)) st k && mayErase (untwinned S (slotAt (f .words)) st) k) S list count
+      → Noted (isErasableObsolete (scene S (slotAt (f .words)) st (twins w f))) S list count
+  erasable-noted S st {list} {count} n = subst (λ (g : ℕ → Bool). Noted g S list count) (fun-ext (λ k. ap (λ (b : Bool). isObsoleteAt (slotAt (f .words)) st k && b) (sym (twins-apart (untwinned S (slotAt (f .words)) st) (twins w f) k)) ∙ sym (erasable-obsolete w S f st k))) n
 
   -- ---- twins
 

@@ -17,6 +17,7 @@ use Rattle.record.specs.FlashLaws.{SizedIn}
 use Rattle.state.specs.State.{stateAt}
 use Rattle.table.specs.Table.{tableSound}
 use Rattle.twins.specs.Twins.{twins}
+use Rattle.rules.specs.Permission.{scene}
 use Rattle.rules.specs.Volume.{Volume, volume, volumeFits}
 use Rattle.rules.specs.Erase.{eraseSteps}
 use Rattle.upkeep.specs.Sweep.{isSpareExposed, isErasableObsolete, isHigherTwin, sweptExposed, withoutExposed, sweptObsolete, withoutObsolete, sweptTwins, sweepAnswer}
@@ -69,7 +70,7 @@ module _ (sizes : Sizes) (words contents state : List ℕ) where
   spare words = isSpareExposed (slotAt words) (stateAt state)
 
   abbrev erasable : Flash → ℕ → Bool
-  erasable f = isErasableObsolete (sizes .slots) (slotAt (f .words)) (stateAt state) (twins (sizes .width) f)
+  erasable f = isErasableObsolete (scene (sizes .slots) (slotAt (f .words)) (stateAt state) (twins (sizes .width) f))
 
   abbrev higher : Flash → ℕ → Bool
   higher f = isHigherTwin (twins (sizes .width) f)

@@ -16,8 +16,8 @@ ghost use Rattle.record.specs.Flash.{flash};
 ghost use Rattle.state.specs.State.{stateAt};
 ghost use Rattle.twins.specs.Twins.{twins};
 ghost use Rattle.chain.specs.Chain.{Linkable};
-ghost use Rattle.rules.specs.Permission.{mayErase};
-ghost use Rattle.rules.specs.Found.{mayEraseBy};
+ghost use Rattle.rules.specs.Permission.{mayErase, untwinned};
+ghost use Rattle.rules.specs.Found.{byFound};
 ghost use Rattle.upkeep.specs.Sweep.{isSpareExposed, isObsoleteAt, isHigherTwin};
 ghost use Rattle.permit.specs.Prepared.{Within, Searchable};
 ghost use Rattle.judge.specs.Judgeable.{Comparable};
@@ -66,7 +66,7 @@ fn is_erasable_obsolete(
     requires { ⌜ Within slots (now words) (now state) ⌝ }
     requires { ⌜ slot < slots ⌝ }
     ensures { λ r. ⌜ r ≡ (isObsoleteAt (slotAt (now (words .entry))) (stateAt (now (state .entry))) slot
-        && mayEraseBy slots (slotAt (now (words .entry))) (stateAt (now (state .entry))) (now (found .entry)) slot) ⌝ }
+        && mayErase (byFound (untwinned slots (slotAt (now (words .entry))) (stateAt (now (state .entry)))) (now (found .entry))) slot) ⌝ }
 {
     let Slot::Holds(record) = record::slot_at(words, slot) else {
         return false;
@@ -89,7 +89,7 @@ fn note_obsolete(
     requires { ⌜ Searchable slots (now words) (now chains) (now found) ⌝ }
     requires { ⌜ Within slots (now words) (now state) ⌝ }
     ensures { λ r. ⌜ Noted (λ k. isObsoleteAt (slotAt (now (words .entry))) (stateAt (now (state .entry))) k
-        && mayEraseBy slots (slotAt (now (words .entry))) (stateAt (now (state .entry))) (now (found .entry)) k) slots (now (list .exit)) r ⌝ }
+        && mayErase (byFound (untwinned slots (slotAt (now (words .entry))) (stateAt (now (state .entry)))) (now (found .entry))) k) slots (now (list .exit)) r ⌝ }
 {
     *list = [0; 1024];
     let mut count = 0;
@@ -107,7 +107,7 @@ pub fn find_obsolete(sizes: Sizes, words: &[u32], state: &[u32], list: &mut [u16
     requires { ⌜ Linkable (sizes .pages) (sizes .slots) (now words) ⌝ }
     requires { ⌜ 4 * sizes .pages ≤ length (now state) ⌝ }
     ensures { λ r. ⌜ Noted (λ k. isObsoleteAt (slotAt (now (words .entry))) (stateAt (now (state .entry))) k
-        && mayErase (sizes .slots) (slotAt (now (words .entry))) (stateAt (now (state .entry))) k) (sizes .slots) (now (list .exit)) r ⌝ }
+        && mayErase (untwinned (sizes .slots) (slotAt (now (words .entry))) (stateAt (now (state .entry)))) k) (sizes .slots) (now (list .exit)) r ⌝ }
 {
     let mut chains = [0u16; 2048];
     chain::link_slots(

@@ -14,6 +14,7 @@ ghost use Rattle.record.specs.Slot.{slotAt};
 ghost use Rattle.record.specs.Flash.{flash, applyAll};
 ghost use Rattle.state.specs.State.{stateAt};
 ghost use Rattle.twins.specs.Twins.{twins};
+ghost use Rattle.rules.specs.Permission.{sceneOf};
 ghost use Rattle.rules.specs.Volume.{volume};
 ghost use Rattle.rules.specs.Erase.{eraseSteps};
 ghost use Rattle.upkeep.specs.Sweep.{isSpareExposed, isErasableObsolete, isHigherTwin, withoutObsolete, sweptTwins, sweepOutcome};
@@ -54,8 +55,7 @@ fn erase_obsolete(sizes: Sizes, words: &mut [u32], contents: &mut [u8], state: &
     requires { ⌜ 4 * sizes .pages ≤ length (now state) ⌝ }
     ensures { λ _. ⌜ flash (now (words .exit)) (now (contents .exit))
         ≡ applyAll (sizes .width) (flash (now (words .entry)) (now (contents .entry)))
-        (eraseSteps (listBelow (sizes .slots) (isErasableObsolete (sizes .slots) (slotAt (now (words .entry))) (stateAt (now (state .entry)))
-        (twins (sizes .width) (flash (now (words .entry)) (now (contents .entry))))))) ⌝ }
+        (eraseSteps (listBelow (sizes .slots) (isErasableObsolete (sceneOf sizes (volume (now (words .entry)) (now (contents .entry)) (now (state .entry))))))) ⌝ }
 {
     let mut list = [0u16; 1024];
     let count = choice::find_obsolete(sizes, words, state, &mut list);

@@ -15,27 +15,26 @@ use Rattle.record.specs.declared.Slot.{Slot}
 use Rattle.record.specs.declared.Slot.the-variants.{Blank, Holds}
 use Rattle.record.specs.Slot.{slotAt, bytesAt, isBlank, blankRecord}
 use Rattle.record.specs.Flash.{Flash, Step, applyAll}
-use Rattle.state.specs.declared.PageState.{PageState}
-use Rattle.state.specs.State.{stateAt, stateSound}
+use Rattle.state.specs.State.{stateSound}
 use Rattle.table.specs.Table.{tableSound}
 use Rattle.twins.specs.Twins.{twins}
-use Rattle.rules.specs.Volume.{Volume, volumeFits}
-use Rattle.rules.specs.Permission.{mayEraseFrom}
+use Rattle.rules.specs.Volume.{Volume, volumeFits, slotsOf, pagesOf}
+use Rattle.rules.specs.Permission.{mayEraseFrom, Scene, sceneOf}
 use Rattle.rules.specs.Erase.{eraseSteps}
 
 -- ---- what is copied, and where to; `inside k` says that slot k is in the block
 
 -- "Every record there that may not be erased, the whole block being listed, is copied once (of twins within the block only the lowest)"
-unfoldable pub isCopied : ℕ → (ℕ → Slot) → (ℕ → PageState) → (twin : ℕ → ℕ → Bool) → (inside : ℕ → Bool) → ℕ → Bool
-isCopied S t st twin inside k =
+unfoldable pub isCopied : Scene → (inside : ℕ → Bool) → ℕ → Bool
+isCopied s inside k =
     inside k
-    && (not (isBlank (t k))
-    && (not (mayEraseFrom S t st twin inside k)
-    && not (someBelow k (λ j. inside j && twin j k))))
+    && (not (isBlank (s .table k))
+    && (not (mayEraseFrom s inside k)
+    && not (someBelow k (λ j. inside j && s .twin j k))))
 
 -- the slots whose records are copied, "rising"
-unfoldable pub copiedSlots : ℕ → (ℕ → Slot) → (ℕ → PageState) → (twin : ℕ → ℕ → Bool) → (inside : ℕ → Bool) → List ℕ
-copiedSlots S t st twin inside = listBelow S (isCopied S t st twin inside)
+unfoldable pub copiedSlots : Scene → (inside : ℕ → Bool) → List ℕ
+copiedSlots s inside = listBelow (s .slots) (isCopied s inside)
 
 -- the "blank slots outside", the lowest first
 unfoldable pub blankOutside : ℕ → (ℕ → Slot) → (inside : ℕ → Bool) → List ℕ
@@ -61,10 +60,10 @@ copySteps w f (k ∷ from) (j ∷ to) = copyStep w f k j ∷ copySteps w f from 
 module _ (sizes : Sizes) (v : Volume) (block : Block) where
   -- the slots to copy, and those to copy to
   unfoldable pub cleanFrom : List ℕ
-  cleanFrom = copiedSlots (sizes .slots) (slotAt (v .flash .words)) (stateAt (v .state)) (twins (sizes .width) (v .flash)) (inBlock block)
+  cleanFrom = copiedSlots (sceneOf sizes v) (inBlock block)
 
   unfoldable pub cleanTo : List ℕ
-  cleanTo = blankOutside (sizes .slots) (slotAt (v .flash .words)) (inBlock block)
+  cleanTo = blankOutside (sizes .slots) (slotsOf v) (inBlock block)
 
   unfoldable pub cleanCopies : List Step
   cleanCopies = copySteps (sizes .width) (v .flash) cleanFrom cleanTo
@@ -94,8 +93,8 @@ unfoldable pub cleanAnswer : Widths → Sizes → Volume → NamedBlock → ℕ
 cleanAnswer widths sizes v block =
     not (volumeFits widths sizes v) ⇒ 1 otherwise
     not (startsOk (sizes .slots) (block .starts)) ⇒ 17 otherwise
-    not (tableSound (sizes .pages) (sizes .slots) (slotAt (v .flash .words))) ⇒ 2 otherwise
-    not (stateSound (sizes .pages) (stateAt (v .state))) ⇒ 5 otherwise
+    not (tableSound (sizes .pages) (sizes .slots) (slotsOf v)) ⇒ 2 otherwise
+    not (stateSound (sizes .pages) (pagesOf v)) ⇒ 5 otherwise
     not (blockOk block) ⇒ 6 otherwise
     tooFewBlank sizes v (blockAt (sizes .slots) block) ⇒ 15 otherwise
     0

@@ -13,10 +13,10 @@ use Rattle.record.specs.declared.Record.{Record}
 use Rattle.record.specs.declared.Slot.the-variants.{Blank, Holds}
 use Rattle.record.specs.Slot.{slotAt, bytesAt, isBlank}
 use Rattle.record.specs.Flash.{Flash}
-use Rattle.state.specs.State.{stateAt, stateSound}
+use Rattle.state.specs.State.{stateSound}
 use Rattle.table.specs.Table.{tableSound}
-use Rattle.rules.specs.Volume.{Volume, volumeFits}
-use Rattle.rules.specs.Permission.{mayErase}
+use Rattle.rules.specs.Volume.{Volume, volumeFits, slotsOf, pagesOf}
+use Rattle.rules.specs.Permission.{mayErase, sceneOf}
 use Rattle.upkeep.specs.Clean.{cleanAnswer, cleanOutcome}
 
 -- slot k of the flash f holds the record with these contents
@@ -28,22 +28,22 @@ pub record Leaves (sizes : Sizes) (v : Volume) (block : Block) (after : Flash) :
   -- "the block's slots are blanked"
   pub block-blank : (k : ℕ) → k < sizes .slots → inBlock block k ≡ true → (slotAt (after .words) k ≡ Blank) × (bytesAt (sizes .width) (after .contents) k ≡ replicate (sizes .width) 255)
   -- every other slot that held a record is as it was
-  pub others-stay : (k : ℕ) (r : Record) → k < sizes .slots → inBlock block k ≡ false → slotAt (v .flash .words) k ≡ Holds r → HoldsAt sizes after k r (v .flash) k
+  pub others-stay : (k : ℕ) (r : Record) → k < sizes .slots → inBlock block k ≡ false → slotsOf v k ≡ Holds r → HoldsAt sizes after k r (v .flash) k
   -- every other slot that is blank then is as it was
   pub blank-stays :
       (k : ℕ)
       → k < sizes .slots
       → inBlock block k ≡ false
       → slotAt (after .words) k ≡ Blank
-      → (slotAt (v .flash .words) k ≡ Blank) × (bytesAt (sizes .width) (after .contents) k ≡ bytesAt (sizes .width) (v .flash .contents) k)
+      → (slotsOf v k ≡ Blank) × (bytesAt (sizes .width) (after .contents) k ≡ bytesAt (sizes .width) (v .flash .contents) k)
   -- a record that is there then was there, with its contents
   pub none-new : (k : ℕ) (r : Record) → k < sizes .slots → slotAt (after .words) k ≡ Holds r → (j : ℕ) × (j < sizes .slots) × HoldsAt sizes (v .flash) j r after k
   -- a record that was there is there then, with its contents, outside the block, or the old rule allows to erase it
   pub stays-or-erasable :
       (k : ℕ) (r : Record)
       → k < sizes .slots
-      → slotAt (v .flash .words) k ≡ Holds r
-      → ((j : ℕ) × (j < sizes .slots) × (inBlock block j ≡ false) × HoldsAt sizes after j r (v .flash) k) ⊎ (mayErase (sizes .slots) (slotAt (v .flash .words)) (stateAt (v .state)) k ≡ true)
+      → slotsOf v k ≡ Holds r
+      → ((j : ℕ) × (j < sizes .slots) × (inBlock block j ≡ false) × HoldsAt sizes after j r (v .flash) k) ⊎ (mayErase (sceneOf sizes v) k ≡ true)
 
 -- after every accepted cleaning, of any volume, by any table of blocks and with any widths allowed
 abbrev pub Cleaned : Type 0
@@ -69,8 +69,8 @@ CleanAccepted =
     (widths : Widths) (sizes : Sizes) (v : Volume) (block : NamedBlock)
     → volumeFits widths sizes v ≡ true
     → startsOk (sizes .slots) (block .starts) ≡ true
-    → tableSound (sizes .pages) (sizes .slots) (slotAt (v .flash .words)) ≡ true
-    → stateSound (sizes .pages) (stateAt (v .state)) ≡ true
+    → tableSound (sizes .pages) (sizes .slots) (slotsOf v) ≡ true
+    → stateSound (sizes .pages) (pagesOf v) ≡ true
     → blockOk block ≡ true
-    → length (listBelow (sizes .slots) (inBlock (blockAt (sizes .slots) block))) ≤ length (listBelow (sizes .slots) (λ k. isBlank (slotAt (v .flash .words) k)))
+    → length (listBelow (sizes .slots) (inBlock (blockAt (sizes .slots) block))) ≤ length (listBelow (sizes .slots) (λ k. isBlank (slotsOf v k)))
     → cleanAnswer widths sizes v block ≡ 0

@@ -10,10 +10,9 @@ use Rattle.outcome.specs.Outcome.{_⇒_otherwise_, Outcome, settled}
 use Rattle.sizes.specs.declared.Block.{Block}
 use Rattle.sizes.specs.declared.Sizes.{Sizes}
 use Rattle.sizes.specs.Blocks.{startsOk, NamedBlock, named, blockOk, blockAt, inBlock}
-use Rattle.record.specs.Slot.{slotAt}
-use Rattle.state.specs.State.{stateAt, stateSound}
+use Rattle.state.specs.State.{stateSound}
 use Rattle.table.specs.Table.{tableSound}
-use Rattle.rules.specs.Volume.{Volume, volumeFits}
+use Rattle.rules.specs.Volume.{Volume, volumeFits, slotsOf, pagesOf}
 use Rattle.rules.specs.Suggest.{suggestible}
 
 -- ---- the blocks that are looked at, of the table that is lent
@@ -31,6 +30,17 @@ unfoldable pub isSeen : NamedBlock → (n : ℕ) → (k : ℕ) → Bool
 isSeen block n k = someBelow (lookedAt block n) (λ i. eqb (seenAt block i .number) k)
 
 -- ---- what is returned
+
+-- "the block, that number, the blocks looked at …, and how much an unseen block could beat it"
+pub record Pick : Type 0 where
+  pub block : ℕ
+  pub number : ℕ
+  pub looked : ℕ
+  pub lead : ℕ
+
+-- "in four lent words"
+abbrev pub fourWords : Pick → List ℕ
+fourWords p = p .block ∷ p .number ∷ p .looked ∷ p .lead ∷ []
 
 -- a block's size, in slots
 unfoldable pub blockSize : Block → ℕ
@@ -58,9 +68,8 @@ module _ (sizes : Sizes) (v : Volume) where
     unfoldable pub unseenLead : ℕ
     unseenLead = largestUnseen - mostFreed
 
-    -- "in four lent words, the block, that number, the blocks looked at …, and how much an unseen block could beat it"
-    unfoldable pub pickedWords : List ℕ
-    pickedWords = pickedBlock .number ∷ mostFreed ∷ lookedAt block n ∷ unseenLead ∷ []
+    unfoldable pub pickOf : Pick
+    pickOf = record { block = pickedBlock .number; number = mostFreed; looked = lookedAt block n; lead = unseenLead }
 
 -- ---- the call
 
@@ -69,12 +78,12 @@ unfoldable pub pickAnswer : Widths → Sizes → Volume → NamedBlock → (n : 
 pickAnswer widths sizes v block n out =
     not (volumeFits widths sizes v && eqb (length out) 4) ⇒ 1 otherwise
     not (startsOk (sizes .slots) (block .starts)) ⇒ 17 otherwise
-    not (tableSound (sizes .pages) (sizes .slots) (slotAt (v .flash .words))) ⇒ 2 otherwise
-    not (stateSound (sizes .pages) (stateAt (v .state))) ⇒ 5 otherwise
+    not (tableSound (sizes .pages) (sizes .slots) (slotsOf v)) ⇒ 2 otherwise
+    not (stateSound (sizes .pages) (pagesOf v)) ⇒ 5 otherwise
     not (blockOk block) ⇒ 6 otherwise
     eqb n 0 ⇒ 18 otherwise
     0
 
 -- Accepted, it alters the four lent words alone.
 unfoldable pub pickOutcome : Widths → Sizes → Volume → NamedBlock → (n : ℕ) (out : List ℕ) → Outcome (List ℕ)
-pickOutcome widths sizes v block n out = settled (pickAnswer widths sizes v block n out) 0 0 out (pickedWords sizes v block n)
+pickOutcome widths sizes v block n out = settled (pickAnswer widths sizes v block n out) 0 0 out (fourWords (pickOf sizes v block n))

@@ -9,7 +9,7 @@ use Rattle.bounded.specs.Limits.{Widths}
 use Rattle.sizes.specs.declared.Sizes.{Sizes}
 use Rattle.sizes.specs.Blocks.{NamedBlock, named, blockOk, blockAt}
 use Rattle.rules.specs.Volume.{Volume}
-use Rattle.upkeep.specs.Pick.{seenAt, blockSize, frees, pickAnswer, pickOutcome}
+use Rattle.upkeep.specs.Pick.{Pick, fourWords, seenAt, blockSize, frees, pickAnswer, pickOutcome}
 
 -- ---- going round
 
@@ -24,40 +24,44 @@ pub record GoesRound (block : NamedBlock) : Type 0 where
 abbrev pub GoingRound : Type 0
 GoingRound = (block : NamedBlock) → blockOk block ≡ true → GoesRound block
 
--- ---- the four words
+-- ---- what is returned
 
--- of the blocks of a table, of which `looked` are looked at: the block that a pick names, the number that it frees, and the lead that an unseen block could have
-pub record Picks (sizes : Sizes) (v : Volume) (block : NamedBlock) (looked picked number lead : ℕ) : Type 0 where
+-- of the blocks of a table, of which p says how many are looked at: the block that a pick names, the number that it frees, and the lead that an unseen block could have
+pub record Picks (sizes : Sizes) (v : Volume) (block : NamedBlock) (p : Pick) : Type 0 where
   -- the block is one of those looked at, seen when `place` others have been, and frees the number
   pub place : ℕ
-  pub place-below : place < looked
-  pub is-there : named (block .starts) picked ≡ seenAt block place
-  pub frees-number : frees sizes v (seenAt block place) ≡ number
+  pub place-below : place < p .looked
+  pub is-there : named (block .starts) (p .block) ≡ seenAt block place
+  pub frees-number : frees sizes v (seenAt block place) ≡ p .number
   -- none looked at frees more, and none seen earlier as much
-  pub most : (i : ℕ) → i < looked → frees sizes v (seenAt block i) ≤ number
-  pub earliest : (i : ℕ) → i < place → frees sizes v (seenAt block i) < number
+  pub most : (i : ℕ) → i < p .looked → frees sizes v (seenAt block i) ≤ p .number
+  pub earliest : (i : ℕ) → i < place → frees sizes v (seenAt block i) < p .number
   -- "no unseen block beats the number by more than that"
-  pub unseen-most : (i : ℕ) → looked ≤ i → i < length (block .starts) → frees sizes v (seenAt block i) ≤ number + lead
+  pub unseen-most : (i : ℕ) → p .looked ≤ i → i < length (block .starts) → frees sizes v (seenAt block i) ≤ p .number + p .lead
   -- the lead is "the largest unseen block's size less the number, or 0": no unseen block is larger than the two together, and there is no lead, or one that is as large
-  pub unseen-size : (i : ℕ) → looked ≤ i → i < length (block .starts) → blockSize (blockAt (sizes .slots) (seenAt block i)) ≤ number + lead
-  pub lead-met : (lead ≡ 0) ⊎ ((i : ℕ) × (looked ≤ i) × (i < length (block .starts)) × (blockSize (blockAt (sizes .slots) (seenAt block i)) ≡ number + lead))
+  pub unseen-size : (i : ℕ) → p .looked ≤ i → i < length (block .starts) → blockSize (blockAt (sizes .slots) (seenAt block i)) ≤ p .number + p .lead
+  pub lead-met : (p .lead ≡ 0) ⊎ ((i : ℕ) × (p .looked ≤ i) × (i < length (block .starts)) × (blockSize (blockAt (sizes .slots) (seenAt block i)) ≡ p .number + p .lead))
 
--- of the four words that every accepted pick returns, of any volume, by any table of blocks and with any widths allowed; with n at or above the table's length the last is 0
+-- of the four words that every accepted pick returns, of any volume, by any table of blocks and with any widths allowed: "the smaller of n and the table's length" are looked at, and with n at
+-- or above that length there is no lead
 abbrev pub Picked : Type 0
 Picked =
     (widths : Widths) (sizes : Sizes) (v : Volume) (block : NamedBlock) (n : ℕ) (out : List ℕ)
     → pickAnswer widths sizes v block n out ≡ 0
-    → (picked : ℕ) × (number : ℕ) × (lead : ℕ)
-    × (pickOutcome widths sizes v block n out ≡ record { answer = 0; second = 0; left = picked ∷ number ∷ min n (length (block .starts)) ∷ lead ∷ [] })
-    × Picks sizes v block (min n (length (block .starts))) picked number lead
-    × (length (block .starts) ≤ n → lead ≡ 0)
+    → (p : Pick)
+    × (pickOutcome widths sizes v block n out ≡ record { answer = 0; second = 0; left = fourWords p })
+    × Picks sizes v block p
+    × (p .looked ≡ min n (length (block .starts)))
+    × (length (block .starts) ≤ n → p .lead ≡ 0)
 
--- "a larger n never finds less": it is accepted, and its number, the second word, is no less, into whatever words
+-- "a larger n never finds less": it is accepted, and its number is no less, into whatever words
 abbrev pub LargerFindsNoLess : Type 0
 LargerFindsNoLess =
     (widths : Widths) (sizes : Sizes) (v : Volume) (block : NamedBlock) (n m : ℕ) (out again : List ℕ)
     → n ≤ m
     → length again ≡ 4
     → pickAnswer widths sizes v block n out ≡ 0
-    → (pickAnswer widths sizes v block m again ≡ 0)
-    × (getD (pickOutcome widths sizes v block n out .left) 1 0 ≤ getD (pickOutcome widths sizes v block m again .left) 1 0)
+    → (p q : Pick)
+    × (pickOutcome widths sizes v block n out ≡ record { answer = 0; second = 0; left = fourWords p })
+    × (pickOutcome widths sizes v block m again ≡ record { answer = 0; second = 0; left = fourWords q })
+    × (p .number ≤ q .number)

@@ -7,14 +7,14 @@ use Rattle.bounded.specs.Below.{someBelow, listBelow}
 use Rattle.outcome.specs.Outcome.{_⇒_otherwise_, Outcome, settled}
 use Rattle.sizes.specs.declared.Sizes.{Sizes}
 use Rattle.record.specs.declared.Slot.{Slot}
-use Rattle.record.specs.Slot.{holds, slotAt}
+use Rattle.record.specs.Slot.{holds}
 use Rattle.record.specs.Flash.{Flash, Step, applyAll}
 use Rattle.state.specs.declared.PageState.{PageState}
-use Rattle.state.specs.State.{stateAt, stateSound}
+use Rattle.state.specs.State.{stateSound}
 use Rattle.table.specs.Table.{tableSound}
 use Rattle.twins.specs.Twins.{twins}
-use Rattle.rules.specs.Volume.{Volume, volumeFits}
-use Rattle.rules.specs.Permission.{isObsolete, isExposed, isCurrent, mayEraseFrom}
+use Rattle.rules.specs.Volume.{Volume, volumeFits, slotsOf, pagesOf}
+use Rattle.rules.specs.Permission.{isObsolete, isExposed, isCurrent, mayEraseFrom, Scene, sceneOf}
 use Rattle.rules.specs.Erase.{eraseSteps}
 
 -- ---- what each of the three erases; `twin j k` says that slots j and k are twins
@@ -27,8 +27,8 @@ isSpareExposed t st k = holds (λ r. isExposed st r && not (isCurrent st r)) (t 
 unfoldable pub isObsoleteAt : (ℕ → Slot) → (ℕ → PageState) → ℕ → Bool
 isObsoleteAt t st k = holds (isObsolete st) (t k)
 
-unfoldable pub isErasableObsolete : ℕ → (ℕ → Slot) → (ℕ → PageState) → (twin : ℕ → ℕ → Bool) → ℕ → Bool
-isErasableObsolete S t st twin k = isObsoleteAt t st k && mayEraseFrom S t st twin (isObsoleteAt t st) k
+unfoldable pub isErasableObsolete : Scene → ℕ → Bool
+isErasableObsolete s k = isObsoleteAt (s .table) (s .state) k && mayEraseFrom s (isObsoleteAt (s .table) (s .state)) k
 
 -- "and of other twins keeps the lowest"
 unfoldable pub isHigherTwin : (twin : ℕ → ℕ → Bool) → ℕ → Bool
@@ -38,14 +38,14 @@ isHigherTwin twin k = someBelow k (λ j. twin j k)
 
 module _ (sizes : Sizes) (v : Volume) where
   unfoldable pub sweptExposed : List ℕ
-  sweptExposed = listBelow (sizes .slots) (isSpareExposed (slotAt (v .flash .words)) (stateAt (v .state)))
+  sweptExposed = listBelow (sizes .slots) (isSpareExposed (slotsOf v) (pagesOf v))
 
   -- the flash without these
   unfoldable pub withoutExposed : Flash
   withoutExposed = applyAll (sizes .width) (v .flash) (eraseSteps sweptExposed)
 
   unfoldable pub sweptObsolete : List ℕ
-  sweptObsolete = listBelow (sizes .slots) (isErasableObsolete (sizes .slots) (slotAt (withoutExposed .words)) (stateAt (v .state)) (twins (sizes .width) withoutExposed))
+  sweptObsolete = listBelow (sizes .slots) (isErasableObsolete (sceneOf sizes (record { flash = withoutExposed; state = v .state })))
 
   -- … and without these
   unfoldable pub withoutObsolete : Flash
@@ -67,8 +67,8 @@ module _ (sizes : Sizes) (v : Volume) where
 unfoldable pub sweepAnswer : Widths → Sizes → Volume → ℕ
 sweepAnswer widths sizes v =
     not (volumeFits widths sizes v) ⇒ 1 otherwise
-    not (tableSound (sizes .pages) (sizes .slots) (slotAt (v .flash .words))) ⇒ 2 otherwise
-    not (stateSound (sizes .pages) (stateAt (v .state))) ⇒ 5 otherwise
+    not (tableSound (sizes .pages) (sizes .slots) (slotsOf v)) ⇒ 2 otherwise
+    not (stateSound (sizes .pages) (pagesOf v)) ⇒ 5 otherwise
     0
 
 -- It alters the flash alone, by these steps.

@@ -33,6 +33,7 @@ use Rattle.rules.specs.Erase.{eraseSteps, eraseAnswer}
 use Rattle.upkeep.specs.Sweep.{sweptExposed, withoutExposed, sweptObsolete, withoutObsolete, sweptTwins, sweepStages, sweepAnswer}
 use Rattle.upkeep.specs.Swept.{NoneOrErasable}
 use Rattle.upkeep.specs.Clean.{copySteps, cleanCopies, cleanBlanks, cleanStages, cleanAnswer}
+use Rattle.rules.specs.Permission.{sceneOf}
 use Rattle.rules.specs.laws.Volume.{Fits, bytes-whole}
 use Rattle.rules.specs.laws.Permission.{may-erase-from, may-erase-all}
 use Rattle.rules.specs.laws.Accepted.{erase-tests}
@@ -82,12 +83,12 @@ erase-spares widths sizes v slots fits e =
         → ((j : ℕ) × (j < sizes .slots) × ¬ (List·Memᴰ j slots) × (slotAt (v .flash .words) j ≡ Holds r) × (bytesAt (sizes .width) (v .flash .contents) j ≡ bytesAt (sizes .width) (v .flash .contents) k)) ⊎ Permitted (HeldIn FiveWords (sizes .width) (sizes .slots) (v .flash)) (stateAt (v .state)) r
     allowed k r m h =
         let i = member-at slots k m in
-        let p = may-erase-all (sizes .slots) (slotAt (v .flash .words)) (stateAt (v .state)) (twins (sizes .width) (v .flash)) slots .0 (erase-tests widths sizes v slots e .permitted) (i .0) (i .1) in
+        let p = may-erase-all (sceneOf sizes v) slots .0 (erase-tests widths sizes v slots e .permitted) (i .0) (i .1) in
         ⊎-elim
         (λ w. let t = twins-exactly (sizes .width) (v .flash) (w .0) k (whole (w .0) (w .1)) (whole k (inside k m)) .0 (subst (λ (x : ℕ). twins (sizes .width) (v .flash) (w .0) x ≡ true) (i .2) (w .2)) in
         inl (w .0, w .1, unlisted slots (w .0) (w .3), t .1 ∙ sym (t .2) ∙ h, t .3))
-        (λ o. inr (may-erase-permitted (sizes .slots) (slotAt (v .flash .words)) (bytesAt (sizes .width) (v .flash .contents)) (stateAt (v .state)) (getD slots (i .0) 0) r o (ap (slotAt (v .flash .words)) (i .2) ∙ h)))
-        (may-erase-from (sizes .slots) (slotAt (v .flash .words)) (stateAt (v .state)) (twins (sizes .width) (v .flash)) (listed slots) (getD slots (i .0) 0) .0 p)
+        (λ o. inr (may-erase-permitted (sizes .slots) (slotAt (v .flash .words)) (bytesAt (sizes .width) (v .flash .contents)) (stateAt (v .state)) (twins (sizes .width) (v .flash)) (getD slots (i .0) 0) r o (ap (slotAt (v .flash .words)) (i .2) ∙ h)))
+        (may-erase-from (sceneOf sizes v) (listed slots) (getD slots (i .0) 0) .0 p)
 
 -- ---- copies
 
@@ -193,7 +194,7 @@ clean-spares widths sizes v block fits e =
         let was = sym (s .same-slot) ∙ h in
         ⊎-elim
         (λ o. inl (o .0, o .1, (λ n. never (clean.block-member sizes v b size (a .table) (a .room) (o .0) n .1) (o .2)), o .3 .0, o .3 .1 ∙ sym (s .same-bytes)))
-        (λ o. inr (permitted-same forth back st r (may-erase-permitted S (slotAt (v .flash .words)) (bytesAt w (v .flash .contents)) st k r o was)))
+        (λ o. inr (permitted-same forth back st r (may-erase-permitted S (slotAt (v .flash .words)) (bytesAt w (v .flash .contents)) st (twins w (v .flash)) k r o was)))
         (clean.outside-or-erasable sizes v b size (a .table) (a .room) k r (i .0) (i .1) was)
 
 -- ---- a sweep

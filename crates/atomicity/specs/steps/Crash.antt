@@ -16,7 +16,7 @@ use Rattle.rules.specs.Volume.{Volume}
 use Rattle.protocol.specs.Shared.{commOf}
 use Rattle.atomicity.specs.Family.{Family}
 use Rattle.atomicity.specs.Call.{Call, perform, plannedStages, flashStages}
-use Rattle.atomicity.specs.Run.{doneOf, cutShort, wasDone}
+use Rattle.atomicity.specs.Run.{doneOf, doneIn, cutShort, wasDone}
 use Rattle.atomicity.specs.Model.{Told, Model, accept, closeAll, enter, learns}
 use Rattle.atomicity.specs.Promise.{toldOfCrash}
 use Rattle.atomicity.specs.steps.Theory.{Theory, keeping, write-done}
@@ -47,7 +47,7 @@ module _ {F : Family} (T : Theory F) (widths : Widths) (sizes : Sizes) where
 
   -- a call that has no stages leaves the flash as it was: one that is refused, and one that plans none
   unstaged : (v : Volume) (call : Call) (stage : ℕ) (done : ℕ → Bool) → flashStages F widths sizes v call ≡ [] → crashFlash v call stage done ≡ v .flash
-  unfolding cutShort applyAllIn
+  unfolding cutShort doneIn applyAllIn
   unstaged v call stage done e = rw e
 
   refused-flash : (v : Volume) (call : Call) (stage : ℕ) (done : ℕ → Bool) → ¬ (answer-is T widths sizes v call ≡ 0) → crashFlash v call stage done ≡ v .flash

@@ -1,6 +1,6 @@
 -- Stages that lose none but records that may be erased keep the invariant, all done or cut short anywhere.
 use Prim.Native.Nat.{ℕ, zero, suc}
-use mathlib.Core.Path.{sym, subst}
+use mathlib.Core.Path.{sym, ap, _∙_, subst}
 use mathlib.Core.List.{List, [], _∷_}
 use mathlib.Core.Bool.{Bool, true}
 use Rattle.sizes.specs.declared.Sizes.{Sizes}
@@ -8,12 +8,12 @@ use Rattle.record.specs.Flash.{Flash, Step, applyAllIn}
 use Rattle.record.specs.FlashLaws.{SizedIn, apply-append}
 use Rattle.state.specs.declared.PageState.{PageState}
 use Rattle.atomicity.specs.Family.{Family}
-use Rattle.atomicity.specs.Run.{doneOf, cutShort}
+use Rattle.atomicity.specs.Run.{doneOf, doneIn, cutShort}
 use Rattle.atomicity.specs.Model.{Model}
 use Rattle.atomicity.specs.steps.Sparing.{Spared, Spares}
 use Rattle.atomicity.specs.steps.Theory.{Theory, keeping}
 use Rattle.atomicity.specs.steps.Invariant.{Live}
-use Rattle.atomicity.specs.steps.Stages.{done-all}
+use Rattle.atomicity.specs.steps.Stages.{done-all, cut-first, cut-later}
 
 module _ {F : Family} (T : Theory F) (sizes : Sizes) (st : ℕ → PageState) (m : Model) where
   -- the flash has its lengths, and the invariant holds with the state st
@@ -42,11 +42,13 @@ module _ {F : Family} (T : Theory F) (sizes : Sizes) (st : ℕ → PageState) (m
       → Spares (keeping T) (sizes .width) (sizes .slots) st f stages
       → Kept f
       → Kept (applyAllIn (F .layout) (sizes .width) f (cutShort stage done stages))
-  unfolding Spares cutShort applyAllIn
+  unfolding Spares cutShort doneIn applyAllIn
   spares-kept [] f stage done s k = k
-  spares-kept (first ∷ rest) f zero done s k = spared-kept f (applyAllIn (F .layout) (sizes .width) f (doneOf done 0 first)) (s .0 done) k
+  spares-kept (first ∷ rest) f zero done s k =
+      subst (λ (l : List Step). Kept (applyAllIn (F .layout) (sizes .width) f l)) (sym (cut-first done first rest))
+      (spared-kept f (applyAllIn (F .layout) (sizes .width) f (doneOf done 0 first)) (s .0 done) k)
   spares-kept (first ∷ rest) f (suc stage) done s k =
-      subst Kept (sym (apply-append (F .layout) (sizes .width) f first (cutShort stage done rest)))
+      subst Kept (sym (ap (applyAllIn (F .layout) (sizes .width) f) (cut-later stage done first rest) ∙ apply-append (F .layout) (sizes .width) f first (cutShort stage done rest)))
       (spares-kept rest (applyAllIn (F .layout) (sizes .width) f first) stage done (s .1)
       (spared-kept f (applyAllIn (F .layout) (sizes .width) f first)
       (subst (λ (l : List Step). Spared (keeping T) (sizes .width) (sizes .slots) st f (applyAllIn (F .layout) (sizes .width) f l)) (done-all 0 first) (s .0 (λ i. true))) k))

@@ -8,7 +8,7 @@ use lib.Dec.{eqb}
 use lib.ListN.{length}
 use borrow.Author.Tests.{eq-eqb, ne-eqb, lt-ltb, le-ltb}
 use Rattle.bounded.specs.Limits.{Widths}
-use Rattle.bounded.specs.Choice.{either-left}
+use Rattle.bounded.specs.Choice.{on-lt, either-left}
 use Rattle.outcome.specs.Outcome.{Outcome}
 use Rattle.outcome.specs.OutcomeLaws.{settled-answer}
 use Rattle.sizes.specs.declared.Sizes.{Sizes}
@@ -19,9 +19,8 @@ use Rattle.rules.specs.Withdraw.{withdrawAnswer, withdrawOutcome}
 use Rattle.rules.specs.laws.Outcomes.{launch-refused, withdraw-refused}
 use Rattle.atomicity.specs.Family.{Family}
 use Rattle.atomicity.specs.Call.{Call, withState, withFlash, perform, plannedStages, flashStages}
-use Rattle.atomicity.specs.Run.{doneOf, cutShort, wasDone}
+use Rattle.atomicity.specs.Run.{doneOf, doneIn, wasDone, cutShort}
 use Rattle.atomicity.specs.steps.Theory.{Theory, spared-answer, spared-refused, write-refused, recover-refused}
-use Rattle.atomicity.specs.Companions.{doneIn}
 
 -- ---- a call in a run
 
@@ -80,13 +79,6 @@ done-none i (s ∷ steps) = done-none (suc i) steps
 
 -- ---- stages cut short
 
--- past the last stage all are done
-pub cut-past-last : (stage : ℕ) (done : ℕ → Bool) (stages : List (List Step)) → length stages ≤ stage → cutShort stage done stages ≡ flatten stages
-unfolding cutShort flatten
-cut-past-last stage done [] h = refl
-cut-past-last zero done (first ∷ rest) h = absurd (omega arith)
-cut-past-last (suc stage) done (first ∷ rest) h = ap (λ (l : List Step). first ++ l) (cut-past-last stage done rest (omega arith))
-
 module _ (stage : ℕ) (done : ℕ → Bool) where
   -- of a stage before the crash's, of the crash's, and of one behind it
   pub done-before : (k : ℕ) → k < stage → wasDone stage done k ≡ (λ i. true)
@@ -107,19 +99,38 @@ module _ (stage : ℕ) (done : ℕ → Bool) where
   none-behind k (first ∷ rest) h =
       ap₂ {C = List Step} _++_ (ap (λ (f : ℕ → Bool). doneOf f 0 first) (done-behind k h) ∙ done-none 0 first) (none-behind (suc k) rest (omega arith))
 
-  -- from stage k on, the crash being n stages further
-  exactly-from : (n k : ℕ) (stages : List (List Step)) → k + n ≡ stage → cutShort n done stages ≡ doneIn (wasDone stage done) k stages
-  unfolding cutShort doneIn
-  exactly-from n k [] e = refl
-  exactly-from zero k (first ∷ rest) e =
-      sym (ap₂ {C = List Step} _++_ (ap (λ (f : ℕ → Bool). doneOf f 0 first) (done-here k (omega arith))) (none-behind (suc k) rest (omega arith)) ∙ append-nil (doneOf done 0 first))
-  exactly-from (suc n) k (first ∷ rest) e =
-      sym (ap₂ {C = List Step} _++_ (ap (λ (f : ℕ → Bool). doneOf f 0 first) (done-before k (omega arith)) ∙ done-all 0 first) (sym (exactly-from n (suc k) rest (omega arith))))
-
-  pub cut-exactly : (stages : List (List Step)) → cutShort stage done stages ≡ doneIn (wasDone stage done) 0 stages
-  cut-exactly stages = exactly-from stage 0 stages (omega arith)
-
   -- of one stage alone
   pub cut-one : (steps : List Step) → cutShort stage done (steps ∷ []) ≡ doneOf (wasDone stage done 0) 0 steps
-  unfolding doneIn
-  cut-one steps = cut-exactly (steps ∷ []) ∙ append-nil (doneOf (wasDone stage done 0) 0 steps)
+  unfolding cutShort doneIn
+  cut-one steps = append-nil (doneOf (wasDone stage done 0) 0 steps)
+
+-- in the first stage any part of it is done, and nothing behind it
+pub cut-first : (done : ℕ → Bool) (first : List Step) (rest : List (List Step)) → cutShort zero done (first ∷ rest) ≡ doneOf done 0 first
+unfolding cutShort doneIn
+cut-first done first rest =
+    ap₂ {C = List Step} _++_ (ap (λ (f : ℕ → Bool). doneOf f 0 first) (done-here zero done 0 refl)) (none-behind zero done 1 rest (omega arith)) ∙ append-nil (doneOf done 0 first)
+
+-- in a later one the first is done, and of the others what a crash in one stage less leaves
+pub cut-later : (stage : ℕ) (done : ℕ → Bool) (first : List Step) (rest : List (List Step)) → cutShort (suc stage) done (first ∷ rest) ≡ first ++ cutShort stage done rest
+unfolding cutShort doneIn
+cut-later stage done first rest =
+    ap₂ {C = List Step} _++_ (ap (λ (f : ℕ → Bool). doneOf f 0 first) (done-before (suc stage) done 0 (omega arith)) ∙ done-all 0 first) (shifted 0 rest)
+  where
+    same : (k : ℕ) → wasDone (suc stage) done (suc k) ≡ wasDone stage done k
+    same k =
+        on-lt k stage
+        (λ l. done-before (suc stage) done (suc k) (omega arith) ∙ sym (done-before stage done k l))
+        (λ l. on-lt stage k
+        (λ g. done-behind (suc stage) done (suc k) (omega arith) ∙ sym (done-behind stage done k g))
+        (λ g. done-here (suc stage) done (suc k) (omega arith) ∙ sym (done-here stage done k (omega arith))))
+
+    shifted : (k : ℕ) (stages : List (List Step)) → doneIn (wasDone (suc stage) done) (suc k) stages ≡ doneIn (wasDone stage done) k stages
+    shifted k [] = refl
+    shifted k (next ∷ stages) = ap₂ {C = List Step} _++_ (ap (λ (f : ℕ → Bool). doneOf f 0 next) (same k)) (shifted (suc k) stages)
+
+-- past the last stage all are done
+pub cut-past-last : (stage : ℕ) (done : ℕ → Bool) (stages : List (List Step)) → length stages ≤ stage → cutShort stage done stages ≡ flatten stages
+unfolding flatten cutShort doneIn
+cut-past-last stage done [] h = refl
+cut-past-last zero done (first ∷ rest) h = absurd (omega arith)
+cut-past-last (suc stage) done (first ∷ rest) h = cut-later stage done first rest ∙ ap (λ (l : List Step). first ++ l) (cut-past-last stage done rest (omega arith))

@@ -26,7 +26,7 @@ use Rattle.state.specs.StateLaws.{StateFacts}
 use Rattle.table.specs.TableLaws.{holds-of}
 use Rattle.twins.specs.Twins.{twins}
 use Rattle.twins.specs.TwinsLaws.{twins-exactly}
-use Rattle.rules.specs.Permission.{twinOutside, mayErase, mayEraseFrom, mayEraseAlone}
+use Rattle.rules.specs.Permission.{twinOutside, mayErase, mayEraseFrom, mayEraseAlone, scene, untwinned}
 use Rattle.rules.specs.laws.Volume.{bytes-whole}
 use Rattle.rules.specs.laws.Permission.{Exposed, obsolete-exactly, may-erase-exactly, may-erase-from}
 use Rattle.upkeep.specs.laws.Sweep.{obsolete-needed}
@@ -38,7 +38,7 @@ use Rattle.atomicity.specs.steps.Sparing.{HeldIn}
 module _
     (w P S : ℕ) (f : Flash) (size : SizedIn FiveWords w S f) (st : ℕ → PageState) (sound : StateFacts P st) {kept : ℕ → List ℕ} {Entered : ℕ → List ℕ → Type 0}
     (core : SharedCore recordView (HeldIn FiveWords w S f) (commOf st) P kept) (live : SharedLive recordView P (HeldIn FiveWords w S f) st Entered)
-    (bare : (k : ℕ) → k < S → mayEraseAlone S (slotAt (f .words)) st (twins w f) k ≡ false) where
+    (bare : (k : ℕ) → k < S → mayEraseAlone (scene S (slotAt (f .words)) st (twins w f)) k ≡ false) where
   abbrev t : ℕ → Slot
   t = slotAt (f .words)
 
@@ -51,16 +51,16 @@ module _
 
   -- ---- which records there are
 
-  unpermitted : (k : ℕ) → k < S → mayErase S t st k ≡ false
+  unpermitted : (k : ℕ) → k < S → mayErase (scene S t st (twins w f)) k ≡ false
   unfolding mayEraseAlone mayEraseFrom
-  unpermitted k h = neither-right (twinOutside S (twins w f) (listed (k ∷ [])) k) (mayErase S t st k) (bare k h)
+  unpermitted k h = neither-right (twinOutside (scene S t st (twins w f)) (listed (k ∷ [])) k) (mayErase (scene S t st (twins w f)) k) (bare k h)
 
   -- an exposed one is of a page in flight at its used version,
   exposed-current : (k : ℕ) (r : Record) → k < S → t k ≡ Holds r → Exposed st r → (inFlight (st (r .p)) ≡ true) × (r .v ≡ st (r .p) .used)
   exposed-current k r h e x =
       on-test (inFlight (st (r .p)))
-      (λ y. on-eq (r .v) (st (r .p) .used) (λ q. (y, q)) (λ d. absurd (never (may-erase-exactly S t st k .1 (r, e, inr (x, λ c. d (c .1)))) (unpermitted k h))))
-      (λ n. absurd (never (may-erase-exactly S t st k .1 (r, e, inr (x, λ c. never (c .0) n))) (unpermitted k h)))
+      (λ y. on-eq (r .v) (st (r .p) .used) (λ q. (y, q)) (λ d. absurd (never (may-erase-exactly S t st (twins w f) k .1 (r, e, inr (x, λ c. d (c .1)))) (unpermitted k h))))
+      (λ n. absurd (never (may-erase-exactly S t st (twins w f) k .1 (r, e, inr (x, λ c. never (c .0) n))) (unpermitted k h)))
 
   -- which is written
   exposed-written : (k : ℕ) (r : Record) → k < S → t k ≡ Holds r → Exposed st r → isWritten (st (r .p)) ≡ true
@@ -80,7 +80,7 @@ module _
   -- whose link no record straddles: no version is above the used one. So no obsolete record is needed, and there is none.
   none-obsolete : (k : ℕ) (r : Record) → k < S → t k ≡ Holds r → r .v < st (r .p) .committed → ⊥
   none-obsolete k r h e l =
-      let n = obsolete-needed S t st k e (obsolete-exactly st r .1 l) (unpermitted k h) in
+      let n = obsolete-needed S t st (twins w f) k e (obsolete-exactly st r .1 l) (unpermitted k h) in
       let s = n .supports in
       let J = s .1 in
       let x = s .4 .0 in
@@ -111,7 +111,7 @@ module _
       (λ d. let same = core .one-record a b _ _ (pair j a hj ea) (pair k b hk eb) p v in
       let whole = bytes-whole w S f size in
       let twin = twins-exactly w f j k (whole j hj) (whole k hk) .1 (a, ea, eb ∙ ap Holds (sym (same .0)), same .1) in
-      absurd (never (may-erase-from S t st (twins w f) (listed (k ∷ [])) k .1 (inl (j, hj, twin, ne-eqb k j (λ q. d (sym q))))) (bare k hk)))
+      absurd (never (may-erase-from (scene S t st (twins w f)) (listed (k ∷ [])) k .1 (inl (j, hj, twin, ne-eqb k j (λ q. d (sym q))))) (bare k hk)))
 
   -- ---- counted page by page
 

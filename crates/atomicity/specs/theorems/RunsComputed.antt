@@ -2,14 +2,14 @@
 use mathlib.Core.Path.{refl}
 use Rattle.upkeep.specs.cases.Computing.{computing as upkeep-computing}
 use Rattle.atomicity.specs.Call.{withState, withFlash, perform, plannedStages, flashStages}
-use Rattle.atomicity.specs.Run.{doneOf, cutShort, wasDone, isRecover, stillLost, happens, started, after, keepsTo, keepsPremises}
+use Rattle.atomicity.specs.Run.{doneOf, doneIn, cutShort, wasDone, isRecover, stillLost, happens, started, after, keepsTo, keepsPremises}
 use Rattle.atomicity.specs.Model.{freshModel, entryPage, hasBytes, inRing, allEntered, newRing, enterIn, keep, withRing, settleRing, enter, closeRing, closeAll, accept, learns}
 use Rattle.atomicity.specs.Promise.{toldOfCrash, told, modelAfter}
 use Rattle.atomicity.specs.Runs.{oneByte, blankBuffers, fourBuffers, lostState, every, none, runCompleted, runErased, runPast, runClosed, runCopied, runCleaned, runSweeping, runSwept, runExposed, runBuried, keptAfter, wordsAfter, RunsComputed, SimpleRunsComputed}
 
 -- A name for "these definitions compute": a declaration that unfolds it unfolds them all.
 unfoldable pub computing : Unit {0}
-unfolding upkeep-computing withState withFlash perform plannedStages flashStages doneOf cutShort wasDone isRecover stillLost happens started after keepsTo keepsPremises freshModel entryPage hasBytes inRing allEntered newRing enterIn keep withRing settleRing enter closeRing closeAll accept learns toldOfCrash told modelAfter
+unfolding upkeep-computing withState withFlash perform plannedStages flashStages doneOf doneIn wasDone cutShort isRecover stillLost happens started after keepsTo keepsPremises freshModel entryPage hasBytes inRing allEntered newRing enterIn keep withRing settleRing enter closeRing closeAll accept learns toldOfCrash told modelAfter
 computing = tt
 
 pub runs-computed : RunsComputed

@@ -15,7 +15,7 @@ use Rattle.atomicity.specs.Call.{Call, withState, withFlash, perform, pl
 use Rattle.atomicity.specs.Run.{wasDone}
 use Rattle.atomicity.specs.Companions.{StagesInOrder}
 use Rattle.atomicity.specs.steps.Theory.{Theory, spared-done, write-done}
-use Rattle.atomicity.specs.steps.Stages.{answer-is, refused-leaves, refused-stages, accepted-stages, done-before, done-behind, cut-exactly, cut-past-last}
+use Rattle.atomicity.specs.steps.Stages.{answer-is, refused-leaves, refused-stages, accepted-stages, done-before, done-behind, cut-past-last}
 
 module _ {F : Family} (T : Theory F) (widths : Widths) (sizes : Sizes) (v : Volume) where
   -- the flash that an accepted call leaves
@@ -48,6 +48,5 @@ stages-in-order T =
     record {
       performed = performs-stages T;
       past-last = cut-past-last;
-      exactly = cut-exactly;
       in-order = cut-in-order;
     }

@@ -46,7 +46,7 @@ use Rattle.atomicity.specs.Run.{Event, started, after}
 use Rattle.atomicity.specs.Model.{Model, freshModel, accept}
 use Rattle.atomicity.specs.Promise.{Premises, modelAfter}
 use Rattle.atomicity.specs.Companions.{StateKnown}
-use Rattle.atomicity.specs.Burial.{SpareAt, Unburied}
+use Rattle.atomicity.specs.Burial.{SpareAt, ListsSpare, UnburiedAt, Unburied}
 use Rattle.atomicity.specs.Simple.{simple-theory}
 use Rattle.atomicity.specs.steps.Invariant.{Live, Known, Holding, known, unknown}
 use Rattle.atomicity.specs.steps.Stages.{answer-is}
@@ -186,7 +186,7 @@ module _ (widths : Widths) (sizes : Sizes) (v : Volume) where
 
   erased-unburied :
       (m : Model) → Known simple-theory widths sizes v m → (slots : List ℕ)
-      → ((k : ℕ) → k < sizes .slots → SpareAt v k → (i : ℕ) × (i < length slots) × (getD slots i 0 ≡ k))
+      → ListsSpare sizes v slots
       → simpleEraseAnswer widths sizes v slots ≡ 0
       → (page slot : ℕ) (bytes : List ℕ)
       → ¬ (simpleWriteAnswer widths sizes (perform simple widths sizes v (Call.Erase slots) .left) page slot bytes ≡ 16)
@@ -212,7 +212,7 @@ module _ (widths : Widths) (sizes : Sizes) (v : Volume) where
   -- the write that was refused by 16 is then accepted
   done-after :
       (m : Model) → Known simple-theory widths sizes v m → (slots : List ℕ)
-      → ((k : ℕ) → k < sizes .slots → SpareAt v k → (i : ℕ) × (i < length slots) × (getD slots i 0 ≡ k))
+      → ListsSpare sizes v slots
       → simpleEraseAnswer widths sizes v slots ≡ 0
       → (page slot : ℕ) (bytes : List ℕ)
       → simpleWriteAnswer widths sizes v page slot bytes ≡ 16
@@ -256,23 +256,23 @@ module _ (widths : Widths) (sizes : Sizes) (v : Volume) where
       let state = not-false (stateSound (sizes .pages) (stateAt (v .state))) (w .2) in
       rw (fits, sound, state, ok, all)
 
+-- so it is of a volume whose state is known
+unburied-at : (widths : Widths) (sizes : Sizes) (v : Volume) (m : Model) → Known simple-theory widths sizes v m → UnburiedAt widths sizes v
+unburied-at widths sizes v m k =
+    record {
+      where-none = λ none page slot bytes s. unburied sizes (v .flash) (stateAt (v .state)) m (k .live) none page (told widths sizes v page slot bytes s .4);
+      after-erase = erased-unburied widths sizes v m k;
+      then-done = done-after widths sizes v m k;
+    }
+
 pub unburied-again : Unburied
 unburied-again =
     record {
-      where-none = λ widths sizes v events p found none page slot bytes s.
-          let x = after simple widths sizes (started simple widths sizes v) events .volume in
-          let m = modelAfter simple widths sizes (started simple widths sizes v) (freshModel (sizes .width)) events in
-          unburied sizes (x .flash) (stateAt (x .state)) m (known-live widths sizes v events p found .live) none page (told widths sizes x page slot bytes s .4);
-      after-erase = λ widths sizes v events p found slots lists e page slot bytes s.
-          let x = after simple widths sizes (started simple widths sizes v) events .volume in
-          let m = modelAfter simple widths sizes (started simple widths sizes v) (freshModel (sizes .width)) events in
-          let k = known-live widths sizes v events p found in
-          erased-unburied widths sizes x m k slots lists e page slot bytes s;
-      then-done = λ widths sizes v events p found slots lists e page slot bytes s.
-          done-after widths sizes (after simple widths sizes (started simple widths sizes v) events .volume)
+      reached = λ widths sizes v events p found.
+          unburied-at widths sizes (after simple widths sizes (started simple widths sizes v) events .volume)
           (modelAfter simple widths sizes (started simple widths sizes v) (freshModel (sizes .width)) events)
-          (known-live widths sizes v events p found) slots lists e page slot bytes s;
-      accepted = λ widths sizes v page slot bytes slots s ok each. accepts widths sizes v page slot bytes slots s ok each;
+          (known-live widths sizes v events p found);
+      accepted = accepts;
     }
   where
     known-live : (widths : Widths) (sizes : Sizes) (v : Volume) (events : List Event) → Premises simple widths sizes v events → StateKnown simple widths sizes v events → Known simple-theory widths sizes (after simple widths sizes (started simple widths sizes v) events .volume) (modelAfter simple widths sizes (started simple widths sizes v) (freshModel (sizes .width)) events)

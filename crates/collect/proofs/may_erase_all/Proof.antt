@@ -6,6 +6,7 @@ use Rattle.record.specs.Slot.{slotIn}
 use Rattle.record.specs.Flash.{flash}
 use Rattle.state.specs.State.{stateAt}
 use Rattle.twins.specs.Twins.{twins}
+use Rattle.rules.specs.Permission.{scene}
 use Rattle.rules.specs.laws.Families.{mayEraseAllIn}
 use Rattle.permit.specs.Prepared.{judged-linkable-in}
 use Rattle.permit.specs.Readable.{judged-readable}
@@ -32,13 +33,13 @@ returns : tie.Need-returns
 returns c =
     let a = c .before .before .before .before .before .before .before .args in
     c .may-erase-all .ensures
-    ∙ ap (λ (x : Layout). mayEraseAllIn x (a .sizes .slots) (slotIn x (a .words .now)) (stateAt (a .state .now)) (twins (a .sizes .width) (flash (a .words .now) (a .contents .now))) (a .list .now)) (sym (c .before .enum-told .given .1))
+    ∙ ap (λ (x : Layout). mayEraseAllIn x (scene (a .sizes .slots) (slotIn x (a .words .now)) (stateAt (a .state .now)) (twins (a .sizes .width) (flash (a .words .now) (a .contents .now)))) (a .list .now)) (sym (c .before .enum-told .given .1))
 
 returns-2 : tie.Need-returns-2
 returns-2 c =
     let a = c .before .before .before .before .before .before .before .args in
     c .may-erase-all2 .ensures
-    ∙ ap (λ (x : Layout). mayEraseAllIn x (a .sizes .slots) (slotIn x (a .words .now)) (stateAt (a .state .now)) (twins (a .sizes .width) (flash (a .words .now) (a .contents .now))) (a .list .now)) (sym (c .before .enum-told2 .given .1))
+    ∙ ap (λ (x : Layout). mayEraseAllIn x (scene (a .sizes .slots) (slotIn x (a .words .now)) (stateAt (a .state .now)) (twins (a .sizes .width) (flash (a .words .now) (a .contents .now)))) (a .list .now)) (sym (c .before .enum-told2 .given .1))
 
 pub may-erase-all-spec : {M : Type 1} → statement M
 may-erase-all-spec =

@@ -12,7 +12,8 @@ use Rattle.record.specs.Slot.{slotAt}
 use Rattle.record.specs.Flash.{flash}
 use Rattle.state.specs.State.{stateAt}
 use Rattle.twins.specs.Twins.{twins}
-use Rattle.rules.specs.Found.{mayEraseFromBy, mayEraseAllBy}
+use Rattle.rules.specs.Permission.{scene, mayEraseFrom, mayEraseAll}
+use Rattle.rules.specs.Found.{byFound}
 use Rattle.judge.specs.JudgeLaws.{by-list}
 use Rattle.judge.proofs.all_permitted.Statement.{statement}
 use Rattle.judge.proofs.all_permitted.Tie as tie
@@ -20,7 +21,7 @@ use Rattle.judge.proofs.all_permitted.Tie as tie
 abbrev Inv-loop : tie.InvT-loop
 Inv-loop sizes words contents state chains found marks list i₀ i =
     (i ≤ length list)
-    × (allBelow i (λ j. mayEraseFromBy (sizes .slots) (slotAt words) (stateAt state) found (twins (sizes .width) (flash words contents)) (listed list) (getD list j 0)) ≡ true)
+    × (allBelow i (λ j. mayEraseFrom (byFound (scene (sizes .slots) (slotAt words) (stateAt state) (twins (sizes .width) (flash words contents))) found) (listed list) (getD list j 0)) ≡ true)
 
 abbrev μ-loop : tie.MeasureT-loop
 μ-loop sizes words contents state chains found marks list i₀ i = length list - i
@@ -38,9 +39,9 @@ may-erase-from-requires : tie.Need-may-erase-from-requires Inv-loop μ-loop
 may-erase-from-requires c κs = let p = c .before .before .before .before .before .before .before .before .pre in (p .0, p .1 .0 .in-range _ (c .before .loop-test .taken))
 
 returns : tie.Need-returns Inv-loop μ-loop
-unfolding mayEraseAllBy
+unfolding mayEraseAll
 returns c =
-    let judged = c .before .may-erase-from .ensures ∙ by-list _ _ _ _ _ _ (c .before .before .before .before .before .before .before .before .before .before .pre .1 .1) in
+    let judged = c .before .may-erase-from .ensures ∙ by-list _ _ (c .before .before .before .before .before .before .before .before .before .before .pre .1 .1) in
     sym (all-fails _ _ (c .before .before .before .before .loop .i) (c .before .before .before .loop-test .taken) (said-no judged (c .if1 .taken)))
 
 add-i : tie.Need-add-i Inv-loop μ-loop
@@ -51,11 +52,11 @@ loop-less c = omega arith
 
 loop-again : tie.Need-loop-again Inv-loop μ-loop
 loop-again c =
-    let judged = c .before .may-erase-from .ensures ∙ by-list _ _ _ _ _ _ (c .before .before .before .before .before .before .before .before .before .before .pre .1 .1) in
+    let judged = c .before .may-erase-from .ensures ∙ by-list _ _ (c .before .before .before .before .before .before .before .before .before .before .pre .1 .1) in
     (omega arith, all-more _ _ (c .before .before .before .before .loop .inv .1) (said-yes judged (c .if1 .left)))
 
 returns-2 : tie.Need-returns-2 Inv-loop μ-loop
-unfolding mayEraseAllBy
+unfolding mayEraseAll
 returns-2 c =
     let l = c .before .loop in
     let e : l .i ≡ length (c .before .before .before .before .before .before .before .args .list .now) = omega arith in

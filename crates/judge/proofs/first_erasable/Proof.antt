@@ -5,15 +5,12 @@ use mathlib.Core.Path.{sym, ap, _∙_, fun-ext}
 use mathlib.Core.List.{List, [], _∷_}
 use Rattle.bounded.specs.Below.{firstBelow}
 use Rattle.bounded.specs.Noted.{noted-length}
-use Rattle.sizes.specs.Sizes.{listed}
-use Rattle.record.specs.Slot.{slotAt}
-use Rattle.record.specs.Flash.{flash}
-use Rattle.state.specs.State.{stateAt}
 use Rattle.twins.specs.Twins.{twins}
-use Rattle.rules.specs.Permission.{mayEraseAlone}
-use Rattle.rules.specs.Found.{mayEraseFromBy}
+use Rattle.rules.specs.Volume.{volume, slotsOf, pagesOf}
+use Rattle.rules.specs.Permission.{Scene, sceneOf, mayEraseAlone}
+use Rattle.rules.specs.Found.{byFound}
 use Rattle.rules.specs.Suggest.{suggestible, suggestedSlot}
-use Rattle.rules.specs.laws.Found.{judged-from-found}
+use Rattle.rules.specs.laws.Found.{found-scene}
 use Rattle.permit.specs.Prepared.{linkable-within}
 use Rattle.judge.specs.Judgeable.{judgeable}
 use Rattle.judge.proofs.first_erasable.Statement.{statement}
@@ -40,12 +37,10 @@ returns : tie.Need-returns
 unfolding suggestedSlot suggestible mayEraseAlone
 returns c =
     let a = c .before .before .before .before .before .before .before .before .before .before .args in
-    let t = slotAt (a .words .now) in
-    let st = stateAt (a .state .now) in
-    let twin = twins (a .sizes .width) (flash (a .words .now) (a .contents .now)) in
+    let v = volume (a .words .now) (a .contents .now) (a .state .now) in
     c .first-permitted .ensures
-    ∙ ap (λ (l : List ℕ). firstBelow (a .sizes .slots) (λ k. mayEraseFromBy (a .sizes .slots) t st l twin (listed (k ∷ [])) k)) (c .before .before .before .find-exposed .ensures .1)
-    ∙ ap (firstBelow (a .sizes .slots)) (fun-ext (λ k. judged-from-found (a .sizes .slots) t st twin (listed (k ∷ [])) k))
+    ∙ ap (λ (l : List ℕ). firstBelow (a .sizes .slots) (mayEraseAlone (byFound (sceneOf (a .sizes) v) l))) (c .before .before .before .find-exposed .ensures .1)
+    ∙ ap (λ (s : Scene). firstBelow (a .sizes .slots) (mayEraseAlone s)) (found-scene (a .sizes .slots) (slotsOf v) (pagesOf v) (twins (a .sizes .width) (v .flash)))
 
 pub first-erasable-spec : {M : Type 1} → statement M
 first-erasable-spec =

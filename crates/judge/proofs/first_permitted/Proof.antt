@@ -10,7 +10,9 @@ use Rattle.record.specs.Slot.{slotAt}
 use Rattle.record.specs.Flash.{flash}
 use Rattle.state.specs.State.{stateAt}
 use Rattle.twins.specs.Twins.{twins}
-use Rattle.rules.specs.Found.{mayEraseFromBy}
+use Rattle.rules.specs.Volume.{volume}
+use Rattle.rules.specs.Permission.{sceneOf, mayEraseAlone}
+use Rattle.rules.specs.Found.{byFound}
 use Rattle.judge.specs.Marked.{NoMarks, no-marks}
 use Rattle.judge.specs.JudgeLaws.{none-more}
 use Rattle.judge.proofs.first_permitted.Statement.{statement}
@@ -20,7 +22,7 @@ abbrev Inv-loop : tie.InvT-loop
 Inv-loop sizes words contents state chains found marks₀ slot₀ marks slot =
     (slot ≤ sizes .slots)
     × NoMarks marks
-    × ((k : ℕ) → k < slot → mayEraseFromBy (sizes .slots) (slotAt words) (stateAt state) found (twins (sizes .width) (flash words contents)) (listed (k ∷ [])) k ≡ false)
+    × ((k : ℕ) → k < slot → mayEraseAlone (byFound (sceneOf sizes (volume words contents state)) found) k ≡ false)
 
 abbrev μ-loop : tie.MeasureT-loop
 μ-loop sizes words contents state chains found marks₀ slot₀ marks slot = sizes .slots - slot

@@ -5,11 +5,10 @@ use Prim.Native.Nat.{ℕ}
 use mathlib.Core.Path.{sym, ap, _∙_}
 use mathlib.Core.List.{List}
 use Rattle.bounded.specs.Noted.{noted-length}
-use Rattle.record.specs.Slot.{slotAt}
-use Rattle.record.specs.Flash.{flash}
-use Rattle.state.specs.State.{stateAt}
 use Rattle.twins.specs.Twins.{twins}
-use Rattle.rules.specs.Found.{mayEraseAllBy}
+use Rattle.rules.specs.Volume.{volume, slotsOf, pagesOf}
+use Rattle.rules.specs.Permission.{sceneOf, mayEraseAll}
+use Rattle.rules.specs.Found.{byFound}
 use Rattle.rules.specs.laws.Found.{list-judged-by-found}
 use Rattle.permit.specs.Prepared.{linkable-within}
 use Rattle.judge.specs.Judgeable.{judgeable}
@@ -39,12 +38,10 @@ all-permitted-requires c κs =
 returns : tie.Need-returns
 returns c =
     let a = c .before .before .before .before .before .before .before .before .before .before .before .before .before .before .args in
-    let t = slotAt (a .words .now) in
-    let st = stateAt (a .state .now) in
-    let twin = twins (a .sizes .width) (flash (a .words .now) (a .contents .now)) in
+    let v = volume (a .words .now) (a .contents .now) (a .state .now) in
     c .all-permitted .ensures
-    ∙ ap (λ (l : List ℕ). mayEraseAllBy (a .sizes .slots) t st l twin (a .list .now)) (c .before .before .before .before .before .before .find-exposed .ensures .1)
-    ∙ list-judged-by-found (a .sizes .slots) t st twin (a .list .now)
+    ∙ ap (λ (l : List ℕ). mayEraseAll (byFound (sceneOf (a .sizes) v) l) (a .list .now)) (c .before .before .before .before .before .before .find-exposed .ensures .1)
+    ∙ list-judged-by-found (a .sizes .slots) (slotsOf v) (pagesOf v) (twins (a .sizes .width) (v .flash)) (a .list .now)
 
 pub may-erase-all-spec : {M : Type 1} → statement M
 may-erase-all-spec =

@@ -2,6 +2,7 @@
 use native.Mathlib.Omega.{arith}
 use borrow.Author.Needs.{needs}
 use mathlib.Core.Path.{_∙_}
+use Rattle.rules.specs.Permission.{mayEraseAlone}
 use Rattle.judge.specs.Marked.{alone-marked, alone-cleared}
 use Rattle.judge.specs.JudgeLaws.{by-list}
 use Rattle.judge.proofs.may_erase_alone.Statement.{statement}
@@ -17,11 +18,12 @@ element-write-marks-2 : tie.Need-element-write-marks-2
 element-write-marks-2 c = search needs
 
 returns : tie.Need-returns
+unfolding mayEraseAlone
 returns c =
     let p = c .before .before .before .before .before .before .pre in
     let a = c .before .before .before .before .before .before .args in
     let few = p .0 .comparable .linkable .slots-few in
-    (c .may-erase-from .ensures ∙ by-list _ _ _ _ _ _ (alone-marked (a .marks .now) (a .slot) (p .1 .1) (omega arith)), alone-cleared (a .marks .now) (a .slot) (p .1 .1) (omega arith))
+    (c .may-erase-from .ensures ∙ by-list _ _ (alone-marked (a .marks .now) (a .slot) (p .1 .1) (omega arith)), alone-cleared (a .marks .now) (a .slot) (p .1 .1) (omega arith))
 
 pub may-erase-alone-spec : {M : Type 1} → statement M
 may-erase-alone-spec =

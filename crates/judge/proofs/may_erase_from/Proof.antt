@@ -14,7 +14,7 @@ twin-outside-requires : tie.Need-twin-outside-requires
 twin-outside-requires c κs = let p = c .before .before .before .before .before .before .pre in (p .0 .comparable, p .1)
 
 returns-2 : tie.Need-returns-2
-returns-2 c = c .twin-outside .ensures ∙ sym (by-twin _ _ _ _ _ _ _ (sym (c .before .before .may-erase .ensures) ∙ c .before .if1 .left))
+returns-2 c = c .twin-outside .ensures _ ∙ sym (by-twin _ _ _ _ _ _ _ (sym (c .before .before .may-erase .ensures) ∙ c .before .if1 .left))
 
 pub may-erase-from-spec : {M : Type 1} → statement M
 may-erase-from-spec =

@@ -35,7 +35,7 @@ enum-told : tie.Need-enum-told Inv-loop μ-loop
 enum-told c = search needs
 
 returns : tie.Need-returns Inv-loop μ-loop
-returns c = sym (blank-none-outside _ _ _ _ _ (sym (c .before .before .slot-at .ensures) ∙ c .enum-told .given .1))
+returns c st = sym (blank-none-outside _ _ _ _ _ st (sym (c .before .before .slot-at .ensures) ∙ c .enum-told .given .1))
 
 chain-end-requires : tie.Need-chain-end-requires Inv-loop μ-loop
 chain-end-requires c κs = tt
@@ -58,7 +58,7 @@ is-twin-outside-requires c κs =
 
 returns-2 : tie.Need-returns-2 Inv-loop μ-loop
 unfolding twinOutside
-returns-2 c =
+returns-2 c st =
     let l = c .before .before .before .loop in
     let b = l .inv .2 .in-table in
     sym (some-of _ _ (l .end - 1) (omega arith) (sym (c .before .is-twin-outside .ensures) ∙ c .if1 .taken))
@@ -87,7 +87,7 @@ loop-again c =
 
 returns-3 : tie.Need-returns-3 Inv-loop μ-loop
 unfolding twinOutside
-returns-3 c =
+returns-3 c st =
     let l = c .before .loop in
     let x = c .before .before .before .before .before .before .before .before .before in
     let a = x .args in

@@ -106,28 +106,28 @@ search-again c =
     (omega arith, l .inv .1, some-more _ _ (l .inv .2) (sym (c .before .slot-straddled .ensures) ∙ c .if1 .left))
 
 returns : tie.Need-returns Inv-loop μ-loop Inv-search μ-search
-returns c =
+returns c st =
     let l = c .before .search in
     let e : l .i ≡ length (c .before .before .before .before .args .found .now) = omega arith in
-    l .inv .1 ∙ sym (nothing-straddled _ _ _ _ (rw e at (l .inv .2)))
+    l .inv .1 ∙ sym (nothing-straddled _ _ _ _ st (rw e at (l .inv .2)))
 
 returns-2 : tie.Need-returns-2 Inv-loop μ-loop Inv-search μ-search
-returns-2 c =
+returns-2 c st =
     c .before .before .before .before .before .before .search .inv .1
-    ∙ sym (outdone-not-needed _ _ _ _ (c .before .earlier-outdoes .ensures (c .if2 .taken)))
+    ∙ sym (outdone-not-needed _ _ _ _ st (c .before .earlier-outdoes .ensures (c .if2 .taken)))
 
 returns-3 : tie.Need-returns-3 Inv-loop μ-loop Inv-search μ-search
-returns-3 c =
+returns-3 c st =
     let l = c .before .before .before .loop in
     let b = l .inv .in-table in
     c .before .before .before .before .before .before .before .before .before .before .before .search .inv .1
-    ∙ sym (outdone-not-needed _ _ _ _ (some-of _ _ (l .end - 1) (omega arith) (sym (c .before .slot-outdoes .ensures) ∙ c .if3 .taken)))
+    ∙ sym (outdone-not-needed _ _ _ _ st (some-of _ _ (l .end - 1) (omega arith) (sym (c .before .slot-outdoes .ensures) ∙ c .if3 .taken)))
 
 returns-4 : tie.Need-returns-4 Inv-loop μ-loop Inv-search μ-search
-returns-4 c =
+returns-4 c st =
     let b = c .before .before .before .before .before .before .before .before in
     let p = b .before .before .before .before .pre .0 in
-    sym (straddled-needed _ _ _ _ (b .before .search .i) (b .search-test .taken)
+    sym (straddled-needed _ _ _ _ st (b .before .search .i) (b .search-test .taken)
     (sym (c .before .before .before .before .before .before .slot-straddled .ensures) ∙ c .before .before .before .before .before .if1 .taken)
     (search-ends _ _ _ (p .chained) _ _ (outdone-in-chain _ _) _ (c .before .loop .inv) (omega arith)))
 

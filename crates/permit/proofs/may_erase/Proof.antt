@@ -1,7 +1,8 @@
 -- A blank slot may not be erased; the page of a record in the table is in the state.
 use borrow.Author.Needs.{needs}
 use mathlib.Core.Path.{sym, _∙_}
-use Rattle.rules.specs.Found.{mayEraseBy}
+use Rattle.rules.specs.Permission.{mayErase}
+use Rattle.rules.specs.Found.{byFound}
 use Rattle.permit.specs.SearchLaws.{holds-none, holds-record}
 use Rattle.permit.proofs.may_erase.Statement.{statement}
 use Rattle.permit.proofs.may_erase.Tie as tie
@@ -16,7 +17,7 @@ enum-told : tie.Need-enum-told
 enum-told c = search needs
 
 returns : tie.Need-returns
-unfolding mayEraseBy
+unfolding byFound mayErase
 returns c = sym (holds-none _ (sym (c .before .before .slot-at .ensures) ∙ c .enum-told .given .1))
 
 may-erase-record-requires : tie.Need-may-erase-record-requires
@@ -26,7 +27,7 @@ may-erase-record-requires c κs =
     (p .0, (p .1 .1, p .1 .0 .pages-in _ _ (p .1 .1) holds))
 
 returns-2 : tie.Need-returns-2
-unfolding mayEraseBy
+unfolding byFound mayErase
 returns-2 c =
     c .may-erase-record .ensures
     ∙ sym (holds-record _ (sym (c .before .before .before .before .slot-at .ensures) ∙ c .before .before .«record» .given .1))

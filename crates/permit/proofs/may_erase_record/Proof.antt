@@ -15,7 +15,7 @@ is-needed-requires c κs = search needs
 
 returns : tie.Need-returns
 returns c =
-    ap not (c .is-needed .ensures)
+    ap not (c .is-needed .ensures _)
     ∙ sym (obsolete-by _ _ _ _ _ (sym (c .before .before .is-obsolete .ensures) ∙ c .before .if1 .taken))
 
 is-exposed-requires : tie.Need-is-exposed-requires

@@ -15,7 +15,7 @@ use Rattle.rules.specs.Launch.{somePage, usedUp, launchAnswer, launchOut
 use Rattle.rules.specs.Withdraw.{withdrawAnswer, withdrawOutcome}
 use Rattle.rules.specs.Write.{planOf, writeAnswer, writeStep, writeDone, writeChange, writeOutcome}
 use Rattle.rules.specs.Erase.{eraseAnswer, eraseSteps, eraseOutcome}
-use Rattle.rules.specs.Permission.{isObsolete, isExposed, outdoneBy, supports, isNeeded, isCurrent, mayEraseRecord, mayErase, twinOutside, mayEraseFrom, mayEraseAll, mayEraseAlone}
+use Rattle.rules.specs.Permission.{isObsolete, isExposed, outdoneBy, isNeeded, isCurrent, mayEraseRecord, mayErase, twinOutside, mayEraseFrom, mayEraseAll, mayEraseAlone}
 use Rattle.rules.specs.CheckBlocks.{checkBlocksAnswer, checkBlocksOutcome}
 use Rattle.rules.specs.Suggest.{suggestible, suggestAnswer, suggestedSlot, suggestOutcome}
 use Rattle.rules.specs.Recover.{walkOf, linksOf, backPointer, committedBy, committedOf, recovered, recoverAnswer, recoverOutcome}
@@ -24,5 +24,5 @@ use Rattle.rules.specs.Simple.{simpleLinkVerdict, simpleSlotVerdict, sim
 use Rattle.rules.specs.SimpleCalls.{simplePlanOf, simpleWriteAnswer, simpleWriteChange, simpleWriteOutcome, simpleEraseAnswer, simpleEraseOutcome, simpleRecoverAnswer, simpleLinksOf, simpleRecoverOutcome}
 
 unfoldable pub computing : Unit {0}
-unfolding twins-computing flatten listBelow state-computing outcome-computing formattedWords formattedContents formattedIn formatAnswerIn formatOutcomeIn readSlotIn readAnswerIn readOutcomeIn twoWidths sizesOk wordsFitIn contentsFit stateFits volumeFitsIn noRepeats inRange listOk listed risesStrictly startsOk blockOk blockAt inBlock checkBlocksAnswer checkBlocksOutcome somePage usedUp launchAnswer launchOutcome withdrawAnswer withdrawOutcome planOf writeAnswer writeStep writeDone writeChange writeOutcome eraseAnswer eraseSteps eraseOutcome isObsolete isExposed outdoneBy supports isNeeded isCurrent mayEraseRecord mayErase twinOutside mayEraseFrom mayEraseAll mayEraseAlone suggestible suggestAnswer suggestedSlot suggestOutcome endsHere oneMore link followFrom follow linksFollowed walkOf linksOf isAstray backPointer committedBy committedOf recovered recoverAnswer recoverOutcome isStraddled linkVerdict slotVerdict verdict simpleLinkVerdict simpleSlotVerdict simpleVerdict simpleWalkOf under second simpleCommittedSlot committedSlotOf hasCommitted simpleRecovered simpleMayEraseRecord simpleMayErase simpleMayEraseAll buriedBy wouldBury simplePlanOf simpleWriteAnswer simpleWriteChange simpleWriteOutcome simpleEraseAnswer simpleEraseOutcome simpleRecoverAnswer simpleLinksOf simpleRecoverOutcome
+unfolding twins-computing flatten listBelow state-computing outcome-computing formattedWords formattedContents formattedIn formatAnswerIn formatOutcomeIn readSlotIn readAnswerIn readOutcomeIn twoWidths sizesOk wordsFitIn contentsFit stateFits volumeFitsIn noRepeats inRange listOk listed risesStrictly startsOk blockOk blockAt inBlock checkBlocksAnswer checkBlocksOutcome somePage usedUp launchAnswer launchOutcome withdrawAnswer withdrawOutcome planOf writeAnswer writeStep writeDone writeChange writeOutcome eraseAnswer eraseSteps eraseOutcome isObsolete isExposed outdoneBy isNeeded isCurrent mayEraseRecord mayErase twinOutside mayEraseFrom mayEraseAll mayEraseAlone suggestible suggestAnswer suggestedSlot suggestOutcome endsHere oneMore link followFrom follow linksFollowed walkOf linksOf isAstray backPointer committedBy committedOf recovered recoverAnswer recoverOutcome isStraddled linkVerdict slotVerdict verdict simpleLinkVerdict simpleSlotVerdict simpleVerdict simpleWalkOf under second simpleCommittedSlot committedSlotOf hasCommitted simpleRecovered simpleMayEraseRecord simpleMayErase simpleMayEraseAll buriedBy wouldBury simplePlanOf simpleWriteAnswer simpleWriteChange simpleWriteOutcome simpleEraseAnswer simpleEraseOutcome simpleRecoverAnswer simpleLinksOf simpleRecoverOutcome
 computing = tt

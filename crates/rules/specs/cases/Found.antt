@@ -2,7 +2,7 @@
 use Prim.Native.Nat.{ℕ, zero, suc}
 use mathlib.Core.Path.{refl}
 use mathlib.Core.List.{List, [], _∷_, _++_}
-use mathlib.Core.Bool.{cond, false}
+use mathlib.Core.Bool.{cond}
 use Rattle.bounded.specs.Below.{listBelow}
 use Rattle.outcome.specs.Row.{Row, row, RowsHold}
 use Rattle.record.specs.declared.Slot.{Slot}
@@ -10,7 +10,8 @@ use Rattle.record.specs.Slot.{slotAt}
 use Rattle.state.specs.declared.PageState.{PageState}
 use Rattle.state.specs.Change.{atRest}
 use Rattle.table.specs.Given.{given, formattedRecords, tableOf}
-use Rattle.rules.specs.Found.{exposedSlots, neededBy, mayEraseRecordBy, mayEraseBy, mayEraseFromBy, mayEraseAllBy}
+use Rattle.rules.specs.Permission.{untwinned, mayEraseAll}
+use Rattle.rules.specs.Found.{exposedSlots, byFound}
 use Rattle.rules.specs.cases.Computing.{computing}
 
 -- slots 0 to 2 hold the formatted records, 3 (0,1,0,1,1), 4 (1,2,0,2,1), 5 (2,1,0,1,2), 6 (1,3,2,1,3) and 7 (0,2,0,0,2)
@@ -25,7 +26,7 @@ pages7 (suc (suc p)) = atRest 1 1
 
 -- these slots may be erased, judged by a list of slots found, without twins: 1 or 0
 unfoldable pub judged7 : (found slots : List ℕ) → ℕ
-judged7 found slots = cond (mayEraseAllBy 8 slots7 pages7 found (λ j k. false) slots) 1 0
+judged7 found slots = cond (mayEraseAll (byFound (untwinned 8 slots7 pages7) found) slots) 1 0
 
 -- The straddler in slot 4 is needed by slot 3's link alone, which is not that of page 0's highest record: judged by slot 7 alone it could go.
 unfoldable pub foundRows : List Row
@@ -35,5 +36,5 @@ foundRows =
     ∷ []
 
 pub found-rows : RowsHold foundRows
-unfolding foundRows slots7 pages7 judged7 exposedSlots listBelow neededBy mayEraseRecordBy mayEraseBy mayEraseFromBy mayEraseAllBy computing
+unfolding foundRows slots7 pages7 judged7 exposedSlots byFound listBelow computing
 found-rows = refl

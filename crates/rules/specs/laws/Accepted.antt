@@ -25,7 +25,7 @@ use Rattle.rules.specs.laws.Volume.{Fits, fits-facts}
 use Rattle.rules.specs.Launch.{somePage, usedUp, launchAnswer}
 use Rattle.rules.specs.Write.{writeAnswer}
 use Rattle.rules.specs.Withdraw.{withdrawAnswer}
-use Rattle.rules.specs.Permission.{mayEraseAll}
+use Rattle.rules.specs.Permission.{sceneOf, mayEraseAll}
 use Rattle.rules.specs.Erase.{eraseAnswer}
 use Rattle.rules.specs.Suggest.{suggestible, suggestAnswer, suggestedSlot, suggestOutcome}
 use Rattle.rules.specs.Recover.{walkOf, committedOf, recoverAnswer}
@@ -119,7 +119,7 @@ write-tests widths sizes v page slot bytes z =
 pub record EraseTests (widths : Widths) (sizes : Sizes) (v : Volume) (list : List ℕ) : Type 0 where
   pub fits : Fits widths sizes v
   pub listed : listOk (sizes .slots) list ≡ true
-  pub permitted : mayEraseAll (sizes .slots) (slotAt (v .flash .words)) (stateAt (v .state)) (twins (sizes .width) (v .flash)) list ≡ true
+  pub permitted : mayEraseAll (sceneOf sizes v) list ≡ true
 
 pub erase-tests : (widths : Widths) (sizes : Sizes) (v : Volume) (list : List ℕ) → eraseAnswer widths sizes v list ≡ 0 → EraseTests widths sizes v list
 unfolding eraseAnswer
@@ -128,7 +128,7 @@ erase-tests widths sizes v list e =
     let b = held (tableSound (sizes .pages) (sizes .slots) (slotAt (v .flash .words))) _ _ (a .1) in
     let c = held (stateSound (sizes .pages) (stateAt (v .state))) _ _ (b .1) in
     let d = held (listOk (sizes .slots) list) _ _ (c .1) in
-    let f = held (mayEraseAll (sizes .slots) (slotAt (v .flash .words)) (stateAt (v .state)) (twins (sizes .width) (v .flash)) list) _ _ (d .1) in
+    let f = held (mayEraseAll (sceneOf sizes v) list) _ _ (d .1) in
     record { fits = fits-facts widths sizes v (a .0); listed = d .0; permitted = f .0 }
 
 -- "the lowest": a slot that may be erased, and none below it may

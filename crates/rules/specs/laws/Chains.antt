@@ -33,6 +33,7 @@ use Rattle.rules.specs.Erase.{eraseAnswer}
 use Rattle.rules.specs.Suggest.{suggestible, suggestAnswer}
 use Rattle.rules.specs.Read.{readAnswerIn}
 use Rattle.rules.specs.SimpleCalls.{simpleWriteAnswer, simpleEraseAnswer}
+use Rattle.rules.specs.Permission.{scene}
 use Rattle.rules.specs.laws.Families.{wouldBuryIn, writeAnswerIn, mayEraseAllIn, eraseAnswerIn}
 
 -- ---- the shared parts
@@ -232,7 +233,7 @@ write-chain layout widths sizes v page slot bytes = by layout ∙ ap (firstOf (j
 unfoldable pub eraseOwn : Layout → Sizes → Volume → (slots : List ℕ) → ℕ
 eraseOwn layout sizes v slots =
     not (listOk (sizes .slots) slots) ⇒ 6 otherwise
-    not (mayEraseAllIn layout (sizes .slots) (slotIn layout (v .flash .words)) (stateAt (v .state)) (twins (sizes .width) (v .flash)) slots) ⇒ 12 otherwise
+    not (mayEraseAllIn layout (scene (sizes .slots) (slotIn layout (v .flash .words)) (stateAt (v .state)) (twins (sizes .width) (v .flash))) slots) ⇒ 12 otherwise
     0
 
 pub erase-chain : (layout : Layout) (widths : Widths) (sizes : Sizes) (v : Volume) (slots : List ℕ) → eraseAnswerIn layout widths sizes v slots ≡ firstOf (judgedIn layout (volumeFitsIn layout widths sizes v) (sizes .pages) (sizes .slots) (v .flash .words) (v .state)) (eraseOwn layout sizes v slots)

@@ -15,7 +15,7 @@ use Rattle.follow.specs.declared.Verdict.{Verdict}
 use Rattle.rules.specs.Volume.{Volume}
 use Rattle.rules.specs.Verdict.{linkVerdict, verdict}
 use Rattle.rules.specs.Write.{planOf, writeAnswer, writeChange, writeOutcome}
-use Rattle.rules.specs.Permission.{mayEraseAll}
+use Rattle.rules.specs.Permission.{Scene, mayEraseAll}
 use Rattle.rules.specs.Erase.{eraseAnswer, eraseOutcome}
 use Rattle.rules.specs.Recover.{recovered}
 use Rattle.rules.specs.Simple.{simpleLinkVerdict, simpleVerdict, simpleRecovered, simpleMayEraseAll, wouldBury}
@@ -47,9 +47,9 @@ writeOutcomeIn FourWords widths sizes v page slot bytes = simpleWriteOutcome wid
 -- ---- erase
 
 -- a record without a back pointer has no twin
-abbrev pub mayEraseAllIn : Layout → ℕ → (ℕ → Slot) → (ℕ → PageState) → (twin : ℕ → ℕ → Bool) → List ℕ → Bool
-mayEraseAllIn FiveWords S t st twin slots = mayEraseAll S t st twin slots
-mayEraseAllIn FourWords S t st twin slots = simpleMayEraseAll t st slots
+abbrev pub mayEraseAllIn : Layout → Scene → List ℕ → Bool
+mayEraseAllIn FiveWords s slots = mayEraseAll s slots
+mayEraseAllIn FourWords s slots = simpleMayEraseAll (s .table) (s .state) slots
 
 abbrev pub eraseAnswerIn : Layout → Widths → Sizes → Volume → (slots : List ℕ) → ℕ
 eraseAnswerIn FiveWords widths sizes v slots = eraseAnswer widths sizes v slots

@@ -1,24 +1,22 @@
 -- Document 02, wish 2: "what is found is every exposed record and no other, and … judging by it is the rule's permission for any list".
 use Prim.Native.Nat.{ℕ, _<_}
 use native.Mathlib.Omega.{arith}
-use mathlib.Core.Path.{_≡_, refl, sym, ap, _∙_, fun-ext}
+use mathlib.Core.Path.{_≡_, refl, ap, _∙_, fun-ext}
 use mathlib.Core.Logic.{_↔_}
 use mathlib.Core.List.{List}
-use mathlib.Core.Bool.{Bool, true, false, not, _&&_, _||_}
+use mathlib.Core.Bool.{Bool, true, _&&_}
 use lib.ListN.{length, getD}
-use borrow.Author.Tests.{ltb-true, le-ltb, lt-ltb}
-use Rattle.bounded.specs.Choice.{on-test, or-false}
-use Rattle.bounded.specs.BelowLaws.{all-cong, some-cong}
+use borrow.Author.Tests.{ltb-true, lt-ltb}
+use Rattle.bounded.specs.BelowLaws.{some-cong}
 use Rattle.bounded.specs.Passing.{list-exactly, list-entry, some-listed}
-use Rattle.sizes.specs.Sizes.{listed}
 use Rattle.record.specs.declared.Record.{Record}
 use Rattle.record.specs.declared.Slot.{Slot}
 use Rattle.record.specs.declared.Slot.the-variants.{Blank, Holds}
-use Rattle.record.specs.Slot.{holds, someRecord, straddles}
+use Rattle.record.specs.Slot.{holds, someRecord}
 use Rattle.record.specs.SlotLaws.{holds-exactly}
 use Rattle.state.specs.declared.PageState.{PageState}
-use Rattle.rules.specs.Permission.{isObsolete, isExposed, outdoneBy, supports, isNeeded, mayEraseRecord, mayErase, twinOutside, mayEraseFrom, mayEraseAll}
-use Rattle.rules.specs.Found.{exposedSlots, neededBy, mayEraseRecordBy, mayEraseBy, mayEraseFromBy, mayEraseAllBy}
+use Rattle.rules.specs.Permission.{isExposed, Scene, scene, mayEraseAll}
+use Rattle.rules.specs.Found.{exposedSlots, byFound}
 use Rattle.rules.specs.laws.Permission.{Exposed}
 
 -- a number is found exactly where it is a slot of the table that holds an exposed record
@@ -29,48 +27,24 @@ FoundExactly =
 
 -- judged by what is found, a list may be erased exactly where the rule permits it
 abbrev pub JudgedByFound : Type 0
-JudgedByFound = (S : ℕ) (t : ℕ → Slot) (st : ℕ → PageState) (twin : ℕ → ℕ → Bool) (slots : List ℕ) → mayEraseAllBy S t st (exposedSlots S t st) twin slots ≡ mayEraseAll S t st twin slots
+JudgedByFound = (S : ℕ) (t : ℕ → Slot) (st : ℕ → PageState) (twin : ℕ → ℕ → Bool) (slots : List ℕ) → mayEraseAll (byFound (scene S t st twin) (exposedSlots S t st)) slots ≡ mayEraseAll (scene S t st twin) slots
 
 module _ (S : ℕ) (t : ℕ → Slot) (st : ℕ → PageState) where
-  -- ---- what is found
-
-  -- each is a slot of the table
+  -- each slot that is found is one of the table
   pub found-below : (i : ℕ) → i < length (exposedSlots S t st) → getD (exposedSlots S t st) i 0 < S
   unfolding exposedSlots
   found-below i h = let b = list-entry _ _ i h .0 in omega arith
 
-  -- ---- judging by it
-
-  needed-by-found : (K : Record) → neededBy S t (exposedSlots S t st) K ≡ isNeeded S t st K
-  unfolding neededBy exposedSlots isNeeded someRecord holds supports
-  needed-by-found K =
-      ap (λ (b : Bool). not (someRecord S t (outdoneBy K)) && b)
-      (some-listed (λ k. holds (isExposed st) (t k)) S (λ k. holds (straddles K) (t k))
-      ∙ some-cong S (λ k h. exposed-straddled (t k)))
+  -- looked for among those found, exposed records are what they are among all slots
+  pub found-scene : (twin : ℕ → ℕ → Bool) → byFound (scene S t st twin) (exposedSlots S t st) ≡ scene S t st twin
+  unfolding byFound exposedSlots someRecord holds
+  found-scene twin =
+      ap (λ (search : (Record → Bool) → Bool). record { slots = S; table = t; state = st; twin = twin; someExposed = search })
+      (fun-ext (λ f. some-listed (λ k. holds (isExposed st) (t k)) S (λ k. holds f (t k)) ∙ some-cong S (λ k h. exposed-passing f (t k))))
     where
-      exposed-straddled : (s : Slot) → (holds (isExposed st) s && holds (straddles K) s) ≡ holds (supports st K) s
-      exposed-straddled Blank = refl
-      exposed-straddled (Holds r) = refl
-
-  pub obsolete-unexposed : (r : Record) → isObsolete st r ≡ true → isExposed st r ≡ false
-  unfolding isObsolete isExposed
-  obsolete-unexposed r e = let h = ltb-true (r .v) (st (r .p) .committed) e in le-ltb (st (r .p) .committed) (r .v) (omega arith)
-
-  record-by-found : (r : Record) → mayEraseRecordBy S t st (exposedSlots S t st) r ≡ mayEraseRecord S t st r
-  unfolding mayEraseRecordBy mayEraseRecord
-  record-by-found r =
-      on-test (isObsolete st r)
-      (λ e. rw (e, needed-by-found r, obsolete-unexposed r e) (sym (or-false (not (isNeeded S t st r)))))
-      (λ e. rw e)
-
-  pub judged-by-found : (k : ℕ) → mayEraseBy S t st (exposedSlots S t st) k ≡ mayErase S t st k
-  unfolding mayEraseBy mayErase
-  judged-by-found k = ap (λ (f : Record → Bool). holds f (t k)) (fun-ext record-by-found)
-
-  -- … with twins, whatever the list
-  pub judged-from-found : (twin : ℕ → ℕ → Bool) (inList : ℕ → Bool) (k : ℕ) → mayEraseFromBy S t st (exposedSlots S t st) twin inList k ≡ mayEraseFrom S t st twin inList k
-  unfolding mayEraseFromBy mayEraseFrom
-  judged-from-found twin inList k = ap (λ (b : Bool). twinOutside S twin inList k || b) (judged-by-found k)
+      exposed-passing : (f : Record → Bool) (s : Slot) → (holds (isExposed st) s && holds f s) ≡ holds (λ r. isExposed st r && f r) s
+      exposed-passing f Blank = refl
+      exposed-passing f (Holds r) = refl
 
 pub found-exactly : FoundExactly
 unfolding exposedSlots isExposed
@@ -83,5 +57,4 @@ found-exactly S t st k = (
     found = list-exactly (λ j. holds (isExposed st) (t j)) S k
 
 pub list-judged-by-found : JudgedByFound
-unfolding mayEraseAllBy mayEraseAll
-list-judged-by-found S t st twin slots = all-cong (length slots) (λ i h. judged-from-found S t st twin (listed slots) (getD slots i 0))
+list-judged-by-found S t st twin slots = ap (λ (s : Scene). mayEraseAll s slots) (found-scene S t st twin)

@@ -23,11 +23,12 @@ use Rattle.record.specs.SlotLaws.{sound-facts, Straddles, straddles-exactly, so
 use Rattle.state.specs.State.{stateWords}
 use Rattle.table.specs.Table.{tableSound, clash, someClash, highest, highestVersionOf}
 use Rattle.table.specs.TableLaws.{highest-is, highest-held, sound-at, clash-exactly}
+use Rattle.follow.specs.declared.Verdict.{Verdict}
 use Rattle.follow.specs.declared.Verdict.the-variants as says
 use Rattle.follow.specs.declared.End.{End}
 use Rattle.follow.specs.declared.End.the-variants as ends
 use Rattle.follow.specs.Astray.{RunsIntoRing, astray-exactly}
-use Rattle.follow.specs.Follow.{isAstray}
+use Rattle.follow.specs.Follow.{follow, isAstray, StaysInside}
 use Rattle.twins.specs.Twins.{twins, someConflict}
 use Rattle.rules.specs.Volume.{Volume, volume, volumeFitsIn}
 use Rattle.rules.specs.Verdict.{isStraddled, linkVerdict, slotVerdict, verdict}
@@ -77,18 +78,25 @@ isAstray-exactly ends.Committed = (λ h. absurd (never refl (sym h)), λ h. let 
 isAstray-exactly ends.Uncommitted = (λ h. absurd (never refl (sym h)), λ h. let z : _≡_ {A = ℕ} 0 1 = cc in absurd (omega arith))
 isAstray-exactly ends.Astray = (λ h. refl, λ h. refl)
 
--- "the links run into a ring that lacks the start", for the links of some page's highest record: exactly the condition of answer 4
+-- "the links run into a ring that lacks the start", for the links of some page, by whatever verdicts
+pub astray-some :
+    (P : ℕ) (v : ℕ → Verdict)
+    → StaysInside P v
+    → (someBelow P (λ p. isAstray (follow P v p .end)) ≡ true) ↔ ((p : ℕ) × (p < P) × RunsIntoRing v p)
+astray-some P v inside = (
+  λ e. let w = some-at (λ p. isAstray (follow P v p .end)) P e in
+      (w .0, w .1, astray-exactly v (w .0) P (w .1) inside .0 (isAstray-exactly (follow P v (w .0) .end) .0 (w .2))),
+  λ w. some-of (λ p. isAstray (follow P v p .end)) P (w .0) (w .1)
+      (isAstray-exactly (follow P v (w .0) .end) .1 (astray-exactly v (w .0) P (w .1) inside .1 (w .2))),
+)
+
+-- of each page's highest record: exactly the condition of answer 4
 pub astray-means :
     (P S : ℕ) (t : ℕ → Slot)
     → tableSound P S t ≡ true
     → (someBelow P (λ p. isAstray (walkOf P S t p .end)) ≡ true) ↔ ((p : ℕ) × (p < P) × RunsIntoRing (verdict S t) p)
 unfolding walkOf
-astray-means P S t sound = (
-  λ e. let w = some-at (λ p. isAstray (walkOf P S t p .end)) P e in
-      (w .0, w .1, astray-exactly (verdict S t) (w .0) P (w .1) (verdict-inside S t P sound) .0 (isAstray-exactly (walkOf P S t (w .0) .end) .0 (w .2))),
-  λ w. some-of (λ p. isAstray (walkOf P S t p .end)) P (w .0) (w .1)
-      (isAstray-exactly (walkOf P S t (w .0) .end) .1 (astray-exactly (verdict S t) (w .0) P (w .1) (verdict-inside S t P sound) .1 (w .2))),
-)
+astray-means P S t sound = astray-some P (verdict S t) (verdict-inside S t P sound)
 
 -- ---- twins
 

@@ -24,7 +24,7 @@ shared-slice-read-if1 c =
 returns : tie.Need-returns
 returns c e =
     let a = c .before .before .before .before .args in
-    other-page (a .layout) (a .words .now) (a .slot) (a .page) (a .version) (rw (c .before .before .stride .ensures) at (c .if1 .taken))
+    other-page (a .layout) (a .words .now) (a .slot) (a .page) (a .version) (c .before .before .before .before .pre) (rw (c .before .before .stride .ensures) at (c .if1 .taken))
 
 add-if2 : tie.Need-add-if2
 add-if2 c = rw (c .before .before .stride .ensures) (let p = c .before .before .before .before .pre in omega arith)
@@ -42,7 +42,7 @@ shared-slice-read-if2 c =
 returns-2 : tie.Need-returns-2
 returns-2 c e =
     let a = c .before .before .before .before .before .before .args in
-    other-version (a .layout) (a .words .now) (a .slot) (a .page) (a .version) (rw (c .before .before .before .before .stride .ensures) at (c .if2 .taken))
+    other-version (a .layout) (a .words .now) (a .slot) (a .page) (a .version) (c .before .before .before .before .before .before .pre) (rw (c .before .before .before .before .stride .ensures) at (c .if2 .taken))
 
 returns-3 : tie.Need-returns-3
 returns-3 c e = absurd (false≢true (sym e))

@@ -32,10 +32,10 @@ unfoldable pub cleanedInto : Volume → Block → List ℕ
 cleanedInto v b = let f = cleanedFlash v b in f .words ++ f .contents
 
 -- the slots that steps store or blank, in their order
-unfoldable pub slotsOf : List Step → List ℕ
-slotsOf [] = []
-slotsOf (Step.Store k r bytes ∷ steps) = k ∷ slotsOf steps
-slotsOf (Step.Blank k ∷ steps) = k ∷ slotsOf steps
+unfoldable pub stepSlots : List Step → List ℕ
+stepSlots [] = []
+stepSlots (Step.Store k r bytes ∷ steps) = k ∷ stepSlots steps
+stepSlots (Step.Blank k ∷ steps) = k ∷ stepSlots steps
 
 -- Two twins in slots 2 and 3, of a committed version; page 0's first record, obsolete, in 0, and page 1's in 1
 unfoldable pub pair : Volume
@@ -93,7 +93,7 @@ cleanRows =
     ∷ row 1 (cleanedInto pair (slotsFrom 2 4)) (tableOf 8 (formattedRecords 2 ++ blankRecord ∷ blankRecord ∷ given 0 1 0 0 1 ∷ []) ++ (5 ∷ 6 ∷ 255 ∷ 255 ∷ 7 ∷ replicate 3 255))
     ∷ row 1 (cleanFrom sizes8 pair (slotsFrom 0 2)) (1 ∷ [])
     -- the steps in their order: slot 3 is stored, then slots 0 and 1 are blanked; the copy is a stage by itself, the blankings are one
-    ∷ row 1 (slotsOf (cleanSteps sizes8 twin0 (slotsFrom 0 2))) (3 ∷ 0 ∷ 1 ∷ [])
+    ∷ row 1 (stepSlots (cleanSteps sizes8 twin0 (slotsFrom 0 2))) (3 ∷ 0 ∷ 1 ∷ [])
     ∷ row 1 (map length (cleanStages sizes8 twin0 (slotsFrom 0 2)) ++ map length (cleanStages sizes8 pair (slotsFrom 1 3))) (1 ∷ 2 ∷ 1 ∷ 2 ∷ [])
     -- rising, to the lowest
     ∷ row 1 (cleanedInto pair (slotsFrom 1 3)) (tableOf 8 (given 0 0 0 0 0 ∷ blankRecord ∷ blankRecord ∷ given 0 1 0 0 1 ∷ given 1 0 0 1 0 ∷ []) ++ (5 ∷ 255 ∷ 255 ∷ 7 ∷ 6 ∷ replicate 3 255))
@@ -107,7 +107,7 @@ cleanRows =
     ∷ []
 
 pub clean-rows : RowsHold cleanRows
-unfolding cleanRows slotsFrom slotsOf cleanedFlash cleanedInto withThird twin0 pair straddled volume8 fresh byteWide oneFree noneFree refused cleanOn allObsolete computing
+unfolding cleanRows slotsFrom stepSlots cleanedFlash cleanedInto withThird twin0 pair straddled volume8 fresh byteWide oneFree noneFree refused cleanOn allObsolete computing
 clean-rows = refl
 
 -- The answers of clean of a block of all slots, whose one record that must stay has no blank slot outside: at either width on a volume of it 15, at another, and on a volume of the other, 1.

@@ -14,12 +14,12 @@ use Rattle.rules.specs.Suggest.{suggestOutcome}
 use Rattle.upkeep.specs.Sweep.{sweepStages, sweepOutcome}
 use Rattle.upkeep.specs.cases.Computing.{computing}
 use Rattle.rules.specs.cases.Twins.{byteWide, sizes8, volume8, fresh, withThird}
-use Rattle.upkeep.specs.cases.Clean.{pair, straddled, slotsOf}
+use Rattle.upkeep.specs.cases.Clean.{pair, straddled, stepSlots}
 use Rattle.upkeep.specs.cases.Blocks.{slotUnsound, stateUnsound}
 
 -- the slots of each erasure, with their number in front
 unfoldable pub sweepLists : Volume → List ℕ
-sweepLists v = flatten (map (λ s. length s ∷ slotsOf s) (sweepStages sizes8 v))
+sweepLists v = flatten (map (λ s. length s ∷ stepSlots s) (sweepStages sizes8 v))
 
 unfoldable pub sweepOn : Volume → List ℕ
 sweepOn v = let o = sweepOutcome byteWide sizes8 v in o .answer ∷ o .second ∷ o .left .words ++ o .left .contents
@@ -66,5 +66,5 @@ sweepRows =
     ∷ []
 
 pub sweep-rows : RowsHold sweepRows
-unfolding sweepRows sweepLists sweepOn suggestAfter flying stillNeeded slotsOf byteWide volume8 fresh withThird pair straddled slotUnsound stateUnsound computing
+unfolding sweepRows sweepLists sweepOn suggestAfter flying stillNeeded stepSlots byteWide volume8 fresh withThird pair straddled slotUnsound stateUnsound computing
 sweep-rows = refl

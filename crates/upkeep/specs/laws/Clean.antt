@@ -31,7 +31,7 @@ use Rattle.table.specs.TableLaws.{sound-at, blank-holds}
 use Rattle.twins.specs.Twins.{twins}
 use Rattle.twins.specs.TwinsLaws.{twins-exactly, twins-hold, twins-self, twins-trans}
 use Rattle.rules.specs.Volume.{Volume, volumeFits}
-use Rattle.rules.specs.Permission.{mayErase, mayEraseFrom}
+use Rattle.rules.specs.Permission.{Scene, sceneOf, mayErase, mayEraseFrom}
 use Rattle.rules.specs.Erase.{eraseSteps}
 use Rattle.upkeep.specs.Clean.{isCopied, copiedSlots, blankOutside, copySteps, cleanFrom, cleanTo, tooFewBlank, cleanCopies, cleanBlanks, cleanSteps, cleanAnswer, cleanOutcome}
 use Rattle.upkeep.specs.Cleaned.{HoldsAt, Leaves, Cleaned, CleanedAgain, CleanAccepted}
@@ -51,9 +51,9 @@ unfolding tableSound slotSound
 sound-slots P S t each = all-of (λ k. slotSound P (t k)) S (λ k h. holds-or-blank {C = slotSound P (t k) ≡ true} (t k) (λ e. rw e) (λ r e. rw e (each k r h e)))
 
 -- a slot's own permission is its record's
-same-permission : (S : ℕ) (t : ℕ → Slot) (st : ℕ → PageState) (j k : ℕ) → t j ≡ t k → mayErase S t st j ≡ mayErase S t st k
+same-permission : (s : Scene) (j k : ℕ) → s .table j ≡ s .table k → mayErase s j ≡ mayErase s k
 unfolding mayErase
-same-permission S t st j k e = rw (mayErase, e)
+same-permission s j k e = rw (mayErase, e)
 
 module _ (sizes : Sizes) (v : Volume) (block : Block) (size : SizedIn FiveWords (sizes .width) (sizes .slots) (v .flash)) (sound : tableSound (sizes .pages) (sizes .slots) (slotAt (v .flash .words)) ≡ true) where
   abbrev pub slots : ℕ → Slot
@@ -66,7 +66,7 @@ module _ (sizes : Sizes) (v : Volume) (block : Block) (size : SizedIn FiveWords 
   inside = inBlock block
 
   abbrev pub may : ℕ → Bool
-  may = mayEraseFrom (sizes .slots) slots (stateAt (v .state)) twin inside
+  may = mayEraseFrom (sceneOf sizes v) inside
 
   abbrev pub from : List ℕ
   from = cleanFrom sizes v block
@@ -87,7 +87,7 @@ module _ (sizes : Sizes) (v : Volume) (block : Block) (size : SizedIn FiveWords 
   copied-facts : (k : ℕ) → List·Memᴰ k from → IsCopied k
   unfolding cleanFrom copiedSlots isCopied
   copied-facts k m =
-      let p = list-members (isCopied (sizes .slots) slots (stateAt (v .state)) twin inside) (sizes .slots) k .0 m in
+      let p = list-members (isCopied (sceneOf sizes v) inside) (sizes .slots) k .0 m in
       let a = both-right (inside k) _ (p .1) in
       let b = both-right (not (isBlank (slots k))) _ a in
       record {
@@ -101,7 +101,7 @@ module _ (sizes : Sizes) (v : Volume) (block : Block) (size : SizedIn FiveWords 
   copied-of : (k : ℕ) → IsCopied k → List·Memᴰ k from
   unfolding cleanFrom copiedSlots isCopied
   copied-of k c =
-      list-members (isCopied (sizes .slots) slots (stateAt (v .state)) twin inside) (sizes .slots) k .1
+      list-members (isCopied (sceneOf sizes v) inside) (sizes .slots) k .1
       (c .below, both (c .within) (both (not-no (c .full)) (both (not-no (c .barred)) (not-no (c .lowest)))))
 
   pub copied-inside : (k : ℕ) → List·Memᴰ k from → inside k ≡ true
@@ -111,10 +111,10 @@ module _ (sizes : Sizes) (v : Volume) (block : Block) (size : SizedIn FiveWords 
   twin-may : (j k : ℕ) → twin j k ≡ true → may j ≡ true → may k ≡ true
   twin-may j k e h =
       ⊎-elim
-      (λ w. may-erase-from (sizes .slots) slots (stateAt (v .state)) twin inside k .1 (inl (w .0, w .1, twins-trans (sizes .width) (v .flash) (w .0) j k (w .2) e, w .3)))
+      (λ w. may-erase-from (sceneOf sizes v) inside k .1 (inl (w .0, w .1, twins-trans (sizes .width) (v .flash) (w .0) j k (w .2) e, w .3)))
       (λ o. let t = twins-hold (sizes .width) (v .flash) j k e in
-      may-erase-from (sizes .slots) slots (stateAt (v .state)) twin inside k .1 (inr (sym (same-permission (sizes .slots) slots (stateAt (v .state)) j k (t .1 ∙ sym (t .2))) ∙ o)))
-      (may-erase-from (sizes .slots) slots (stateAt (v .state)) twin inside j .0 h)
+      may-erase-from (sceneOf sizes v) inside k .1 (inr (sym (same-permission (sceneOf sizes v) j k (t .1 ∙ sym (t .2))) ∙ o)))
+      (may-erase-from (sceneOf sizes v) inside j .0 h)
 
   -- "copied once (of twins within the block only the lowest)": a record of the block that may not be erased has a twin that is copied, perhaps itself
   pub twin-copied : (k : ℕ) (r : Record) → k < sizes .slots → inside k ≡ true → slots k ≡ Holds r → may k ≡ false → (j : ℕ) × List·Memᴰ j from × (twin j k ≡ true)
@@ -215,13 +215,13 @@ module _ (sizes : Sizes) (v : Volume) (block : Block) (size : SizedIn FiveWords 
   twin-stands j k r hj hk e t = let w = twins-exactly (sizes .width) (v .flash) j k (whole j hj) (whole k hk) .0 t in (w .1 ∙ sym (w .2) ∙ e, w .3)
 
   module _ (room : length from ≤ length to) where
-    pub outside-or-erasable : (k : ℕ) (r : Record) → k < sizes .slots → inside k ≡ true → slots k ≡ Holds r → Outside k r ⊎ (mayErase (sizes .slots) slots (stateAt (v .state)) k ≡ true)
+    pub outside-or-erasable : (k : ℕ) (r : Record) → k < sizes .slots → inside k ≡ true → slots k ≡ Holds r → Outside k r ⊎ (mayErase (sceneOf sizes v) k ≡ true)
     outside-or-erasable k r h i e =
         on-test (may k)
         (λ y. ⊎-elim
         (λ w. let t = twin-stands (w .0) k r (w .1) h e (w .2) in let s = copies-stay (w .0) r (t .0) in inl (w .0, w .1, w .3, (s .same-slot ∙ t .0, s .same-bytes ∙ t .1)))
         (λ o. inr o)
-        (may-erase-from (sizes .slots) slots (stateAt (v .state)) twin inside k .0 y))
+        (may-erase-from (sceneOf sizes v) inside k .0 y))
         (λ n. let c = twin-copied k r h i e n in
         let t = twin-stands (c .0) k r (copied-facts (c .0) (c .1) .below) h e (c .2) in
         let w = copied-there (sizes .width) (sizes .slots) (v .flash) size (v .flash) 0 from to ready room (c .0) (c .1) in
@@ -292,7 +292,7 @@ room-enough sizes v block h =
     let all = count-split blank (inBlock block) (sizes .slots) in
     let of = count-split (inBlock block) blank (sizes .slots) in
     let same = count-most (λ k. blank k && inBlock block k) (λ k. inBlock block k && blank k) (sizes .slots) (λ k l e. both (both-right (blank k) (inBlock block k) e) (both-left (blank k) (inBlock block k) e)) in
-    let less = count-most (isCopied (sizes .slots) (slotAt (v .flash .words)) (stateAt (v .state)) (twins (sizes .width) (v .flash)) (inBlock block)) (λ k. inBlock block k && not (blank k)) (sizes .slots)
+    let less = count-most (isCopied (sceneOf sizes v) (inBlock block)) (λ k. inBlock block k && not (blank k)) (sizes .slots)
     (λ k l e. both (both-left (inBlock block k) _ e) (both-left (not (blank k)) _ (both-right (inBlock block k) _ e))) in
     le-ltb (length (cleanTo sizes v block)) (length (cleanFrom sizes v block)) (omega arith)
 

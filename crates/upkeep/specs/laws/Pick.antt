@@ -22,7 +22,7 @@ use Rattle.sizes.specs.Blocks.{NamedBlock, named, blockOk, blockAt, inBlock}
 use Rattle.sizes.specs.BlocksLaws.{block-facts}
 use Rattle.rules.specs.Volume.{Volume}
 use Rattle.rules.specs.Suggest.{suggestible}
-use Rattle.upkeep.specs.Pick.{seenAt, lookedAt, isSeen, blockSize, frees, mostFreed, pickedBlock, largestUnseen, unseenLead, pickedWords, pickAnswer, pickOutcome}
+use Rattle.upkeep.specs.Pick.{seenAt, lookedAt, isSeen, blockSize, frees, mostFreed, pickedBlock, largestUnseen, unseenLead, pickOf, fourWords, pickAnswer, pickOutcome}
 use Rattle.upkeep.specs.Picked.{GoesRound, GoingRound, Picks, Picked, LargerFindsNoLess}
 use Rattle.rules.specs.laws.Chains.{blockJudged, block-judged-passed}
 use Rattle.upkeep.specs.laws.Tests.{pickOwn, pick-chain, pick-length}
@@ -204,11 +204,11 @@ module _ (sizes : Sizes) (v : Volume) where
     no-lead : length (block .starts) ≤ n → unseenLead sizes v block n ≡ 0
     no-lead l = ⊎-elim (λ e. e) (λ w. absurd (let a = w .1 in let b = w .2 in omega arith)) lead-met
 
-    picks : ¬ (n ≡ 0) → Picks sizes v block looked (pickedBlock sizes v block n .number) (mostFreed sizes v block n) (unseenLead sizes v block n)
-    unfolding lookedAt mostFreed pickedBlock
+    picks : ¬ (n ≡ 0) → Picks sizes v block (pickOf sizes v block n)
+    unfolding pickOf lookedAt mostFreed pickedBlock
     picks d = by looked refl
       where
-        by : (m : ℕ) → m ≡ looked → Picks sizes v block looked (pickedBlock sizes v block n .number) (mostFreed sizes v block n) (unseenLead sizes v block n)
+        by : (m : ℕ) → m ≡ looked → Picks sizes v block (pickOf sizes v block n)
         by zero e = absurd (d (omega arith))
         by (suc m) e =
             let f : ℕ → ℕ = λ i. frees sizes v (seenAt block i) in
@@ -249,24 +249,26 @@ module _ (widths : Widths) (sizes : Sizes) (v : Volume) (block : NamedBlock) (n 
   unfolding pickOwn
   pick-passes f j d = pick-chain widths sizes v block n out f ∙ sym (first-passes 0 0 (sym j) refl (sym (ap (λ (b : Bool). b ⇒ 18 otherwise 0) (ne-eqb n 0 d))))
 
-  pub pick-done : pickAnswer widths sizes v block n out ≡ 0 → pickOutcome widths sizes v block n out ≡ record { answer = 0; second = 0; left = pickedWords sizes v block n }
+  pub pick-done : pickAnswer widths sizes v block n out ≡ 0 → pickOutcome widths sizes v block n out ≡ record { answer = 0; second = 0; left = fourWords (pickOf sizes v block n) }
   unfolding pickOutcome
   pick-done e = settled-done _ _ _ _ _ e
 
 pub picked : Picked
-unfolding pickedWords lookedAt
+unfolding pickOf lookedAt
 picked widths sizes v block n out e =
     let t = pick-tests widths sizes v block n out e in
-    (pickedBlock sizes v block n .number, mostFreed sizes v block n, unseenLead sizes v block n, pick-done widths sizes v block n out e, picks sizes v block (t .there) n (t .some), no-lead sizes v block (t .there) n)
+    (pickOf sizes v block n, pick-done widths sizes v block n out e, picks sizes v block (t .there) n (t .some), refl, no-lead sizes v block (t .there) n)
 
 pub larger-finds-no-less : LargerFindsNoLess
-unfolding pickedWords mostFreed lookedAt
+unfolding pickOf mostFreed lookedAt
 larger-finds-no-less widths sizes v block n m out again l four e =
     let t = pick-tests widths sizes v block n out e in
     let d : ¬ (m ≡ 0) = λ z. t .some (omega arith) in
     let accepted = pick-passes widths sizes v block m again four (t .none-refused) d in
     let f : ℕ → ℕ = λ i. frees sizes v (seenAt block i) in (
-      accepted,
-      rw (pick-done widths sizes v block n out e, pick-done widths sizes v block m again accepted)
-          (max-bound f (min n (length (block .starts))) (maxBelow (min m (length (block .starts))) f) (λ i h. max-above f (min m (length (block .starts))) i (omega arith))),
+      pickOf sizes v block n,
+      pickOf sizes v block m,
+      pick-done widths sizes v block n out e,
+      pick-done widths sizes v block m again accepted,
+      max-bound f (min n (length (block .starts))) (maxBelow (min m (length (block .starts))) f) (λ i h. max-above f (min m (length (block .starts))) i (omega arith)),
     )

@@ -32,7 +32,7 @@ use Rattle.table.specs.TableLaws.{blank-holds, holds-of, sound-at}
 use Rattle.twins.specs.Twins.{twins}
 use Rattle.twins.specs.TwinsLaws.{twins-exactly, twins-hold, twins-sym, twins-trans}
 use Rattle.rules.specs.Volume.{Volume, volumeFits}
-use Rattle.rules.specs.Permission.{isObsolete, isExposed, isCurrent, isNeeded, mayEraseRecord, mayErase, mayEraseFrom, mayEraseAll, mayEraseAlone}
+use Rattle.rules.specs.Permission.{isObsolete, isExposed, isCurrent, isNeeded, mayEraseRecord, mayErase, mayEraseFrom, mayEraseAll, mayEraseAlone, scene, sceneOf}
 use Rattle.rules.specs.Erase.{eraseSteps, eraseAnswer}
 use Rattle.rules.specs.Suggest.{suggestible, suggestAnswer}
 use Rattle.upkeep.specs.Sweep.{isSpareExposed, isObsoleteAt, isErasableObsolete, isHigherTwin, sweptExposed, withoutExposed, sweptObsolete, withoutObsolete, sweptTwins, sweepStages, sweepSteps, sweepAnswer, sweepOutcome}
@@ -76,7 +76,7 @@ module _ (w S : ℕ) (f : Flash) (size : SizedIn FiveWords w S f) (q : ℕ → B
 module _ (widths : Widths) (sizes : Sizes) (v : Volume) (fits : Fits widths sizes v)
     (table : tableSound (sizes .pages) (sizes .slots) (slotAt (v .flash .words)) ≡ true) (sound : stateSound (sizes .pages) (stateAt (v .state)) ≡ true) (q : ℕ → Bool) where
   passing-erasable :
-      ((k : ℕ) → k < sizes .slots → q k ≡ true → mayEraseFrom (sizes .slots) (slotAt (v .flash .words)) (stateAt (v .state)) (twins (sizes .width) (v .flash)) (listed (listBelow (sizes .slots) q)) k ≡ true)
+      ((k : ℕ) → k < sizes .slots → q k ≡ true → mayEraseFrom (sceneOf sizes v) (listed (listBelow (sizes .slots) q)) k ≡ true)
       → NoneOrErasable widths sizes v (v .flash) (listBelow (sizes .slots) q)
   unfolding eraseAnswer
   passing-erasable may = by (listBelow (sizes .slots) q) refl
@@ -86,8 +86,8 @@ module _ (widths : Widths) (sizes : Sizes) (v : Volume) (fits : Fits widths size
       by (x ∷ l) e =
           let ok : listOk (sizes .slots) (listBelow (sizes .slots) q) ≡ true =
           list-test (sizes .slots) (listBelow (sizes .slots) q) (passing-listed (sizes .slots) q (λ none. let z : _≡_ {A = ℕ} 0 1 = ap (λ (l : List ℕ). some-length l) (sym none ∙ e) in omega arith)) in
-          let all : mayEraseAll (sizes .slots) (slotAt (v .flash .words)) (stateAt (v .state)) (twins (sizes .width) (v .flash)) (listBelow (sizes .slots) q) ≡ true =
-          may-erase-all (sizes .slots) (slotAt (v .flash .words)) (stateAt (v .state)) (twins (sizes .width) (v .flash)) (listBelow (sizes .slots) q) .1
+          let all : mayEraseAll (sceneOf sizes v) (listBelow (sizes .slots) q) ≡ true =
+          may-erase-all (sceneOf sizes v) (listBelow (sizes .slots) q) .1
           (λ i h. let m = list-members q (sizes .slots) (getD (listBelow (sizes .slots) q) i 0) .0 (entry-member (listBelow (sizes .slots) q) i (getD (listBelow (sizes .slots) q) i 0) h refl) in may _ (m .0) (m .1)) in
           inr (rw (eraseAnswer, fits-test widths sizes v fits, table, sound, ok, all))
         where
@@ -97,12 +97,12 @@ module _ (widths : Widths) (sizes : Sizes) (v : Volume) (fits : Fits widths size
 
 -- ---- what each erasure takes may be erased
 
-module _ (S : ℕ) (t : ℕ → Slot) (st : ℕ → PageState) (k : ℕ) where
-  pub spare-may : isSpareExposed t st k ≡ true → mayErase S t st k ≡ true
+module _ (S : ℕ) (t : ℕ → Slot) (st : ℕ → PageState) (twin : ℕ → ℕ → Bool) (k : ℕ) where
+  pub spare-may : isSpareExposed t st k ≡ true → mayErase (scene S t st twin) k ≡ true
   unfolding isSpareExposed mayErase mayEraseRecord
   spare-may e =
       let h = holds-exactly (λ r. isExposed st r && not (isCurrent st r)) (t k) .0 e in
-      holds-exactly (mayEraseRecord S t st) (t k) .1 (h .0, h .1, either-right (isObsolete st (h .0) && not (isNeeded S t st (h .0))) (h .2))
+      holds-exactly (mayEraseRecord (scene S t st twin)) (t k) .1 (h .0, h .1, either-right (isObsolete st (h .0) && not (isNeeded (scene S t st twin) (h .0))) (h .2))
 
   module _ {r : Record} (e : t k ≡ Holds r) where
     pub spare-exposed : ExposedSpare st r → isSpareExposed t st k ≡ true
@@ -114,11 +114,11 @@ module _ (S : ℕ) (t : ℕ → Slot) (st : ℕ → PageState) (k : ℕ) where
     obsolete-at o = holds-of (isObsolete st) e o
 
     -- an obsolete record that may not be erased is needed
-    pub obsolete-needed : isObsolete st r ≡ true → mayErase S t st k ≡ false → Needed S t st r
+    pub obsolete-needed : isObsolete st r ≡ true → mayErase (scene S t st twin) k ≡ false → Needed S t st r
     obsolete-needed o n =
-        on-test (isNeeded S t st r)
-        (λ y. needed-exactly S t st r .0 y)
-        (λ z. absurd (never (may-erase-exactly S t st k .1 (r, e, inl (obsolete-exactly st r .0 o, λ x. never (needed-exactly S t st r .1 x) z))) n))
+        on-test (isNeeded (scene S t st twin) r)
+        (λ y. needed-exactly S t st twin r .0 y)
+        (λ z. absurd (never (may-erase-exactly S t st twin k .1 (r, e, inl (obsolete-exactly st r .0 o, λ x. never (needed-exactly S t st twin r .1 x) z))) n))
 
 module _ (w S : ℕ) (f : Flash) (st : ℕ → PageState) where
   twin-obsolete : (j k : ℕ) → isObsoleteAt (slotAt (f .words)) st k ≡ true → twins w f j k ≡ true → isObsoleteAt (slotAt (f .words)) st j ≡ true
@@ -126,20 +126,20 @@ module _ (w S : ℕ) (f : Flash) (st : ℕ → PageState) where
   twin-obsolete j k o e = let h = twins-hold w f j k e in subst (λ (s : Slot). holds (isObsolete st) s ≡ true) (h .2 ∙ sym (h .1)) o
 
   -- An obsolete record's twins are obsolete: with all of these listed, the old rule judges it.
-  pub erasable-obsolete : (k : ℕ) → isErasableObsolete S (slotAt (f .words)) st (twins w f) k ≡ (isObsoleteAt (slotAt (f .words)) st k && mayErase S (slotAt (f .words)) st k)
+  pub erasable-obsolete : (k : ℕ) → isErasableObsolete (scene S (slotAt (f .words)) st (twins w f)) k ≡ (isObsoleteAt (slotAt (f .words)) st k && mayErase (scene S (slotAt (f .words)) st (twins w f)) k)
   unfolding isErasableObsolete
   erasable-obsolete k =
       on-test (isObsoleteAt (slotAt (f .words)) st k)
-      (λ o. rw o (same-test (mayEraseFrom S (slotAt (f .words)) st (twins w f) (isObsoleteAt (slotAt (f .words)) st) k) (mayErase S (slotAt (f .words)) st k)
+      (λ o. rw o (same-test (mayEraseFrom (scene S (slotAt (f .words)) st (twins w f)) (isObsoleteAt (slotAt (f .words)) st) k) (mayErase (scene S (slotAt (f .words)) st (twins w f)) k)
       (λ e. ⊎-elim
       (λ x. absurd (never (twin-obsolete (x .0) k o (x .2)) (x .3)))
       (λ y. y)
-      (may-erase-from S (slotAt (f .words)) st (twins w f) (isObsoleteAt (slotAt (f .words)) st) k .0 e))
-      (λ e. may-erase-from S (slotAt (f .words)) st (twins w f) (isObsoleteAt (slotAt (f .words)) st) k .1 (inr e))))
+      (may-erase-from (scene S (slotAt (f .words)) st (twins w f)) (isObsoleteAt (slotAt (f .words)) st) k .0 e))
+      (λ e. may-erase-from (scene S (slotAt (f .words)) st (twins w f)) (isObsoleteAt (slotAt (f .words)) st) k .1 (inr e))))
       (λ n. rw n)
 
   -- An exposed record is not erased with these.
-  pub exposed-stays : (k : ℕ) {r : Record} → slotAt (f .words) k ≡ Holds r → Exposed st r → isErasableObsolete S (slotAt (f .words)) st (twins w f) k ≡ false
+  pub exposed-stays : (k : ℕ) {r : Record} → slotAt (f .words) k ≡ Holds r → Exposed st r → isErasableObsolete (scene S (slotAt (f .words)) st (twins w f)) k ≡ false
   unfolding isErasableObsolete isObsoleteAt
   exposed-stays k {r} e x =
       on-test (holds (isObsolete st) (slotAt (f .words) k))
@@ -204,7 +204,7 @@ module _ (widths : Widths) (sizes : Sizes) (v : Volume) (accepted : sweepAnswer 
   held1 = without-held w S (v .flash) size0 q1
 
   abbrev q2 : ℕ → Bool
-  q2 = isErasableObsolete S (slotAt (withoutExposed sizes v .words)) st (twins w (withoutExposed sizes v))
+  q2 = isErasableObsolete (scene S (slotAt (withoutExposed sizes v .words)) st (twins w (withoutExposed sizes v)))
 
   size2 : SizedIn FiveWords w S (withoutObsolete sizes v)
   unfolding withoutObsolete sweptObsolete
@@ -244,13 +244,13 @@ module _ (widths : Widths) (sizes : Sizes) (v : Volume) (accepted : sweepAnswer 
       × NoneOrErasable widths sizes v (withoutObsolete sizes v) (sweptTwins sizes v)
   unfolding sweptExposed sweptObsolete sweptTwins
   each-erasable = (
-    passing-erasable widths sizes v sweep-fits (tests .table) sweep-sound q1 (λ k h e. may-erase-from S _ st _ _ k .1 (inr (spare-may S (slotAt (v .flash .words)) st k e))),
+    passing-erasable widths sizes v sweep-fits (tests .table) sweep-sound q1 (λ k h e. may-erase-from (sceneOf sizes v) _ k .1 (inr (spare-may S (slotAt (v .flash .words)) st (twins w (v .flash)) k e))),
     passing-erasable widths sizes (at (withoutExposed sizes v)) fits1 sound1 sweep-sound q2
-        (λ k h e. may-erase-from S _ st _ _ k .1
-        (inr (both-right (isObsoleteAt (slotAt (withoutExposed sizes v .words)) st k) (mayErase S (slotAt (withoutExposed sizes v .words)) st k) (sym (erasable-obsolete w S (withoutExposed sizes v) st k) ∙ e)))),
+        (λ k h e. may-erase-from (sceneOf sizes (at (withoutExposed sizes v))) _ k .1
+        (inr (both-right (isObsoleteAt (slotAt (withoutExposed sizes v .words)) st k) (mayErase (sceneOf sizes (at (withoutExposed sizes v))) k) (sym (erasable-obsolete w S (withoutExposed sizes v) st k) ∙ e)))),
     passing-erasable widths sizes (at (withoutObsolete sizes v)) fits2 sound2 sweep-sound q3
         (λ k h e. let j = lowest-twin w S (withoutObsolete sizes v) st k e in
-        may-erase-from S _ st _ _ k .1 (inl (j .0, (let l = j .1 in omega arith), j .2, unlisted-fails S q3 (j .0) (j .3)))),
+        may-erase-from (sceneOf sizes (at (withoutObsolete sizes v))) _ k .1 (inl (j .0, (let l = j .1 in omega arith), j .2, unlisted-fails S q3 (j .0) (j .3)))),
   )
 
 pub sweep-erases : SweepErases
@@ -313,8 +313,8 @@ module _ (widths : Widths) (sizes : Sizes) (v : Volume) (accepted : sweepAnswer 
       (λ n. (k, h, same3 k n .same-slot ∙ e))
 
   -- the old rule permits none
-  none-permitted : (k : ℕ) → k < sizes .slots → mayErase (sizes .slots) (slotAt (left .words)) (stateAt (v .state)) k ≡ true → ⊥
-  none-permitted k h e = by (may-erase-exactly (sizes .slots) (slotAt (left .words)) (stateAt (v .state)) k .0 e)
+  none-permitted : (k : ℕ) → k < sizes .slots → mayErase (sceneOf sizes (record { flash = left; state = v .state })) k ≡ true → ⊥
+  none-permitted k h e = by (may-erase-exactly (sizes .slots) (slotAt (left .words)) (stateAt (v .state)) (twins (sizes .width) left) k .0 e)
     where
       by : (r : Record) × (slotAt (left .words) k ≡ Holds r) × Erasable (sizes .slots) (slotAt (left .words)) (stateAt (v .state)) r → ⊥
       by (r, f, inr spare) =
@@ -324,22 +324,22 @@ module _ (widths : Widths) (sizes : Sizes) (v : Volume) (accepted : sweepAnswer 
           never (spare-at (c .1) spare) (c .0)
         where
           spare-at : slotAt (v .flash .words) k ≡ Holds r → ExposedSpare (stateAt (v .state)) r → isSpareExposed (slotAt (v .flash .words)) (stateAt (v .state)) k ≡ true
-          spare-at e x = spare-exposed (sizes .slots) (slotAt (v .flash .words)) (stateAt (v .state)) k e x
+          spare-at e x = spare-exposed (sizes .slots) (slotAt (v .flash .words)) (stateAt (v .state)) (twins (sizes .width) (v .flash)) k e x
       by (r, f, inl (o, free)) =
           let a = held3 k r h f in
           let b = held2 widths sizes v accepted k r h (a .1) in
           let obsolete = obsolete-exactly (stateAt (v .state)) r .1 o in
-          let n = obsolete-needed (sizes .slots) (slotAt (withoutExposed sizes v .words)) (stateAt (v .state)) k (b .1) obsolete (unerasable k r (b .1) obsolete (b .0)) in
+          let n = obsolete-needed (sizes .slots) (slotAt (withoutExposed sizes v .words)) (stateAt (v .state)) (twins (sizes .width) (withoutExposed sizes v)) k (b .1) obsolete (unerasable k r (b .1) obsolete (b .0)) in
           free (record {
             furthest = λ j s l g. let a′ = held3 j s l g in n .furthest j s l (held2 widths sizes v accepted j s l (a′ .1) .1);
             supports = supported (n .supports);
           })
         where
           -- not erased among the obsolete ones it may not be
-          unerasable : (k : ℕ) (r : Record) → slotAt (withoutExposed sizes v .words) k ≡ Holds r → isObsolete (stateAt (v .state)) r ≡ true → q2 widths sizes v accepted k ≡ false → mayErase (sizes .slots) (slotAt (withoutExposed sizes v .words)) (stateAt (v .state)) k ≡ false
+          unerasable : (k : ℕ) (r : Record) → slotAt (withoutExposed sizes v .words) k ≡ Holds r → isObsolete (stateAt (v .state)) r ≡ true → q2 widths sizes v accepted k ≡ false → mayErase (sceneOf sizes (record { flash = withoutExposed sizes v; state = v .state })) k ≡ false
           unerasable k r e o n =
-              on-test (mayErase (sizes .slots) (slotAt (withoutExposed sizes v .words)) (stateAt (v .state)) k)
-              (λ y. absurd (never (erasable-obsolete (sizes .width) (sizes .slots) (withoutExposed sizes v) (stateAt (v .state)) k ∙ both (obsolete-at (sizes .slots) (slotAt (withoutExposed sizes v .words)) (stateAt (v .state)) k e o) y) n))
+              on-test (mayErase (sceneOf sizes (record { flash = withoutExposed sizes v; state = v .state })) k)
+              (λ y. absurd (never (erasable-obsolete (sizes .width) (sizes .slots) (withoutExposed sizes v) (stateAt (v .state)) k ∙ both (obsolete-at (sizes .slots) (slotAt (withoutExposed sizes v .words)) (stateAt (v .state)) (twins (sizes .width) (withoutExposed sizes v)) k e o) y) n))
               (λ z. z)
 
           supported :
@@ -354,7 +354,7 @@ module _ (widths : Widths) (sizes : Sizes) (v : Volume) (accepted : sweepAnswer 
   none-suggestible : (k : ℕ) → k < sizes .slots → suggestible sizes (record { flash = left; state = v .state }) k ≡ false
   unfolding suggestible mayEraseAlone listed someBelow
   none-suggestible k h =
-      on-test (mayEraseAlone (sizes .slots) (slotAt (left .words)) (stateAt (v .state)) (twins (sizes .width) left) k)
+      on-test (mayEraseAlone (sceneOf sizes (record { flash = left; state = v .state })) k)
       (λ y. ⊎-elim
       (λ x. on-lt (x .0) k
       (λ l. absurd (no-twins-left (x .0) k l h (x .2)))
@@ -362,7 +362,7 @@ module _ (widths : Widths) (sizes : Sizes) (v : Volume) (accepted : sweepAnswer 
       (λ g. absurd (no-twins-left k (x .0) g (x .1) (twins-sym (sizes .width) left k (x .0) ∙ x .2)))
       (λ g. absurd (let same : k ≡ x .0 = omega arith in never (eq-eqb k (x .0) same) (x .3)))))
       (λ o. absurd (none-permitted k h o))
-      (may-erase-from (sizes .slots) (slotAt (left .words)) (stateAt (v .state)) (twins (sizes .width) left) (listed (k ∷ [])) k .0 y))
+      (may-erase-from (sceneOf sizes (record { flash = left; state = v .state })) (listed (k ∷ [])) k .0 y))
       (λ n. n)
 
   is-left : sweepOutcome widths sizes v .left ≡ left

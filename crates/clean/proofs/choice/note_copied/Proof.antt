@@ -13,12 +13,13 @@ use Rattle.upkeep.specs.Clean.{isCopied}
 use Rattle.clean.specs.Choosing.{outside-stays}
 use Rattle.clean.proofs.choice.note_copied.Statement.{statement}
 use Rattle.clean.proofs.choice.note_copied.Tie as tie
+use Rattle.rules.specs.Permission.{scene}
 
 abbrev Inv-loop : tie.InvT-loop
 Inv-loop sizes words contents state chains found marks block from₀ count₀ k₀ from count k =
     (block .first ≤ k)
     × (k ≤ block .end)
-    × Noted (isCopied (sizes .slots) (slotAt words) (stateAt state) (twins (sizes .width) (flash words contents)) (inBlock block)) k from count
+    × Noted (isCopied (scene (sizes .slots) (slotAt words) (stateAt state) (twins (sizes .width) (flash words contents))) (inBlock block)) k from count
 
 abbrev μ-loop : tie.MeasureT-loop
 μ-loop sizes words contents state chains found marks block from₀ count₀ k₀ from count k = block .end - k

@@ -1,9 +1,11 @@
 use borrow.Author.Needs.{needs}
-use mathlib.Core.Path.{sym, _∙_}
-use Rattle.bounded.specs.Below.{allBelow}
+use Prim.Native.Nat.{ℕ}
+use mathlib.Core.Path.{sym, ap, _∙_}
+use mathlib.Core.List.{List}
 use Rattle.sizes.specs.declared.Layout.the-variants.{FiveWords}
+use Rattle.record.specs.declared.Slot.the-variants.{Holds}
 use Rattle.record.specs.Slot.{blankIn, encoded, decoded}
-use Rattle.record.specs.SlotLaws.{slot-blank, slot-holds}
+use Rattle.record.specs.SlotLaws.{slot-blank, slot-holds, five-words}
 use Rattle.record.proofs.Slot.decode.Statement.{statement}
 use Rattle.record.proofs.Slot.decode.Tie as tie
 
@@ -27,14 +29,17 @@ is-blank-requires c κs = search needs
 
 -- the words read are the slice's, so that the record's test is the slot's
 returns : tie.Need-returns
-unfolding blankIn allBelow encoded
 returns c =
-    sym (slot-blank FiveWords (c .before .before .before .before .before .before .before .before .args .words .now) (sym (c .before .is-blank .ensures) ∙ c .if1 .taken))
+    let b = c .before .before .before .before .before .before .before .before in
+    let e = five-words (b .args .words .now) (b .pre) in
+    sym (slot-blank FiveWords (b .args .words .now) (ap (blankIn FiveWords) e ∙ sym (c .before .is-blank .ensures) ∙ c .if1 .taken))
 
 returns-2 : tie.Need-returns-2
-unfolding blankIn allBelow encoded decoded
+unfolding decoded encoded
 returns-2 c =
-    sym (slot-holds FiveWords (c .before .before .before .before .before .before .before .before .args .words .now) (sym (c .before .is-blank .ensures) ∙ c .if1 .left))
+    let b = c .before .before .before .before .before .before .before .before in
+    let e = five-words (b .args .words .now) (b .pre) in
+    sym (slot-holds FiveWords (b .args .words .now) (ap (blankIn FiveWords) e ∙ sym (c .before .is-blank .ensures) ∙ c .if1 .left) ∙ ap (λ (ws : List ℕ). Holds (decoded FiveWords ws)) e)
 
 pub decode-spec : {M : Type 1} → statement M
 decode-spec =

@@ -2,8 +2,8 @@ use borrow.Author.Needs.{needs}
 use mathlib.Core.Path.{sym, ap, _∙_}
 use Rattle.sizes.specs.declared.Layout.the-variants.{FourWords}
 use Rattle.record.specs.declared.Slot.the-variants.{Holds}
-use Rattle.record.specs.Slot.{decoded, plannedRecord}
-use Rattle.record.specs.SlotLaws.{slot-blank, slot-holds, four-blank}
+use Rattle.record.specs.Slot.{plannedRecord}
+use Rattle.record.specs.SlotLaws.{slot-blank, slot-holds, four-blank, four-decoded}
 use Rattle.record.proofs.Slot.decode_four.Statement.{statement}
 use Rattle.record.proofs.Slot.decode_four.Tie as tie
 
@@ -25,17 +25,19 @@ is-blank-requires c κs = search needs
 -- the words read are the slice's, and the fifth is that of a blank slot, so that the record's test is the slot's
 returns : tie.Need-returns
 returns c =
-    let ws = c .before .before .before .before .before .before .before .args .words .now in
-    sym (slot-blank FourWords ws (sym (four-blank ws) ∙ sym (c .before .is-blank .ensures) ∙ c .if1 .taken))
+    let b = c .before .before .before .before .before .before .before in
+    let ws = b .args .words .now in
+    sym (slot-blank FourWords ws (sym (four-blank ws (b .pre)) ∙ sym (c .before .is-blank .ensures) ∙ c .if1 .taken))
 
 pointing-nowhere-requires : tie.Need-pointing-nowhere-requires
 pointing-nowhere-requires c κs = search needs
 
 returns-2 : tie.Need-returns-2
-unfolding decoded plannedRecord
+unfolding plannedRecord
 returns-2 c =
-    let ws = c .before .before .before .before .before .before .before .before .args .words .now in
-    ap Holds (c .pointing-nowhere .ensures) ∙ sym (slot-holds FourWords ws (sym (four-blank ws) ∙ sym (c .before .before .is-blank .ensures) ∙ c .before .if1 .left))
+    let b = c .before .before .before .before .before .before .before .before in
+    let ws = b .args .words .now in
+    ap Holds (c .pointing-nowhere .ensures ∙ sym (four-decoded ws (b .pre))) ∙ sym (slot-holds FourWords ws (sym (four-blank ws (b .pre)) ∙ sym (c .before .before .is-blank .ensures) ∙ c .before .if1 .left))
 
 pub decode-four-spec : {M : Type 1} → statement M
 decode-four-spec =

@@ -6,14 +6,15 @@ use mathlib.Core.Bool.{_&&_}
 use Rattle.bounded.specs.Noted.{Noted, noted-none}
 use Rattle.record.specs.Slot.{slotAt}
 use Rattle.state.specs.State.{stateAt}
-use Rattle.rules.specs.Found.{mayEraseBy}
+use Rattle.rules.specs.Permission.{mayErase, untwinned}
+use Rattle.rules.specs.Found.{byFound}
 use Rattle.upkeep.specs.Sweep.{isObsoleteAt}
 use Rattle.sweep.proofs.choice.note_obsolete.Statement.{statement}
 use Rattle.sweep.proofs.choice.note_obsolete.Tie as tie
 
 abbrev Inv-loop : tie.InvT-loop
 Inv-loop slots words state chains found list₀ count₀ k₀ list count k =
-    (k ≤ slots) × Noted (λ j. isObsoleteAt (slotAt words) (stateAt state) j && mayEraseBy slots (slotAt words) (stateAt state) found j) k list count
+    (k ≤ slots) × Noted (λ j. isObsoleteAt (slotAt words) (stateAt state) j && mayErase (byFound (untwinned slots (slotAt words) (stateAt state)) found) j) k list count
 
 abbrev μ-loop : tie.MeasureT-loop
 μ-loop slots words state chains found list₀ count₀ k₀ list count k = slots - k
@@ -41,7 +42,7 @@ returns c =
     let l = c .before .loop in
     let a = c .before .before .before .before .before .before .args in
     let e : l .k ≡ a .slots = omega arith in
-    subst (λ (n : ℕ). Noted (λ j. isObsoleteAt (slotAt (a .words .now)) (stateAt (a .state .now)) j && mayEraseBy (a .slots) (slotAt (a .words .now)) (stateAt (a .state .now)) (a .found .now) j) n (l .list) (l .count)) e (l .inv .1)
+    subst (λ (n : ℕ). Noted (λ j. isObsoleteAt (slotAt (a .words .now)) (stateAt (a .state .now)) j && mayErase (byFound (untwinned (a .slots) (slotAt (a .words .now)) (stateAt (a .state .now))) (a .found .now)) j) n (l .list) (l .count)) e (l .inv .1)
 
 pub note-obsolete-spec : {M : Type 1} → statement M
 note-obsolete-spec =
