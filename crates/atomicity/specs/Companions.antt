@@ -1,5 +1,5 @@
 -- Promise 3's companions, stated: the paper's invariants, that the premises are met, what ties a call's stages to what it leaves and to a crash in it, that recovery finds the same
--- committed versions and contents before and after a cleaning and a sweep, and after a crash in a sweep, and how many records a sweep leaves.
+-- committed versions and contents before and after a cleaning and a sweep, and after a crash in a sweep, that a block whose cleaning was cut can be cleaned again, how many records a sweep leaves, and how what it blanked is sorted into its erasures.
 use Prim.Native.Nat.{ℕ, suc, _+_, _*_, _≤_, _<_}
 use mathlib.Core.Path.{_≡_}
 use mathlib.Core.List.{List, [], _∷_, _++_, map, flatten}
@@ -19,6 +19,7 @@ use Rattle.table.specs.Table.{mentioned, usedOf}
 use Rattle.rules.specs.Volume.{Volume}
 use Rattle.rules.specs.laws.Volume.{FitsIn}
 use Rattle.rules.specs.Read.{readOutcomeIn}
+use Rattle.upkeep.specs.Swept.{Sorted}
 use Rattle.atomicity.specs.Family.{Family, backPointer}
 use Rattle.atomicity.specs.Call.{Call, perform, flashStages}
 use Rattle.atomicity.specs.Run.{Event, wasDone, cutShort, happens, started, after}
@@ -82,7 +83,7 @@ pub record StagesInOrder (F : Family) : Type 0 where
 
 -- ---- cleaning
 
--- recovery on both volumes answers 0, finds the same committed version of each page, and read then copies the same contents
+-- recovery on both volumes answers 0, finds the same committed version of each page, and read then answers 0 on both and copies the same contents
 pub record SameFound (F : Family) (widths : Widths) (sizes : Sizes) (v w : Volume) : Type 0 where
   pub answers : (F .recover widths sizes v .answer ≡ 0) × (F .recover widths sizes w .answer ≡ 0)
   pub same-versions : (p : ℕ) → p < sizes .pages → stateAt (F .recover widths sizes v .left) p .committed ≡ stateAt (F .recover widths sizes w .left) p .committed
@@ -92,6 +93,12 @@ pub record SameFound (F : Family) (widths : Widths) (sizes : Sizes) (v w : Volum
       → length out ≡ sizes .width
       → readOutcomeIn (F .layout) widths sizes (record { flash = v .flash; state = F .recover widths sizes v .left }) page out
       ≡ readOutcomeIn (F .layout) widths sizes (record { flash = w .flash; state = F .recover widths sizes w .left }) page out
+  pub both-read :
+      (page : ℕ) (out : List ℕ)
+      → page < sizes .pages
+      → length out ≡ sizes .width
+      → (readOutcomeIn (F .layout) widths sizes (record { flash = v .flash; state = F .recover widths sizes v .left }) page out .answer ≡ 0)
+      × (readOutcomeIn (F .layout) widths sizes (record { flash = w .flash; state = F .recover widths sizes w .left }) page out .answer ≡ 0)
 
 -- after every list under the premises that leaves the state known, recovery straight before a cleaning and after it, whichever block it is of, by whatever table
 abbrev pub CleaningUnseen : Family → Type 0
@@ -101,6 +108,30 @@ CleaningUnseen F =
     → StateKnown F widths sizes v events
     → (block : NamedBlock)
     → SameFound F widths sizes (after F widths sizes (started F widths sizes v) events .volume) (perform F widths sizes (after F widths sizes (started F widths sizes v) events .volume) (Call.Clean block) .left)
+
+-- what may befall a block's cleaning until it is done: a crash in it, one in a recover or between two calls, and a recover
+pub data Setback : Type 0 where
+  InCleaning : (stage : ℕ) (done : ℕ → Bool) (state : List ℕ) → Setback
+  InRecover : (stage : ℕ) (done : ℕ → Bool) (state : List ℕ) → Setback
+  Between : (state : List ℕ) → Setback
+  Recovered : Setback
+
+unfoldable pub befalls : NamedBlock → Setback → Event
+befalls block (InCleaning stage done state) = Event.CrashIn (Call.Clean block) stage done state
+befalls block (InRecover stage done state) = Event.CrashIn Call.Recover stage done state
+befalls block (Between state) = Event.Crash state
+befalls block Recovered = Event.Returns Call.Recover
+
+-- After every list under the premises that leaves the state known: a block whose cleaning is accepted, by whatever table, can be cleaned after cuts in that cleaning too, however often it is cut, and the recovery
+-- with it, once a recover has found the state again: it is never refused by 15 then.
+abbrev pub CleanedAfterCut : Type 0
+CleanedAfterCut =
+    (widths : Widths) (sizes : Sizes) (v : Volume) (events : List Event) (block : NamedBlock) (setbacks : List Setback)
+    → StateKnown backPointer widths sizes v events
+    → perform backPointer widths sizes (after backPointer widths sizes (started backPointer widths sizes v) events .volume) (Call.Clean block) .answer ≡ 0
+    → Premises backPointer widths sizes v (events ++ map (befalls block) setbacks)
+    → StateKnown backPointer widths sizes v (events ++ map (befalls block) setbacks)
+    → perform backPointer widths sizes (after backPointer widths sizes (started backPointer widths sizes v) (events ++ map (befalls block) setbacks) .volume) (Call.Clean block) .answer ≡ 0
 
 -- ---- sweeping
 
@@ -118,6 +149,8 @@ pub record Sweeps (widths : Widths) (sizes : Sizes) (v : Volume) : Type 0 where
   pub answers : perform backPointer widths sizes v Call.Sweep .answer ≡ 0
   -- "the number of records left is exactly P plus the written pages in flight"
   pub records-left : recordsIn (sizes .slots) (slotAt (perform backPointer widths sizes v Call.Sweep .left .flash .words)) ≡ sizes .pages + writtenPages (sizes .pages) (stateAt (v .state))
+  -- the slots that it blanked, sorted by their old record with the state, are its three erasures
+  pub sorted : Sorted sizes v (perform backPointer widths sizes v Call.Sweep .left .flash)
   -- "recovery straight before and after gives the same contents for all pages"
   pub unseen : SameFound backPointer widths sizes v (perform backPointer widths sizes v Call.Sweep .left)
   -- "The contents come back the same after a cut during the sweep too", whatever the state then holds

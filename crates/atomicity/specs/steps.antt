@@ -15,3 +15,5 @@ pub mod Spared
 pub mod Calls
 pub mod Crash
 pub mod Event
+pub mod StillErasable
+pub mod CutCleaning

@@ -6,5 +6,7 @@ pub mod StagesInOrder
 pub mod RunsComputed
 pub mod Unburied
 pub mod CleaningUnseen
+pub mod RoomAgain
+pub mod CleanedAfterCut
 pub mod Bare
 pub mod Sweeping

@@ -38,7 +38,7 @@ ghost use Rattle.upkeep.specs.cases.Clean.{cleanRows, cleanWidthRows};
 ghost use Rattle.upkeep.specs.cases.Blocks.{blockRows};
 ghost use Rattle.upkeep.specs.cases.Sweep.{sweepRows};
 ghost use Rattle.upkeep.specs.cases.Pick.{pickRows};
-ghost use Rattle.upkeep.specs.Cleaned.{Cleaned, CleanedAgain, CleanAccepted};
+ghost use Rattle.upkeep.specs.Cleaned.{Cleaned, CleanFills, CleanedAgain, CleanAccepted};
 ghost use Rattle.upkeep.specs.Swept.{SweepErases, SweptBare};
 ghost use Rattle.upkeep.specs.Picked.{GoingRound, Picked, LargerFindsNoLess};
 ghost use Rattle.upkeep.specs.Doubted.{Fillings, Doubted, NoneRecovers, EmptyListRecovers};
@@ -47,7 +47,7 @@ ghost use Rattle.rules.specs.laws.Found.{FoundExactly, JudgedByFound};
 ghost use Rattle.rules.specs.Meanings.{SoundMeans, PermissionMeans, EraseMeans, SuggestMeans, AstrayMeans, TwinsAlone, SecondMeans, SimpleEraseMeans, BuryMeans};
 ghost use Rattle.atomicity.specs.Family.{backPointer};
 ghost use Rattle.atomicity.specs.Promise.{PromiseAt, Promise3, OwnState};
-ghost use Rattle.atomicity.specs.Companions.{StatesAgree, PremisesMet, StagesInOrder, CleaningUnseen, Sweeping};
+ghost use Rattle.atomicity.specs.Companions.{StatesAgree, PremisesMet, StagesInOrder, CleaningUnseen, CleanedAfterCut, Sweeping};
 ghost use Rattle.atomicity.specs.Runs.{RunsComputed};
 use sizes::Layout;
 use sizes::Sizes;
@@ -431,19 +431,21 @@ pub fn promise_3()
     ensures runs { λ _. ⌜ RunsComputed ⌝ }
 {}
 
-// Document 02, wishes 1 and 8: what an accepted cleaning leaves, by any table of blocks; that done again, by this table or another, it alters nothing; that as many blank slots as the block has are enough for it; that recovery straight
-// before and after one finds the same versions and contents; and twins, cleanings and tables of blocks, computed.
+// Document 02, wishes 1 and 8: what an accepted cleaning leaves, by any table of blocks, and which slots its copies fill; that done again, by this table or another, it alters nothing; that as many blank slots as the block has are enough for it; that recovery straight
+// before and after one finds the same versions and contents; that after a cut in one, recovered, the same block can be cleaned; and twins, cleanings and tables of blocks, computed.
 pub fn cleaning()
     ensures leaves { λ _. ⌜ Cleaned ⌝ }
+    ensures fills { λ _. ⌜ CleanFills ⌝ }
     ensures again { λ _. ⌜ CleanedAgain ⌝ }
     ensures room { λ _. ⌜ CleanAccepted ⌝ }
     ensures unseen { λ _. ⌜ CleaningUnseen backPointer ⌝ }
+    ensures after_cut { λ _. ⌜ CleanedAfterCut ⌝ }
     ensures twins { λ _. ⌜ RowsHold twinRows ⌝ }
     ensures cleaned { λ _. ⌜ RowsHold cleanRows ⌝ }
     ensures blocks { λ _. ⌜ RowsHold blockRows ⌝ }
 {}
 
-// Document 02, wish 7: each erasure of a sweep is empty or one that erase accepts; straight after a sweep no slot may be erased; on volumes that runs reach, how many records it leaves, and that
+// Document 02, wish 7: each erasure of a sweep is empty or one that erase accepts; straight after a sweep no slot may be erased; on volumes that runs reach, how many records it leaves, that what it blanked, sorted by the old records, is its three erasures, and that
 // recovery finds the same before it, after it and after a crash in it; and sweeps, computed.
 pub fn sweeping()
     ensures erases { λ _. ⌜ SweepErases ⌝ }

@@ -1,9 +1,10 @@
--- What is shown of cleaning, document 02, wish 1, stated: what an accepted cleaning leaves, that it may be done again, and how many blank slots are enough for it.
+-- What is shown of cleaning, document 02, wish 1, stated: what an accepted cleaning leaves, which slots its copies fill, that it may be done again, and how many blank slots are enough for it.
 use Prim.Native.Nat.{ℕ, _<_, _≤_}
 use mathlib.Core.Path.{_≡_}
 use mathlib.Core.Logic.{_⊎_}
-use mathlib.Core.Bool.{true, false}
-use lib.ListN.{length, replicate}
+use mathlib.Core.List.{List, map}
+use mathlib.Core.Bool.{true, false, not, _&&_}
+use lib.ListN.{length, take, replicate}
 use Rattle.bounded.specs.Limits.{Widths}
 use Rattle.bounded.specs.Below.{listBelow}
 use Rattle.sizes.specs.declared.Block.{Block}
@@ -12,12 +13,12 @@ use Rattle.sizes.specs.Blocks.{startsOk, NamedBlock, blockOk, blockAt, inBlock}
 use Rattle.record.specs.declared.Record.{Record}
 use Rattle.record.specs.declared.Slot.the-variants.{Blank, Holds}
 use Rattle.record.specs.Slot.{slotAt, bytesAt, isBlank}
-use Rattle.record.specs.Flash.{Flash}
+use Rattle.record.specs.Flash.{Flash, Step}
 use Rattle.state.specs.State.{stateSound}
 use Rattle.table.specs.Table.{tableSound}
 use Rattle.rules.specs.Volume.{Volume, volumeFits, slotsOf, pagesOf}
 use Rattle.rules.specs.Permission.{mayErase, sceneOf}
-use Rattle.upkeep.specs.Clean.{cleanAnswer, cleanOutcome}
+use Rattle.upkeep.specs.Clean.{recordIn, cleanFrom, cleanTo, cleanCopies, cleanAnswer, cleanOutcome}
 
 -- slot k of the flash f holds the record with these contents
 abbrev pub HoldsAt : Sizes → Flash → ℕ → Record → Flash → ℕ → Type 0
@@ -51,6 +52,32 @@ Cleaned =
     (widths : Widths) (sizes : Sizes) (v : Volume) (block : NamedBlock)
     → cleanAnswer widths sizes v block ≡ 0
     → Leaves sizes v (blockAt (sizes .slots) block) (cleanOutcome widths sizes v block .left)
+
+-- ---- what a driver programs
+
+-- the slots that are blank before and not after, rising
+unfoldable pub filledSlots : ℕ → (before after : Flash) → List ℕ
+filledSlots S before after = listBelow S (λ k. isBlank (slotAt (before .words) k) && not (isBlank (slotAt (after .words) k)))
+
+-- slot k stored as the flash shows it
+unfoldable pub storedAs : ℕ → Flash → ℕ → Step
+storedAs w f k = Step.Store k (recordIn (slotAt (f .words) k)) (bytesAt w (f .contents) k)
+
+-- the copies of a cleaning of the block, of a volume, and the flash `after` it
+pub record Fills (sizes : Sizes) (v : Volume) (block : Block) (after : Flash) : Type 0 where
+  -- the slots that they go to are those that were blank and no longer are, rising
+  pub targets-filled : take (length (cleanFrom sizes v block)) (cleanTo sizes v block) ≡ filledSlots (sizes .slots) (v .flash) after
+  -- and what they store, in their order, is what these slots then hold, from the lowest up
+  pub copies-shown : cleanCopies sizes v block ≡ map (storedAs (sizes .width) after) (filledSlots (sizes .slots) (v .flash) after)
+
+-- Of every accepted cleaning, of any volume, by any table of blocks and with any widths allowed: the slots that it filled are those that were blank and no longer are, from the lowest up, each as it then is.
+abbrev pub CleanFills : Type 0
+CleanFills =
+    (widths : Widths) (sizes : Sizes) (v : Volume) (block : NamedBlock)
+    → cleanAnswer widths sizes v block ≡ 0
+    → Fills sizes v (blockAt (sizes .slots) block) (cleanOutcome widths sizes v block .left)
+
+-- ---- again, and with how many blank slots
 
 -- cleaning the same slots again, or some of them, by the same table or another, is accepted and alters nothing
 abbrev pub CleanedAgain : Type 0

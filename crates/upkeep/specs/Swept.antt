@@ -1,15 +1,20 @@
--- What is shown of sweeping on any volume, document 02, wish 7, stated: each of its erasures is empty or one that erase accepts, and then nothing is left to erase.
+-- What is shown of sweeping on any volume, document 02, wish 7, stated: each of its erasures is empty or one that erase accepts, and then nothing is left to erase; and, of volumes that runs reach, how the slots that it blanked are sorted into its erasures.
 use Prim.Native.Nat.{ℕ}
 use mathlib.Core.Path.{_≡_}
 use mathlib.Core.Logic.{_⊎_}
 use mathlib.Core.List.{List, []}
+use mathlib.Core.Bool.{Bool, not, _&&_}
 use Rattle.bounded.specs.Limits.{Widths}
+use Rattle.bounded.specs.Below.{listBelow}
 use Rattle.sizes.specs.declared.Sizes.{Sizes}
+use Rattle.record.specs.declared.Slot.{Slot}
+use Rattle.record.specs.Slot.{slotAt, isBlank}
 use Rattle.record.specs.Flash.{Flash}
+use Rattle.state.specs.State.{stateAt}
 use Rattle.rules.specs.Volume.{Volume}
 use Rattle.rules.specs.Erase.{eraseAnswer}
 use Rattle.rules.specs.Suggest.{suggestAnswer}
-use Rattle.upkeep.specs.Sweep.{sweptExposed, withoutExposed, sweptObsolete, withoutObsolete, sweptTwins, sweepAnswer, sweepOutcome}
+use Rattle.upkeep.specs.Sweep.{isSpareExposed, isObsoleteAt, sweptExposed, withoutExposed, sweptObsolete, withoutObsolete, sweptTwins, sweepAnswer, sweepOutcome}
 
 -- a list of slots is empty, or erase accepts it on this flash, with the state of v
 abbrev pub NoneOrErasable : Widths → Sizes → Volume → Flash → List ℕ → Type 0
@@ -30,3 +35,24 @@ SweptBare =
     (widths : Widths) (sizes : Sizes) (v : Volume)
     → sweepAnswer widths sizes v ≡ 0
     → suggestAnswer widths sizes (record { flash = sweepOutcome widths sizes v .left; state = v .state }) ≡ 13
+
+-- ---- the order in which a driver erases
+
+-- slot k holds a record before and is blank after
+unfoldable pub isBlanked : (before after : ℕ → Slot) → ℕ → Bool
+isBlanked before after k = not (isBlank (before k)) && isBlank (after k)
+
+-- (Shown of volumes that runs reach: `Sweeps` of crate atomicity.) The slots that a sweep of the volume blanked, `after` being the flash that it left, sorted by their old record with the state, are its three erasures, each rising:
+pub record Sorted (sizes : Sizes) (v : Volume) (after : Flash) : Type 0 where
+  -- the first has those whose old record is exposed, and not of a page in flight with v = used;
+  pub exposed-first :
+      sweptExposed sizes v
+      ≡ listBelow (sizes .slots) (λ k. isBlanked (slotAt (v .flash .words)) (slotAt (after .words)) k && isSpareExposed (slotAt (v .flash .words)) (stateAt (v .state)) k)
+  -- the second those whose old record is obsolete;
+  pub obsolete-second :
+      sweptObsolete sizes v
+      ≡ listBelow (sizes .slots) (λ k. isBlanked (slotAt (v .flash .words)) (slotAt (after .words)) k && isObsoleteAt (slotAt (v .flash .words)) (stateAt (v .state)) k)
+  -- and the third any other
+  pub others-last :
+      sweptTwins sizes v
+      ≡ listBelow (sizes .slots) (λ k. isBlanked (slotAt (v .flash .words)) (slotAt (after .words)) k && (not (isSpareExposed (slotAt (v .flash .words)) (stateAt (v .state)) k) && not (isObsoleteAt (slotAt (v .flash .words)) (stateAt (v .state)) k)))

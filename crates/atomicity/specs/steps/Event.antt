@@ -57,7 +57,7 @@ module _ {F : Family} (T : Theory F) (widths : Widths) (sizes : Sizes) where
   crashed-holds f state m bounds allowed long c = unknown refl (record { bounds = bounds; allowed = allowed; flash-sized = c .sized; state-sized = long }) (c .lost)
 
   -- where the state is lost, recover answers 0 and the state is known again
-  recover-finds : (v : Volume) (m : Model) → FitsIn (F .layout) widths sizes v → Lost T sizes (v .flash) m → Known T widths sizes (perform F widths sizes v Call.Recover .left) (closeAll m) × (perform F widths sizes v Call.Recover .answer ≡ 0)
+  pub recover-finds : (v : Volume) (m : Model) → FitsIn (F .layout) widths sizes v → Lost T sizes (v .flash) m → Known T widths sizes (perform F widths sizes v Call.Recover .left) (closeAll m) × (perform F widths sizes v Call.Recover .answer ≡ 0)
   unfolding perform withState
   recover-finds v m fits l =
       let e = accepts T widths sizes (v .flash) (fits .bounds) (fits .allowed) (fits .flash-sized) (l .apart) (l .core) (v .state) (fits .state-sized) in

@@ -88,6 +88,9 @@ module _ {F : Family} (T : Theory F) (widths : Widths) (sizes : Sizes) (f : Flas
   unfolding atRest inFlight
   at-rest p h = ap inFlight (filled-page (F .layout) (T .back) sizes volume committed shared right refl p h)
 
+  pub found-at-rest : (p : ℕ) → p < sizes .pages → inFlight (stateAt (F .recover widths sizes (record { flash = f; state = state }) .left) p) ≡ false
+  found-at-rest p h = ap (λ (o : Outcome (List ℕ)). inFlight (stateAt (o .left) p)) fills ∙ at-rest p h
+
   found-core : T .Core (Held F (sizes .width) (sizes .slots) f) (commOf (stateAt filled)) (sizes .pages) kept
   found-core = T .same _ _ _ _ _ _ _ (record { forth = λ r b h. h; back = λ r b h. h; same-comm = found-comm; same-kept = λ p h. refl }) core
 

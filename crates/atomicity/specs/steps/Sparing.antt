@@ -71,7 +71,7 @@ chosen done i [] = []
 chosen done i (k ∷ slots) = cond (done i) (k ∷ chosen done (suc i) slots) (chosen done (suc i) slots)
 
 -- the steps done of an erasure blank the chosen slots
-done-blanks : (done : ℕ → Bool) (i : ℕ) (slots : List ℕ) → doneOf done i (map Step.Blank slots) ≡ map Step.Blank (chosen done i slots)
+pub done-blanks : (done : ℕ → Bool) (i : ℕ) (slots : List ℕ) → doneOf done i (map Step.Blank slots) ≡ map Step.Blank (chosen done i slots)
 unfolding doneOf chosen
 done-blanks done i [] = refl
 done-blanks done i (k ∷ slots) =
@@ -80,7 +80,7 @@ done-blanks done i (k ∷ slots) =
     (λ e. rw e (done-blanks done (suc i) slots))
 
 -- and these are listed
-chosen-listed : (done : ℕ → Bool) (i : ℕ) (slots : List ℕ) (k : ℕ) → List·Memᴰ k (chosen done i slots) → List·Memᴰ k slots
+pub chosen-listed : (done : ℕ → Bool) (i : ℕ) (slots : List ℕ) (k : ℕ) → List·Memᴰ k (chosen done i slots) → List·Memᴰ k slots
 unfolding chosen
 chosen-listed done i [] k m = m
 chosen-listed done i (x ∷ slots) k m =

@@ -78,7 +78,7 @@ module _
       core .one-record r (plan recordView st (r .p)) _ (s .0) (pair k r h e) (s .1) (sym (planned-record-page (r .p) _ _ _ _)) (c .1 ∙ sym (planned-record-version (r .p) _ _ _ _)) .0
 
   -- whose link no record straddles: no version is above the used one. So no obsolete record is needed, and there is none.
-  none-obsolete : (k : ℕ) (r : Record) → k < S → t k ≡ Holds r → r .v < st (r .p) .committed → ⊥
+  pub none-obsolete : (k : ℕ) (r : Record) → k < S → t k ≡ Holds r → r .v < st (r .p) .committed → ⊥
   none-obsolete k r h e l =
       let n = obsolete-needed S t st (twins w f) k e (obsolete-exactly st r .1 l) (unpermitted k h) in
       let s = n .supports in

@@ -1,9 +1,10 @@
 -- Recovery straight before and after a cleaning finds the same.
 use Prim.Native.Nat.{ℕ}
-use mathlib.Core.Path.{sym, _∙_, subst}
+use mathlib.Core.Path.{sym, ap, _∙_, subst}
 use mathlib.Core.List.{List}
 use Rattle.bounded.specs.Limits.{Widths}
 use Rattle.bounded.specs.Choice.{on-eq, never}
+use Rattle.outcome.specs.Outcome.{Outcome}
 use Rattle.sizes.specs.declared.Sizes.{Sizes}
 use Rattle.sizes.specs.Blocks.{NamedBlock}
 use Rattle.record.specs.Slot.{slotIn}
@@ -44,6 +45,7 @@ module _ {F : Family} (T : Theory F) (widths : Widths) (sizes : Sizes) where
             found-versions T widths sizes (v .flash) (k .fits .bounds) (k .fits .allowed) (k .fits .flash-sized) (k .apart) (k .core) (v .state) (k .fits .state-sized) p h
             ∙ sym (found-versions T widths sizes (w .flash) (l .fits .bounds) (l .fits .allowed) (l .fits .flash-sized) (l .apart) (l .core) (w .state) (l .fits .state-sized) p h);
         same-contents = λ page out h o. rv .reads-kept page out h o ∙ sym (rw′ .reads-kept page out h o);
+        both-read = λ page out h o. (ap (λ (r : Outcome (List ℕ)). r .answer) (rv .reads-kept page out h o), ap (λ (r : Outcome (List ℕ)). r .answer) (rw′ .reads-kept page out h o));
       }
 
 module _ {F : Family} (T : Theory F) (widths : Widths) (sizes : Sizes) (m : Model) where

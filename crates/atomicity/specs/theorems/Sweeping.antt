@@ -1,6 +1,6 @@
--- What is left after a sweep of a volume that a run reaches, and that recovery finds the same before it, after it, and after a crash in it.
-use Prim.Native.Nat.{ℕ, _+_, _*_}
-use mathlib.Core.Path.{_≡_, refl, sym, _∙_, subst}
+-- What is left after a sweep of a volume that a run reaches, how what it blanked is sorted into its erasures, and that recovery finds the same before it, after it, and after a crash in it.
+use Prim.Native.Nat.{ℕ, _+_, _*_, _<_}
+use mathlib.Core.Path.{_≡_, refl, sym, ap, _∙_, subst}
 use mathlib.Core.List.{List}
 use mathlib.Core.Bool.{Bool, true, false}
 use lib.ListN.{length}
@@ -8,17 +8,21 @@ use Rattle.bounded.specs.Limits.{Widths}
 use Rattle.bounded.specs.Choice.{never}
 use Rattle.sizes.specs.declared.Layout.the-variants.{FiveWords}
 use Rattle.sizes.specs.declared.Sizes.{Sizes}
+use Rattle.record.specs.declared.Record.{Record}
+use Rattle.record.specs.declared.Slot.the-variants.{Holds}
 use Rattle.record.specs.Slot.{slotAt, bytesAt}
-use Rattle.record.specs.Flash.{Step, applyAllIn}
+use Rattle.record.specs.Flash.{Flash, Step, applyAllIn}
 use Rattle.state.specs.State.{stateAt}
 use Rattle.state.specs.StateLaws.{facts-state-sound}
 use Rattle.table.specs.Table.{tableSound}
 use Rattle.rules.specs.Volume.{Volume}
 use Rattle.rules.specs.Suggest.{suggestible}
 use Rattle.upkeep.specs.Sweep.{sweepStages, sweepAnswer, sweepOutcome}
+use Rattle.upkeep.specs.Swept.{Sorted}
 use Rattle.rules.specs.laws.Volume.{fits-test}
 use Rattle.upkeep.specs.laws.Clean.{sound-slots}
-use Rattle.upkeep.specs.laws.Sweep.{none-left}
+use Rattle.upkeep.specs.laws.Sweep.{is-left, none-left}
+use Rattle.upkeep.specs.laws.Sorted.{sorted}
 use Rattle.protocol.specs.Shared.{commOf}
 use Rattle.atomicity.specs.Family.{backPointer}
 use Rattle.atomicity.specs.Call.{Call, withFlash, perform, plannedStages}
@@ -33,7 +37,7 @@ use Rattle.atomicity.specs.steps.Calls.{accepted}
 use Rattle.atomicity.specs.steps.Spared.{Kept, spares-kept}
 use Rattle.atomicity.specs.theorems.Promise.{reached}
 use Rattle.atomicity.specs.theorems.CleaningUnseen.{Recoverable, known-recoverable, same-found}
-use Rattle.atomicity.specs.theorems.Bare.{bare-count}
+use Rattle.atomicity.specs.theorems.Bare.{none-obsolete, bare-count}
 
 module _ (widths : Widths) (sizes : Sizes) (v : Volume) (m : Model) (k : Known back-pointer widths sizes v m) where
   -- the volume and the state are sound, so that a sweep is done
@@ -54,6 +58,20 @@ module _ (widths : Widths) (sizes : Sizes) (v : Volume) (m : Model) (k : Known b
       let s = swept-known in
       bare-count (sizes .width) (sizes .pages) (sizes .slots) (sweepOutcome widths sizes v .left) (s .fits .flash-sized) (stateAt (v .state)) (s .live .sound) (back-pointer .shared _ _ _ _ (s .live .core)) (s .live .live)
       (none-left widths sizes v sweep-done)
+
+  -- what it leaves has no obsolete record, so that what it blanked is sorted into its erasures
+  none-obsolete-left : (j : ℕ) (r : Record) → j < sizes .slots → slotAt (sweepOutcome widths sizes v .left .words) j ≡ Holds r → r .v < stateAt (v .state) (r .p) .committed → ⊥
+  unfolding perform withFlash suggestible back-pointer
+  none-obsolete-left =
+      let s = swept-known in
+      none-obsolete (sizes .width) (sizes .pages) (sizes .slots) (sweepOutcome widths sizes v .left) (s .fits .flash-sized) (stateAt (v .state)) (s .live .sound) (back-pointer .shared _ _ _ _ (s .live .core)) (s .live .live)
+      (none-left widths sizes v sweep-done)
+
+  swept-sorted : Sorted sizes v (perform backPointer widths sizes v Call.Sweep .left .flash)
+  unfolding perform withFlash
+  swept-sorted =
+      subst (Sorted sizes v) (sym (is-left widths sizes v sweep-done))
+      (sorted widths sizes v sweep-done (λ j r h e. none-obsolete-left j r h (ap (λ (f : Flash). slotAt (f .words) j) (is-left widths sizes v sweep-done) ∙ e)))
 
   -- a crash in it
   module _ (stage : ℕ) (done : ℕ → Bool) (state : List ℕ) (long : length state ≡ 4 * sizes .pages) where
@@ -81,6 +99,7 @@ module _ (widths : Widths) (sizes : Sizes) (v : Volume) (m : Model) (k : Known b
       record {
         answers = performs back-pointer widths sizes v Call.Sweep ∙ sweep-done;
         records-left = count-left;
+        sorted = swept-sorted;
         unseen = same-found back-pointer widths sizes v (perform backPointer widths sizes v Call.Sweep .left) (known-recoverable back-pointer widths sizes k) (known-recoverable back-pointer widths sizes swept-known);
         unseen-cut = λ stage done state long. same-found back-pointer widths sizes v (crashed stage done state long) (known-recoverable back-pointer widths sizes k) (crash-recoverable stage done state long);
       }

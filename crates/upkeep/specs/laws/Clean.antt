@@ -77,14 +77,14 @@ module _ (sizes : Sizes) (v : Volume) (block : Block) (size : SizedIn FiveWords 
   -- ---- what is copied
 
   -- what a slot passes that is copied
-  record IsCopied (k : ℕ) : Type 0 where
-    below : k < sizes .slots
-    within : inside k ≡ true
-    full : isBlank (slots k) ≡ false
-    barred : may k ≡ false
-    lowest : someBelow k (λ j. inside j && twin j k) ≡ false
+  pub record IsCopied (k : ℕ) : Type 0 where
+    pub below : k < sizes .slots
+    pub within : inside k ≡ true
+    pub full : isBlank (slots k) ≡ false
+    pub barred : may k ≡ false
+    pub lowest : someBelow k (λ j. inside j && twin j k) ≡ false
 
-  copied-facts : (k : ℕ) → List·Memᴰ k from → IsCopied k
+  pub copied-facts : (k : ℕ) → List·Memᴰ k from → IsCopied k
   unfolding cleanFrom copiedSlots isCopied
   copied-facts k m =
       let p = list-members (isCopied (sceneOf sizes v) inside) (sizes .slots) k .0 m in
@@ -98,7 +98,7 @@ module _ (sizes : Sizes) (v : Volume) (block : Block) (size : SizedIn FiveWords 
         lowest = not-true (someBelow k (λ j. inside j && twin j k)) (both-right (not (may k)) (not (someBelow k (λ j. inside j && twin j k))) b);
       }
 
-  copied-of : (k : ℕ) → IsCopied k → List·Memᴰ k from
+  pub copied-of : (k : ℕ) → IsCopied k → List·Memᴰ k from
   unfolding cleanFrom copiedSlots isCopied
   copied-of k c =
       list-members (isCopied (sceneOf sizes v) inside) (sizes .slots) k .1
@@ -187,7 +187,7 @@ module _ (sizes : Sizes) (v : Volume) (block : Block) (size : SizedIn FiveWords 
   copies-sized = copied-sized (sizes .width) (sizes .slots) (v .flash) size (v .flash) 0 from to ready
 
   -- a slot that held a record, and every slot of the block, is as it was
-  no-target : (k : ℕ) (r : Record) → slots k ≡ Holds r → ¬ (List·Memᴰ k to)
+  pub no-target : (k : ℕ) (r : Record) → slots k ≡ Holds r → ¬ (List·Memᴰ k to)
   no-target k r e m = blank-holds (free-facts k m .free-blank) e
 
   pub copies-stay : (k : ℕ) (r : Record) → slots k ≡ Holds r → SameSlot FiveWords (sizes .width) (v .flash) copiesDone k
@@ -211,7 +211,7 @@ module _ (sizes : Sizes) (v : Volume) (block : Block) (size : SizedIn FiveWords 
   abbrev pub Outside : ℕ → Record → Type 0
   Outside k r = (j : ℕ) × (j < sizes .slots) × (inside j ≡ false) × HoldsAt sizes copiesDone j r (v .flash) k
 
-  twin-stands : (j k : ℕ) (r : Record) → j < sizes .slots → k < sizes .slots → slots k ≡ Holds r → twin j k ≡ true → (slots j ≡ Holds r) × (bytesAt (sizes .width) (v .flash .contents) j ≡ bytesAt (sizes .width) (v .flash .contents) k)
+  pub twin-stands : (j k : ℕ) (r : Record) → j < sizes .slots → k < sizes .slots → slots k ≡ Holds r → twin j k ≡ true → (slots j ≡ Holds r) × (bytesAt (sizes .width) (v .flash .contents) j ≡ bytesAt (sizes .width) (v .flash .contents) k)
   twin-stands j k r hj hk e t = let w = twins-exactly (sizes .width) (v .flash) j k (whole j hj) (whole k hk) .0 t in (w .1 ∙ sym (w .2) ∙ e, w .3)
 
   module _ (room : length from ≤ length to) where

@@ -304,7 +304,7 @@ module _ (widths : Widths) (sizes : Sizes) (v : Volume) (accepted : sweepAnswer 
       never (some-of (λ i. twins (sizes .width) (withoutObsolete sizes v) i k) k j l (twins-before j k (omega arith) h e)) (held3 k (t .0) h (t .2) .0)
 
   -- a record that is left behind the first two erasures is left behind the last: in the lowest slot that holds it
-  stays-somewhere : (k : ℕ) (r : Record) → k < sizes .slots → slotAt (withoutObsolete sizes v .words) k ≡ Holds r → (j : ℕ) × (j < sizes .slots) × (slotAt (left .words) j ≡ Holds r)
+  pub stays-somewhere : (k : ℕ) (r : Record) → k < sizes .slots → slotAt (withoutObsolete sizes v .words) k ≡ Holds r → (j : ℕ) × (j < sizes .slots) × (slotAt (left .words) j ≡ Holds r)
   stays-somewhere k r h e =
       on-test (q3 widths sizes v accepted k)
       (λ y. let j = lowest-twin (sizes .width) (sizes .slots) (withoutObsolete sizes v) (stateAt (v .state)) k y in
@@ -365,7 +365,7 @@ module _ (widths : Widths) (sizes : Sizes) (v : Volume) (accepted : sweepAnswer 
       (may-erase-from (sceneOf sizes (record { flash = left; state = v .state })) (listed (k ∷ [])) k .0 y))
       (λ n. n)
 
-  is-left : sweepOutcome widths sizes v .left ≡ left
+  pub is-left : sweepOutcome widths sizes v .left ≡ left
   unfolding sweepOutcome
   is-left = ap (λ (o : Outcome Flash). o .left) (settled-done (sweepAnswer widths sizes v) 0 0 (v .flash) (applyAll (sizes .width) (v .flash) (sweepSteps sizes v)) accepted) ∙ sweep-leaves
 
