@@ -16,6 +16,7 @@ ghost use Rattle.rules.specs.Format.{formatOutcome};
 ghost use Rattle.rules.specs.Read.{readOutcome};
 ghost use Rattle.rules.specs.cases.Bounds.{boundRows};
 ghost use Rattle.rules.specs.cases.Write.{writeRows};
+ghost use Rattle.rules.specs.cases.Erase.{outdoneRows};
 ghost use Rattle.rules.specs.cases.Suggest.{suggestRows};
 ghost use Rattle.rules.specs.Launch.{launchOutcome};
 ghost use Rattle.rules.specs.Write.{writeOutcome};
@@ -388,12 +389,13 @@ pub extern "C" fn bpcc_read(
 }
 
 // Document 01's ★ cases hold of the definitions that the calls' contracts cite, and so do the bounds of P and S, the records that a ring of two
-// stores, and the slots that suggest names.
+// stores, the slots that suggest names, and which of two straddlers may be erased.
 pub fn star_cases()
     ensures cases { λ _. ⌜ RowsHold starTable ⌝ }
     ensures bounds { λ _. ⌜ RowsHold boundRows ⌝ }
     ensures records { λ _. ⌜ RowsHold writeRows ⌝ }
     ensures suggested { λ _. ⌜ RowsHold suggestRows ⌝ }
+    ensures outdone { λ _. ⌜ RowsHold outdoneRows ⌝ }
 {}
 
 // The tests and answers are exactly documents 01's and 02's sentences: what is sound; what may be erased, and what 12 and 13 mean; where links go astray, in both families; that recovery and suggest see

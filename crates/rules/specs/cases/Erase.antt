@@ -1,4 +1,4 @@
--- Document 01's cases 6 to 8: which slots of one volume may be erased, through erase's whole outcome.
+-- Document 01's cases 6 to 8: which slots of one volume may be erased, and of two straddlers of one link, through erase's whole outcome.
 use Prim.Native.Nat.{ℕ, zero, suc}
 use mathlib.Core.Path.{refl}
 use mathlib.Core.List.{List, [], _∷_, _++_}
@@ -57,3 +57,20 @@ volume6 =
 pub erase-rows : RowsHold (eraseRows volume6)
 unfolding eraseRows eraseOn erasedInTurn volume6 computing
 erase-rows = refl
+
+-- The exposed (0,1,0,1,1) in slot 3; its link is straddled by (1,2,0,1,2) in slot 4 and (1,3,0,1,3) in slot 5, both obsolete, as page 1 is committed at 4.
+unfoldable pub twoStraddlers : Volume
+twoStraddlers = record { flash = record { words = tableOf 8 (formattedRecords 3 ++ given 0 1 0 1 1 ∷ given 1 2 0 1 2 ∷ given 1 3 0 1 3 ∷ given 1 4 3 1 4 ∷ []); contents = replicate 256 0 }; state = stateWords 3 page }
+  where
+    page : ℕ → PageState
+    page zero = atRest 0 1
+    page (suc zero) = atRest 4 4
+    page (suc (suc p)) = atRest 0 0
+
+-- "if no record has the same page and c with a higher v": of the two the one of the higher version is needed, and the other may go; both in one call may not.
+unfoldable pub outdoneRows : List Row
+outdoneRows = row 6 (eraseOn twoStraddlers (4 ∷ []) .answer ∷ eraseOn twoStraddlers (5 ∷ []) .answer ∷ eraseOn twoStraddlers (4 ∷ 5 ∷ []) .answer ∷ []) (0 ∷ 12 ∷ 12 ∷ []) ∷ []
+
+pub outdone-rows : RowsHold outdoneRows
+unfolding outdoneRows eraseOn twoStraddlers computing
+outdone-rows = refl

@@ -80,6 +80,11 @@ unfoldable pub straddled : List Record
 unfolding given
 straddled = given 0 0 0 0 0 ∷ given 0 1 0 1 1 ∷ given 1 2 0 1 2 ∷ []
 
+-- document 01's case 9 without back pointers
+unfoldable pub astray : List Record
+unfolding four
+astray = four 0 1 1 1 ∷ four 1 1 2 1 ∷ four 2 1 1 1 ∷ []
+
 unfoldable pub simpleRecoverRows : List Row
 simpleRecoverRows =
     -- document 01's case 1: one formatted page
@@ -98,10 +103,14 @@ simpleRecoverRows =
     -- two records of equal page and version give 3, equal ones too, and also below the highest
     ∷ row 5 (recoverFour 1 2 (four 0 1 0 1 ∷ four 0 1 0 1 ∷ [])) (3 ∷ 0 ∷ replicate 4 7)
     ∷ row 5 (recoverFour 2 4 (four 0 1 1 1 ∷ four 0 1 0 1 ∷ four 0 2 0 2 ∷ four 1 0 1 0 ∷ [])) (3 ∷ 0 ∷ replicate 8 7)
+    -- document 01's case 9: page 0's links run into the ring of pages 1 and 2, so 4
+    ∷ row 5 (recoverFour 3 3 astray) (4 ∷ 0 ∷ replicate 12 7)
+    -- 4 is tried before 14: the same beside page 3, whose highest is uncommitted without a second version
+    ∷ row 5 (recoverFour 4 4 (astray ++ four 3 2 0 5 ∷ [])) (4 ∷ 0 ∷ replicate 16 7)
     ∷ []
 
 pub simple-recover-rows : RowsHold simpleRecoverRows
-unfolding simpleRecoverRows four wholeOf fourTable recoverFour recoverFive straddled rest computing
+unfolding simpleRecoverRows four wholeOf fourTable recoverFour recoverFive straddled astray rest computing
 simple-recover-rows = refl
 
 -- ---- a ring of two
@@ -185,6 +194,13 @@ thenNone = withdrawOutcome twoWidths (sizesOf 2 4 32) (stillInFlight 1) 0 .left
 unfoldable pub thenPage : ℕ → List ℕ
 thenPage p = launchOutcome twoWidths (sizesOf 2 4 32) thenNone (p ∷ []) .left
 
+-- the same ring in 5 slots beside page 2, withdrawn, and then one page launched alone: the answer and done of its write into slot 4, and the record that is there then
+unfoldable pub writeBeside : (page : ℕ) → List ℕ
+writeBeside page =
+    let state = launchOutcome twoWidths (sizesOf 3 5 32) (thenNone ++ rest 0 0) (page ∷ []) .left in
+    let o = simpleWriteOutcome twoWidths (sizesOf 3 5 32) (fourVolume 5 (formattedRecords 3 ++ four 0 1 1 1 ∷ []) state) page 4 (replicate 32 3) in
+    o .answer ∷ o .second ∷ part 4 4 (o .left .flash .words)
+
 unfoldable pub buryRows : List Row
 buryRows =
     -- the states: withdrawn, and page 0 launched at version 2
@@ -193,6 +209,8 @@ buryRows =
     ∷ row 5 (writeHalf (thenPage 0) 0 3) (16 ∷ 0 ∷ fourTable 4 halfRing)
     -- by link: page 1 at 2 would bury it, as its link is to page 1 at a lower version
     ∷ row 5 (writeHalf (thenPage 1) 1 3) (16 ∷ 0 ∷ fourTable 4 halfRing)
+    -- a write of page 2 buries nothing, though that record is exposed; beside page 2 as well a write of page 1 would bury it
+    ∷ row 5 (writeBeside 2 ++ writeBeside 1) (0 ∷ 1 ∷ 2 ∷ 1 ∷ 2 ∷ 1 ∷ 16 ∷ 0 ∷ replicate 4 noNumber)
     -- a slot that is not blank is told first: 11
     ∷ row 5 (writeHalf (thenPage 0) 0 2) (11 ∷ 0 ∷ fourTable 4 halfRing)
     -- an exposed record at used in flight may not be erased; it may once the ring is withdrawn, and in flight at a later version
@@ -202,7 +220,7 @@ buryRows =
     ∷ []
 
 pub bury-rows : RowsHold buryRows
-unfolding buryRows four fourTable fourVolume halfRing writeHalf eraseHalf stillInFlight thenNone thenPage rest computing
+unfolding buryRows four fourTable fourVolume halfRing writeHalf writeBeside eraseHalf stillInFlight thenNone thenPage rest computing
 bury-rows = refl
 
 -- page 1 went on from 0 to 2 and to 3, so that (1,2,0,1,2) is obsolete and, by its back pointer, straddles the link of the exposed (0,1,0,1,1)
