@@ -1,15 +1,24 @@
 -- Scripts cut everywhere, computed: on 3 pages and 7 slots of 1 byte, and on smaller volumes.
 use Prim.Native.Nat.{ℕ, _*_}
-use mathlib.Core.Path.{_≡_, refl}
-use mathlib.Core.List.{List, [], _∷_, _++_}
-use mathlib.Core.Bool.{Bool, true, false}
+use mathlib.Core.Path.{_≡_, refl, _∙_}
+use mathlib.Core.List.{List, [], _∷_, _++_, map}
+use mathlib.Core.Bool.{Bool, true, false, not, _&&_, _||_}
+use lib.Dec.{eqb}
 use lib.ListN.{replicate}
-use Rattle.bounded.specs.Limits.{Widths}
+use borrow.Author.Tests.{eq-eqb, ne-eqb}
+use Rattle.bounded.specs.Limits.{noNumber, Widths}
 use Rattle.sizes.specs.Sizes.{sizesOf}
-use Rattle.rules.specs.Volume.{Volume}
-use Rattle.atomicity.specs.Call.{Call}
+use Rattle.outcome.specs.Outcome.{_⇒_otherwise_, settled}
+use Rattle.record.specs.Flash.{Step, applyAll}
+use Rattle.table.specs.Given.{given, formattedRecords, tableOf}
+use Rattle.rules.specs.Volume.{Volume, volume}
+use Rattle.rules.specs.Erase.{eraseAnswer, eraseSteps}
+use Rattle.atomicity.specs.Call.{Call, withFlash, perform, plannedStages, flashStages}
+use Rattle.atomicity.specs.Run.{World, cutShort, happens}
+use Rattle.atomicity.specs.Model.{Model, Entered, keep, closeAll, learns}
+use Rattle.atomicity.specs.Promise.{toldOfCrash, told}
 use Rattle.atomicity.specs.theorems.RunsComputed.{computing}
-use Rattle.everywhere.specs.Cuts.{wipedState, Recorded, Makes, Cut, eventOf, upTo, slotOf, stagePoints, pointsFrom, readsKept, comesBack, sameAfter, cutsIn, cutsFrom, cutsOf, sames, differs, answerBy, eraseOutcomeBy, erasing}
+use Rattle.everywhere.specs.Cuts.{wipedState, Recorded, Makes, Cut, Point, eventOf, upTo, slotOf, stagePoints, pointsFrom, readsKept, comesBack, sameAfter, cutsIn, cutsFrom, cutsOf, sames, differs, answerBy, eraseOutcomeBy, erasing}
 
 unfoldable pub anyWidth : Widths
 anyWidth w = true
@@ -49,9 +58,9 @@ pub record CutsComputed : Type 0 where
   pub own-erases : case6Then false (3 ∷ 1 ∷ []) 1 ≡ true ∷ true ∷ true ∷ true ∷ true ∷ true ∷ true ∷ []
   -- "A trial erase that never answers 12 must give differ above 0 on case 6's script": page 0 comes back with the contents of a ring that was never completed, at every cut from then on
   pub trial : case6Then true (4 ∷ []) 4 ≡ true ∷ true ∷ true ∷ true ∷ false ∷ false ∷ []
-  -- "fills not 0": it is page 0's that counts; were it 0, what was never completed could not be told from the zeros that are kept
-  pub other-fills : found true 3 7 1 (case6 255 0 0 0 ++ Makes (Call.Erase (4 ∷ [])) ∷ []) ≡ true ∷ true ∷ true ∷ true ∷ false ∷ []
-  pub untold : found true 3 7 1 (case6 0 2 3 4 ++ Makes (Call.Erase (4 ∷ [])) ∷ []) ≡ true ∷ true ∷ true ∷ true ∷ true ∷ []
+  -- "fills not 0": with every other; it is page 0's that counts; were it 0, what was never completed could not be told from the zeros that are kept
+  pub every-fill : (a b c d : ℕ) → ¬ (a ≡ 0) → found true 3 7 1 (case6 a b c d ++ Makes (Call.Erase (4 ∷ [])) ∷ []) ≡ true ∷ true ∷ true ∷ true ∷ false ∷ []
+  pub untold : (b c d : ℕ) → found true 3 7 1 (case6 0 b c d ++ Makes (Call.Erase (4 ∷ [])) ∷ []) ≡ true ∷ true ∷ true ∷ true ∷ true ∷ []
   -- "in rising slot order within an erase": in one call with the straddler the exposed record goes first, though it is listed last
   pub rising : case6Then true (4 ∷ 3 ∷ []) 3 ≡ true ∷ true ∷ true ∷ true ∷ true ∷ true ∷ true ∷ []
   pub rising-three : case6Then true (4 ∷ 1 ∷ 3 ∷ []) 3 ≡ true ∷ true ∷ true ∷ true ∷ true ∷ true ∷ true ∷ true ∷ []
@@ -74,6 +83,65 @@ unfoldable pub cuts-computing : Unit {0}
 unfolding computing wipedState eventOf upTo slotOf stagePoints pointsFrom readsKept comesBack sameAfter cutsIn cutsFrom cutsOf sames differs answerBy eraseOutcomeBy
 cuts-computing = tt
 
+-- ---- case 6's script with any fills
+
+-- the volume that it leaves: slots 0 to 2 hold the formatted records, 3 (0,1,0,1,1), 4 (1,2,0,2,1), 5 (2,1,0,1,2) and 6 (1,3,2,1,3)
+unfoldable pub left6 : (a b c d : ℕ) → World
+left6 a b c d =
+    record {
+      volume = volume (tableOf 7 (formattedRecords 3 ++ given 0 1 0 1 1 ∷ given 1 2 0 2 1 ∷ given 2 1 0 1 2 ∷ given 1 3 2 1 3 ∷ [])) (0 ∷ 0 ∷ 0 ∷ a ∷ b ∷ c ∷ d ∷ []) (0 ∷ 1 ∷ noNumber ∷ 0 ∷ 3 ∷ 3 ∷ noNumber ∷ 0 ∷ 1 ∷ 1 ∷ noNumber ∷ 0 ∷ []);
+      lost = false;
+    }
+
+-- what is kept then
+unfoldable pub kept6 : (b c d : ℕ) → Model
+kept6 b c d = record { kept = keep (Entered 1 (d ∷ []) ∷ []) (keep (Entered 1 (b ∷ []) ∷ Entered 2 (c ∷ []) ∷ []) (λ p. 0 ∷ [])); rings = [] }
+
+-- what is found up to there, and then
+fills-then :
+    (a b c d : ℕ) (script : List Recorded)
+    → found true 3 7 1 (case6 a b c d ++ script)
+    ≡ true ∷ true ∷ (eqb b b && eqb c c) ∷ (eqb d d && eqb c c) ∷ cutsFrom (erasing true) anyWidth (sizesOf 3 7 1) (left6 a b c d) (kept6 b c d) script
+unfolding cuts-computing anyWidth buffers found case6 left6 kept6
+fills-then a b c d script = refl
+
+-- erase refuses the straddler: its one twin is itself
+straddler-refused : (a b c d : ℕ) → eraseAnswer anyWidth (sizesOf 3 7 1) (left6 a b c d .volume) (4 ∷ []) ≡ 12
+unfolding cuts-computing anyWidth left6
+straddler-refused a b c d = by (eqb b b)
+  where
+    by : (same : Bool) → (not ((((same && false) || false) || false) || false) ⇒ 12 otherwise 0) ≡ 12
+    by true = refl
+    by false = refl
+
+-- … so that a trial erase of it has one stage with one step
+trial-stages : (a b c d : ℕ) → flashStages (erasing true) anyWidth (sizesOf 3 7 1) (left6 a b c d .volume) (Call.Erase (4 ∷ [])) ≡ (Step.Blank 4 ∷ []) ∷ []
+unfolding flashStages perform withFlash plannedStages eraseSteps eraseOutcomeBy answerBy settled
+trial-stages a b c d = rw (straddler-refused a b c d)
+
+-- the cuts of an erase with these stages
+unfoldable cutsBy : (a b c d : ℕ) → List (List Step) → List Bool
+cutsBy a b c d stages =
+    map (λ (p : Point). comesBack (erasing true) anyWidth (sizesOf 3 7 1) (record { flash = applyAll 1 (left6 a b c d .volume .flash) (cutShort (p .stage) (p .done) stages); state = wipedState (sizesOf 3 7 1) }) (kept6 b c d .kept)) (pointsFrom 0 stages)
+
+trial-cuts : (a b c d : ℕ) → cutsFrom (erasing true) anyWidth (sizesOf 3 7 1) (left6 a b c d) (kept6 b c d) (Makes (Call.Erase (4 ∷ [])) ∷ []) ≡ cutsBy a b c d ((Step.Blank 4 ∷ []) ∷ []) ++ []
+unfolding cutsFrom cutsIn sameAfter happens told toldOfCrash learns closeAll cutsBy
+trial-cuts a b c d = rw (trial-stages a b c d)
+
+trial-found : (a b c d : ℕ) → cutsBy a b c d ((Step.Blank 4 ∷ []) ∷ []) ≡ ((eqb a 0 && eqb d d) && eqb c c) ∷ []
+unfolding cuts-computing anyWidth left6 kept6 cutsBy
+trial-found a b c d = refl
+
+every-fill : (a b c d : ℕ) → ¬ (a ≡ 0) → found true 3 7 1 (case6 a b c d ++ Makes (Call.Erase (4 ∷ [])) ∷ []) ≡ true ∷ true ∷ true ∷ true ∷ false ∷ []
+every-fill a b c d h =
+    fills-then a b c d (Makes (Call.Erase (4 ∷ [])) ∷ [])
+    ∙ rw (trial-cuts a b c d, trial-found a b c d, eq-eqb b b refl, eq-eqb c c refl, eq-eqb d d refl, ne-eqb a 0 h) refl
+
+untold : (b c d : ℕ) → found true 3 7 1 (case6 0 b c d ++ Makes (Call.Erase (4 ∷ [])) ∷ []) ≡ true ∷ true ∷ true ∷ true ∷ true ∷ []
+untold b c d = fills-then 0 b c d (Makes (Call.Erase (4 ∷ [])) ∷ []) ∙ rw (trial-cuts 0 b c d, trial-found 0 b c d, eq-eqb b b refl, eq-eqb c c refl, eq-eqb d d refl) refl
+
+-- ---- the cases hold
+
 pub cuts-computed : CutsComputed
 unfolding cuts-computing anyWidth buffers found case6 case6Then
 cuts-computed =
@@ -81,8 +149,8 @@ cuts-computed =
       own = refl;
       own-erases = refl;
       trial = refl;
-      other-fills = refl;
-      untold = refl;
+      every-fill = every-fill;
+      untold = untold;
       rising = refl;
       rising-three = refl;
       one-page = refl;
