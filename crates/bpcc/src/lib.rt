@@ -1,4 +1,4 @@
-// The C interface: every call, exported. The functions `star_cases`, `meanings`, `exposed_found`, `promise_3`, `cleaning`, `sweeping`, `picking`, `doubting`, `two_widths` and `slowest_start` pin theorems in their contracts.
+// The C interface: every call, exported. The functions `star_cases`, `refusals`, `meanings`, `exposed_found`, `promise_3`, `cleaning`, `sweeping`, `picking`, `doubting`, `two_widths` and `slowest_start` pin theorems in their contracts.
 
 pub mod scc; // scc.rt: the second family
 
@@ -44,6 +44,7 @@ ghost use Rattle.upkeep.specs.Swept.{SweepErases, SweptBare};
 ghost use Rattle.upkeep.specs.Picked.{GoingRound, Picked, LargerFindsNoLess};
 ghost use Rattle.upkeep.specs.Doubted.{Fillings, Doubted, NoneRecovers, EmptyListRecovers};
 ghost use Rattle.cases.specs.Doubtful.{doubtfulRows};
+ghost use Rattle.cases.specs.Order.{orderRows};
 ghost use Rattle.rules.specs.laws.Found.{FoundExactly, JudgedByFound};
 ghost use Rattle.rules.specs.Meanings.{SoundMeans, PermissionMeans, EraseMeans, SuggestMeans, AstrayMeans, TwinsAlone, SecondMeans, SimpleEraseMeans, BuryMeans};
 ghost use Rattle.atomicity.specs.Family.{backPointer};
@@ -396,6 +397,11 @@ pub fn star_cases()
     ensures records { λ _. ⌜ RowsHold writeRows ⌝ }
     ensures suggested { λ _. ⌜ RowsHold suggestRows ⌝ }
     ensures outdone { λ _. ⌜ RowsHold outdoneRows ⌝ }
+{}
+
+// Each call tries its conditions in the documents' order: where all are met the first is told, without that the next, and so on to 0; computed, of every call of both families.
+pub fn refusals()
+    ensures order { λ _. ⌜ RowsHold orderRows ⌝ }
 {}
 
 // The tests and answers are exactly documents 01's and 02's sentences: what is sound; what may be erased, and what 12 and 13 mean; where links go astray, in both families; that recovery and suggest see

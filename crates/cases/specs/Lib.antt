@@ -1,2 +1,5 @@
 pub mod Simple
 pub mod Doubtful
+pub mod OrderBoth
+pub mod OrderFirst
+pub mod Order
