@@ -1,28 +1,16 @@
--- The words of a filling: five stores that blank one slot, and a loop that blanks the listed slots whose digits are 1.
-use Prim.Native.Nat.{ℕ, suc, _+_, _*_, _/_, _%_, _<_, _≤_}
-use native.Mathlib.Numerals.{add-one, add-two, add-three, add-four}
-use mathlib.Core.Path.{_≡_, refl, _∙_}
-use mathlib.Core.List.{List, [], _∷_, append-assoc}
-use lib.ListN.{length, getD, set, take, drop, drop-of-length-le}
-use lib.Seq.{drop-cons, sets-eq}
-use Rattle.bounded.specs.Limits.{noNumber}
-use Rattle.bounded.specs.Parts.{putAt, putPart}
+-- The words of a filling: a loop that blanks the listed slots whose digits are 1.
+use Prim.Native.Nat.{ℕ, suc, _+_, _/_, _%_, _<_, _≤_}
+use native.Mathlib.Numerals.{add-one}
+use mathlib.Core.Path.{_≡_, refl}
+use mathlib.Core.List.{List}
+use lib.ListN.{length, getD, drop, drop-of-length-le}
+use lib.Seq.{drop-cons}
+use Rattle.bounded.specs.Parts.{putPart}
 use Rattle.sizes.specs.declared.Layout.the-variants.{FiveWords}
 use Rattle.record.specs.Slot.{encoded, blankRecord}
 use Rattle.upkeep.specs.Doubtful.{absentIn}
 use Rattle.upkeep.specs.laws.Fillings.{there, absent}
 use Rattle.doubtful.specs.Filled.{blankedWords}
-
--- ---- one slot blank
-
--- five stores from 5k on write a blank slot
-pub five-put : (words : List ℕ) (k : ℕ) → 5 * k + 5 ≤ length words → set (set (set (set (set words (5 * k) noNumber) (5 * k + 1) noNumber) (5 * k + 2) noNumber) (5 * k + 3) noNumber) (5 * k + 4) noNumber ≡ putPart 5 k (encoded FiveWords blankRecord) words
-unfolding putPart putAt encoded blankRecord
-five-put words k h =
-    let five = noNumber ∷ noNumber ∷ noNumber ∷ noNumber ∷ noNumber ∷ [] in
-    rw (add-one (5 * k), add-two (5 * k), add-three (5 * k), add-four (5 * k)) (sets-eq five words (5 * k) h ∙ append-assoc (take (5 * k) words) five (drop (5 * k + 5) words))
-
--- ---- a loop that blanks the listed slots whose digits are 1
 
 -- the words with the slots blank that stand from place i on, by these digits
 unfoldable pub restBlanked : (list : List ℕ) → (i digits : ℕ) → List ℕ → List ℕ

@@ -1,6 +1,6 @@
 // One filling: the slot table with some of the doubtful slots blank.
 
-use sizes::NO_NUMBER;
+use record::Record;
 ghost use mathlib.Core.Path.{_≡_};
 ghost use Prim.Native.Nat.{ℕ, _+_, _*_, _≤_, _<_};
 ghost use lib.ListN.{length, getD};
@@ -24,11 +24,7 @@ fn blank_slot(filled: &mut [u32], slot: u32)
     ensures { λ _. ⌜ now (filled .exit) ≡ putPart 5 slot (encoded FiveWords blankRecord) (now (filled .entry)) ⌝ }
 {
     let a = 5 * (slot as usize);
-    filled[a] = NO_NUMBER;
-    filled[a + 1] = NO_NUMBER;
-    filled[a + 2] = NO_NUMBER;
-    filled[a + 3] = NO_NUMBER;
-    filled[a + 4] = NO_NUMBER;
+    record::flash::store_five(&mut filled[a..a + 5], Record::BLANK);
 }
 
 // Filling m: the words with the slots blank whose digits in m, in base 2, are 1.

@@ -10,7 +10,7 @@ use super::Record;
 use sizes::Layout;
 
 // The record writer: the record's words into a slot's five.
-fn store_five(part: &mut [u32], record: Record)
+pub fn store_five(part: &mut [u32], record: Record)
     requires { ⌜ length (now part) ≡ 5 ⌝ }
     ensures { λ _. ⌜ now (part .exit) ≡ encoded FiveWords «record» ⌝ }
 {
@@ -56,8 +56,8 @@ pub fn copy_contents(to: &mut [u8], from: &[u8])
 }
 
 // One flash step: the slot's words become the record's, and its bytes those given. It is the one function that stores to flash: a format calls it for
-// every slot, and after that a write calls it once, an erase once for each listed slot, and a cleaning once for each copy and then for each slot of its block (blank slots by
-// `fill_slot`).
+// every slot, and after that a write calls it once, an erase once for each listed slot, a cleaning once for each copy and then for each slot of its block, and
+// a sweep once for each slot of its three erasures (blank slots by `fill_slot`).
 pub fn put_slot(
     layout: Layout,
     words: &mut [u32],

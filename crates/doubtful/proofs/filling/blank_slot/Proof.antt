@@ -1,79 +1,44 @@
--- The five stores write the words of a blank slot.
-use native.Mathlib.Omega.{arith}
-use lib.ListN.{length-set}
-use Rattle.doubtful.specs.FilledLaws.{five-put}
+-- The lent part comes back with the words of a blank slot, and the rest is as it was.
+use borrow.Author.Needs.{needs}
+use Rattle.sizes.specs.declared.Layout.the-variants.{FiveWords}
+use Rattle.record.specs.Slot.{encoded, blankRecord}
+use Rattle.record.specs.SlotLaws.{encoded-length}
+use Rattle.record.specs.CopyLaws.{lent-part}
 use Rattle.doubtful.proofs.filling.blank_slot.Statement.{statement}
 use Rattle.doubtful.proofs.filling.blank_slot.Tie as tie
 
 mul-a : tie.Need-mul-a
-mul-a c = omega arith
+mul-a c = search needs
 
-mul-filled : tie.Need-mul-filled
-mul-filled c = omega arith
+add-store-five : tie.Need-add-store-five
+add-store-five c = search needs
 
-slice-write-filled : tie.Need-slice-write-filled
-slice-write-filled c = omega arith
+mul-store-five : tie.Need-mul-store-five
+mul-store-five c = search needs
 
-add-filled : tie.Need-add-filled
-add-filled c = omega arith
+sub-store-five : tie.Need-sub-store-five
+sub-store-five c = search needs
 
-mul-filled-2 : tie.Need-mul-filled-2
-mul-filled-2 c = omega arith
+part-store-five-start : tie.Need-part-store-five-start
+part-store-five-start c = search needs
 
-slice-write-filled-2 : tie.Need-slice-write-filled-2
-slice-write-filled-2 c = simp length-set (omega arith)
+part-store-five-end : tie.Need-part-store-five-end
+part-store-five-end c = search needs
 
-add-filled-2 : tie.Need-add-filled-2
-add-filled-2 c = omega arith
-
-mul-filled-3 : tie.Need-mul-filled-3
-mul-filled-3 c = omega arith
-
-slice-write-filled-3 : tie.Need-slice-write-filled-3
-slice-write-filled-3 c = simp length-set (omega arith)
-
-add-filled-3 : tie.Need-add-filled-3
-add-filled-3 c = omega arith
-
-mul-filled-4 : tie.Need-mul-filled-4
-mul-filled-4 c = omega arith
-
-slice-write-filled-4 : tie.Need-slice-write-filled-4
-slice-write-filled-4 c = simp length-set (omega arith)
-
-add-filled-4 : tie.Need-add-filled-4
-add-filled-4 c = omega arith
-
-mul-filled-5 : tie.Need-mul-filled-5
-mul-filled-5 c = omega arith
-
-slice-write-filled-5 : tie.Need-slice-write-filled-5
-slice-write-filled-5 c = simp length-set (omega arith)
+store-five-requires : tie.Need-store-five-requires
+store-five-requires c κs = search needs
 
 same-length : tie.Need-same-length
-same-length c = simp length-set
+same-length c = search needs
 
 returns : tie.Need-returns
-returns c = five-put (c .args .filled .now) (c .args .slot) (c .pre)
+unfolding blankRecord
+returns c =
+    let s = c .before .before .store-five in
+    let a = c .before .before .before .before .before .args in
+    lent-part (a .filled .now) (s .last .0) (encoded FiveWords blankRecord) 5 (a .slot) (s .ensures) (encoded-length FiveWords blankRecord)
 
 pub blank-slot-spec : {M : Type 1} → statement M
 blank-slot-spec =
     tie.close
-    (tie.spec
-    mul-a
-    mul-filled
-    slice-write-filled
-    add-filled
-    mul-filled-2
-    slice-write-filled-2
-    add-filled-2
-    mul-filled-3
-    slice-write-filled-3
-    add-filled-3
-    mul-filled-4
-    slice-write-filled-4
-    add-filled-4
-    mul-filled-5
-    slice-write-filled-5
-    same-length
-    returns)
+    (tie.spec mul-a add-store-five mul-store-five sub-store-five part-store-five-start part-store-five-end store-five-requires same-length returns)
