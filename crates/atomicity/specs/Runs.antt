@@ -1,4 +1,4 @@
--- Runs that meet the premises, computed: three end in contents that are not the formatted zeros; in the fourth a ring that a recover closed stays closed; in the fifth a block is
+-- Runs that meet the premises, computed: the first three end in contents that are not the formatted zeros; in the fourth a ring that a recover closed stays closed; in the fifth a block is
 -- cleaned, with a crash, by small blocks of two tables; in the sixth the volume is swept, with a crash behind the first erasure; a seventh, of records without a back pointer, has a write that is refused by 16.
 use Prim.Native.Nat.{ℕ}
 use mathlib.Core.Path.{_≡_}

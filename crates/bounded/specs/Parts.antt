@@ -1,4 +1,4 @@
--- A list as parts of one width w: part k is the elements wk to wk + w − 1. The slot table (w = 5), the contents and the state (w = 4) are such lists.
+-- A list as parts of one width w: part k is the elements wk to wk + w − 1. The slot table (w = 5, or 4), the contents and the state (w = 4) are such lists.
 use Prim.Native.Nat.{ℕ, zero, suc, _+_, _*_}
 use mathlib.Core.List.{List, [], _++_}
 use mathlib.Core.Bool.{cond}

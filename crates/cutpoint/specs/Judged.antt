@@ -1,4 +1,4 @@
--- What the functions that judge cuts give, as the definitions of crate atomicity have it.
+-- What the functions that judge cuts give, as the definitions of crate everywhere have it.
 use Prim.Native.Nat.{ℕ, _+_}
 use mathlib.Core.List.{List, map}
 use mathlib.Core.Bool.{Bool}

@@ -1,5 +1,5 @@
 // What a failing chip may lose, document 02, wish 11: each filling of a volume some of whose slots are in doubt is recovered, and each page's lowest and highest version kept. The definitions are in crate
-// rules; recovery is crate recovery's.
+// upkeep; recovery is crate recovery's.
 
 mod filling; // filling.rt: one filling of the slot table
 mod tests; // tests.rt: what a call tests before a filling is tried

@@ -1,5 +1,5 @@
 -- A recorded run with a cut at every point: each cut is counted once, and of our own calls none differs. What promise 3 says of a run holds at every cut: a call that comes
--- while the state is lost is a recover, or is refused by 5, and then it alters nothing and has no cut.
+-- while the state is lost is a recover, or is refused, and then it alters nothing and has no cut.
 use Prim.Native.Nat.{ℕ, suc, _+_, _*_, _<_}
 use native.Mathlib.Omega.{arith}
 use mathlib.Core.Path.{_≡_, refl, sym, ap, ap₂, _∙_, subst}

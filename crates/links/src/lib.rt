@@ -1,4 +1,4 @@
-// What the links say: one link's verdict, following links, committed versions. The definitions are in crate rules.
+// What the links say: one link's verdict, following links, committed versions. The definitions are in crates rules and follow.
 
 mod link; // link.rt: one link's verdict
 mod second; // second.rt: the second highest version

@@ -1,4 +1,4 @@
-// A block is picked while the organist waits, document 02, wish 9: of some blocks, going round from one, that which frees most. The definitions are in crate rules;
+// A block is picked while the organist waits, document 02, wish 9: of some blocks, going round from one, that which frees most. The definitions are in crate upkeep;
 // what may be erased is judged in crate judge.
 
 mod look; // look.rt: what the blocks that are looked at free

@@ -1,4 +1,4 @@
-// Records and slots: the five words of a slot, and what stands in one. The definitions are in specs/.
+// Records and slots: the words of a slot, five or four, and what stands in one. The definitions are in specs/.
 
 pub mod copy; // copy.rt: words copied
 pub mod flash; // flash.rt: the one function that alters a slot

@@ -1,4 +1,4 @@
-// A full sweep, document 02, wish 7: three erasures in a row, each finished before the next begins. The definitions are in crate rules; what may be erased is
+// A full sweep, document 02, wish 7: three erasures in a row, each finished before the next begins. The definitions are in crate upkeep; what may be erased is
 // judged in crates permit and judge.
 
 mod choice; // choice.rt: the slots that each of the three erases
