@@ -1,18 +1,19 @@
 -- What the tests and answers mean, stated: each is exactly its sentence in document 01 or 02.
-use Prim.Native.Nat.{ℕ, _≤_, _<_}
+use Prim.Native.Nat.{ℕ, _*_, _≤_, _<_}
 use mathlib.Core.Path.{_≡_}
 use mathlib.Core.List.{List, [], _∷_}
 use mathlib.Core.Logic.{_⊎_, _↔_}
 use mathlib.Core.Bool.{Bool, true}
 use lib.ListN.{length, getD}
 use Rattle.bounded.specs.Limits.{Widths}
+use Rattle.sizes.specs.declared.Layout.{Layout}
 use Rattle.sizes.specs.declared.Layout.the-variants.{FourWords}
 use Rattle.sizes.specs.declared.Sizes.{Sizes}
-use Rattle.sizes.specs.Sizes.{listed}
+use Rattle.sizes.specs.Sizes.{strideOf, listed}
 use Rattle.record.specs.declared.Record.{Record}
 use Rattle.record.specs.declared.Slot.{Slot}
 use Rattle.record.specs.declared.Slot.the-variants.{Blank, Holds}
-use Rattle.record.specs.Slot.{recordSound}
+use Rattle.record.specs.Slot.{slotIn, recordSound}
 use Rattle.record.specs.SlotLaws.{SoundRecord}
 use Rattle.record.specs.Flash.{flash}
 use Rattle.state.specs.declared.PageState.{PageState}
@@ -34,8 +35,9 @@ use Rattle.rules.specs.laws.Simple.{BelowHighest, BuriedBy}
 
 -- ---- what is sound
 
--- A slot "is sound if p and np are below P, …"; and a table where each is blank or holds such a record; and the state "is sound if committed is at most used, …"
+-- A slot past the table's words is blank. A slot "is sound if p and np are below P, …"; and a table where each is blank or holds such a record; and the state "is sound if committed is at most used, …"
 pub record SoundMeans : Type 0 where
+  pub past-words : (layout : Layout) (words : List ℕ) (k : ℕ) → length words ≤ strideOf layout * k → slotIn layout words k ≡ Blank
   pub one-record : (P : ℕ) (r : Record) → (recordSound P r ≡ true) ↔ SoundRecord P r
   pub table : (P S : ℕ) (t : ℕ → Slot) → (tableSound P S t ≡ true) ↔ ((k : ℕ) → k < S → (t k ≡ Blank) ⊎ ((r : Record) × (t k ≡ Holds r) × SoundRecord P r))
   pub state : (P : ℕ) (st : ℕ → PageState) → (stateSound P st ≡ true) ↔ StateFacts P st

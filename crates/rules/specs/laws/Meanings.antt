@@ -1,27 +1,30 @@
 -- The tests and answers mean their sentences.
-use Prim.Native.Nat.{ℕ, zero, suc, _<_}
+use Prim.Native.Nat.{ℕ, zero, suc, _*_, _≤_, _<_}
 use native.Mathlib.Omega.{arith}
 use mathlib.Core.Path.{_≡_, refl, sym, ap, _∙_}
 use mathlib.Core.List.{List, [], _∷_}
 use mathlib.Core.Logic.{_⊎_, inl, inr, _↔_, ⊎-elim}
 use mathlib.Core.Bool.{Bool, true, false, not, _&&_, _||_}
 use lib.Dec.{ltb, eqb}
-use lib.ListN.{length, getD}
+use lib.ListN.{length, getD, List·getD-eq-default}
 use borrow.Author.Tests.{not-true, not-false}
-use Rattle.bounded.specs.Limits.{Widths}
+use Rattle.bounded.specs.Limits.{noNumber, Widths}
+use Rattle.bounded.specs.Parts.{part}
+use Rattle.bounded.specs.PartsLaws.{part-at}
 use Rattle.bounded.specs.Choice.{never, on-test}
 use Rattle.bounded.specs.Below.{allBelow, someBelow, firstBelow}
 use Rattle.bounded.specs.BelowLaws.{all-each, some-not-at}
 use Rattle.outcome.specs.Outcome.{_⇒_otherwise_, Outcome}
 use Rattle.outcome.specs.OutcomeLaws.{settled-answer}
+use Rattle.sizes.specs.declared.Layout.{Layout}
 use Rattle.sizes.specs.declared.Layout.the-variants.{FourWords}
 use Rattle.sizes.specs.declared.Sizes.{Sizes}
-use Rattle.sizes.specs.Sizes.{sizesOk, wordsFitIn, contentsFit, stateFits, listOk, listed}
+use Rattle.sizes.specs.Sizes.{strideOf, sizesOk, wordsFitIn, contentsFit, stateFits, listOk, listed}
 use Rattle.record.specs.declared.Record.{Record}
 use Rattle.record.specs.declared.Slot.{Slot}
 use Rattle.record.specs.declared.Slot.the-variants.{Blank, Holds}
 use Rattle.record.specs.Slot.{recordSound, slotSound, slotIn, isBlank}
-use Rattle.record.specs.SlotLaws.{SoundRecord, sound-exactly}
+use Rattle.record.specs.SlotLaws.{SoundRecord, sound-exactly, slot-blank-exactly}
 use Rattle.record.specs.Flash.{flash}
 use Rattle.state.specs.declared.PageState.{PageState}
 use Rattle.state.specs.State.{stateSound, inFlight, isWritten}
@@ -82,10 +85,18 @@ some-fails f (suc n) e =
 
 -- ---- what is sound
 
+-- of the words past the table's there is none
+past-blank : (layout : Layout) (words : List ℕ) (k : ℕ) → length words ≤ strideOf layout * k → slotIn layout words k ≡ Blank
+unfolding slotIn
+past-blank layout words k h =
+    slot-blank-exactly layout (part (strideOf layout) k words) .1
+    (λ i b. part-at (strideOf layout) k words i noNumber b ∙ List·getD-eq-default words noNumber (omega arith))
+
 pub sound-means : SoundMeans
 unfolding tableSound slotSound
 sound-means =
     record {
+      past-words = past-blank;
       one-record = sound-exactly;
       table = λ P S t. (
         λ e k h. slot P (t k) (all-each (λ k. slotSound P (t k)) S .0 e k h),
