@@ -9,20 +9,19 @@ use Rattle.bounded.specs.Limits.{Widths}
 use Rattle.sizes.specs.declared.Layout.the-variants.{FourWords}
 use Rattle.sizes.specs.declared.Sizes.{Sizes}
 use Rattle.sizes.specs.Sizes.{listOk}
-use Rattle.record.specs.Slot.{slotIn, holds}
-use Rattle.state.specs.State.{stateAt}
-use Rattle.rules.specs.Volume.{Volume}
+use Rattle.record.specs.Slot.{holds}
+use Rattle.rules.specs.Volume.{Volume, slotsIn, pagesOf}
 use Rattle.rules.specs.Permission.{isExposed, isCurrent}
 use Rattle.rules.specs.SimpleCalls.{simpleWriteAnswer, simpleEraseAnswer}
 use Rattle.atomicity.specs.Family.{simple}
 use Rattle.atomicity.specs.Call.{Call, perform}
-use Rattle.atomicity.specs.Run.{Event, started, after}
+use Rattle.atomicity.specs.Run.{Event, worldAfter}
 use Rattle.atomicity.specs.Promise.{Premises}
 use Rattle.atomicity.specs.Companions.{StateKnown}
 
 -- slot k holds "an exposed record other than one whose page is in flight with v = used"
 abbrev pub SpareAt : Volume → ℕ → Type 0
-SpareAt v k = holds (λ r. isExposed (stateAt (v .state)) r && not (isCurrent (stateAt (v .state)) r)) (slotIn FourWords (v .flash .words) k) ≡ true
+SpareAt v k = holds (λ r. isExposed (pagesOf v) r && not (isCurrent (pagesOf v) r)) (slotsIn FourWords v k) ≡ true
 
 -- the list has every slot that holds one
 abbrev pub ListsSpare : Sizes → Volume → List ℕ → Type 0
@@ -54,7 +53,7 @@ pub record Unburied : Type 0 where
       (widths : Widths) (sizes : Sizes) (v : Volume) (events : List Event)
       → Premises simple widths sizes v events
       → StateKnown simple widths sizes v events
-      → UnburiedAt widths sizes (after simple widths sizes (started simple widths sizes v) events .volume)
+      → UnburiedAt widths sizes (worldAfter simple widths sizes v events .volume)
   -- and a list of such slots, none of them twice, is accepted wherever a write is refused by 16.
   pub accepted :
       (widths : Widths) (sizes : Sizes) (v : Volume) (page slot : ℕ) (bytes slots : List ℕ)

@@ -8,8 +8,7 @@ use Rattle.outcome.specs.Outcome.{Outcome}
 use Rattle.sizes.specs.declared.Sizes.{Sizes}
 use Rattle.sizes.specs.Blocks.{NamedBlock}
 use Rattle.record.specs.Flash.{Flash, Step}
-use Rattle.state.specs.State.{stateAt}
-use Rattle.rules.specs.Volume.{Volume}
+use Rattle.rules.specs.Volume.{Volume, pagesOf}
 use Rattle.rules.specs.Launch.{launchOutcome}
 use Rattle.rules.specs.Withdraw.{withdrawOutcome}
 use Rattle.rules.specs.Erase.{eraseSteps}
@@ -48,7 +47,7 @@ perform F widths sizes v Sweep = withFlash v (F .sweep widths sizes v)
 -- are the last; a sweep has three, its erasures; every other call alters no flash.
 unfoldable pub plannedStages : Family → Sizes → Volume → Call → List (List Step)
 plannedStages F sizes v (Launch pages) = []
-plannedStages F sizes v (Write page slot bytes) = (Step.Store slot (F .plan (stateAt (v .state)) page) bytes ∷ []) ∷ []
+plannedStages F sizes v (Write page slot bytes) = (Step.Store slot (F .plan (pagesOf v) page) bytes ∷ []) ∷ []
 plannedStages F sizes v (Withdraw page) = []
 plannedStages F sizes v (Erase slots) = eraseSteps slots ∷ []
 plannedStages F sizes v Recover = []

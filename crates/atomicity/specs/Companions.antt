@@ -11,37 +11,37 @@ use Rattle.sizes.specs.declared.Sizes.{Sizes}
 use Rattle.sizes.specs.Blocks.{NamedBlock}
 use Rattle.record.specs.declared.Slot.{Slot}
 use Rattle.record.specs.declared.Slot.the-variants.{Holds}
-use Rattle.record.specs.Slot.{slotIn, slotAt, isBlank}
+use Rattle.record.specs.Slot.{slotAt, isBlank}
 use Rattle.record.specs.Flash.{Step, applyAllIn}
 use Rattle.state.specs.declared.PageState.{PageState}
 use Rattle.state.specs.State.{stateAt, inFlight, isWritten}
 use Rattle.table.specs.Table.{mentioned, usedOf}
-use Rattle.rules.specs.Volume.{Volume}
+use Rattle.rules.specs.Volume.{Volume, slotsIn, pagesOf}
 use Rattle.rules.specs.laws.Volume.{FitsIn}
 use Rattle.rules.specs.Read.{readOutcomeIn}
 use Rattle.upkeep.specs.Swept.{Sorted}
 use Rattle.atomicity.specs.Family.{Family, backPointer}
 use Rattle.atomicity.specs.Call.{Call, perform, flashStages}
-use Rattle.atomicity.specs.Run.{Event, wasDone, cutShort, happens, started, after}
+use Rattle.atomicity.specs.Run.{Event, wasDone, cutShort, happens, worldAfter}
 use Rattle.atomicity.specs.Promise.{Premises}
 
 -- ---- the paper's InvComm and InvUsed
 
 -- recovery on the flash of this volume would find the state's committed versions, and used versions not above the state's
 pub record Agrees (F : Family) (P S : ℕ) (v : Volume) : Type 0 where
-  pub same-committed : (p : ℕ) → p < P → F .committed P S (slotIn (F .layout) (v .flash .words)) p ≡ stateAt (v .state) p .committed
-  pub used-covers : (p : ℕ) → p < P → usedOf S (slotIn (F .layout) (v .flash .words)) p ≤ stateAt (v .state) p .used
+  pub same-committed : (p : ℕ) → p < P → F .committed P S (slotsIn (F .layout) v) p ≡ pagesOf v p .committed
+  pub used-covers : (p : ℕ) → p < P → usedOf S (slotsIn (F .layout) v) p ≤ pagesOf v p .used
   -- … nor does the record planned for a page q in flight mention one above them
   pub planned-covers :
-      (q : ℕ) → q < P → inFlight (stateAt (v .state) q) ≡ true → (p : ℕ) → p < P → mentioned p (Holds (F .plan (stateAt (v .state)) q)) ≤ stateAt (v .state) p .used
+      (q : ℕ) → q < P → inFlight (pagesOf v q) ≡ true → (p : ℕ) → p < P → mentioned p (Holds (F .plan (pagesOf v) q)) ≤ pagesOf v p .used
 
 -- after every list under the premises that leaves the state known
 abbrev pub StatesAgree : Family → Type 0
 StatesAgree F =
     (widths : Widths) (sizes : Sizes) (v : Volume) (events : List Event)
     → Premises F widths sizes v events
-    → after F widths sizes (started F widths sizes v) events .lost ≡ false
-    → Agrees F (sizes .pages) (sizes .slots) (after F widths sizes (started F widths sizes v) events .volume)
+    → worldAfter F widths sizes v events .lost ≡ false
+    → Agrees F (sizes .pages) (sizes .slots) (worldAfter F widths sizes v events .volume)
 
 -- ---- the premises are met
 
@@ -51,7 +51,7 @@ MayFollow F widths sizes v events e = Premises F widths sizes v (events ++ e ∷
 
 -- the state is known after the list
 abbrev pub StateKnown : Family → Widths → Sizes → Volume → List Event → Type 0
-StateKnown F widths sizes v events = after F widths sizes (started F widths sizes v) events .lost ≡ false
+StateKnown F widths sizes v events = worldAfter F widths sizes v events .lost ≡ false
 
 -- The premises are met: by every volume whose P, S, width and lengths are right, before any event; by every list of calls that return; and a list that meets them
 -- still does with a crash behind it, with a recover, returned or crashed, and, where the state is known, with any call, returned or crashed.
@@ -107,7 +107,7 @@ CleaningUnseen F =
     → Premises F widths sizes v events
     → StateKnown F widths sizes v events
     → (block : NamedBlock)
-    → SameFound F widths sizes (after F widths sizes (started F widths sizes v) events .volume) (perform F widths sizes (after F widths sizes (started F widths sizes v) events .volume) (Call.Clean block) .left)
+    → SameFound F widths sizes (worldAfter F widths sizes v events .volume) (perform F widths sizes (worldAfter F widths sizes v events .volume) (Call.Clean block) .left)
 
 -- what may befall a block's cleaning until it is done: a crash in it, one in a recover or between two calls, and a recover
 pub data Setback : Type 0 where
@@ -128,10 +128,10 @@ abbrev pub CleanedAfterCut : Type 0
 CleanedAfterCut =
     (widths : Widths) (sizes : Sizes) (v : Volume) (events : List Event) (block : NamedBlock) (setbacks : List Setback)
     → StateKnown backPointer widths sizes v events
-    → perform backPointer widths sizes (after backPointer widths sizes (started backPointer widths sizes v) events .volume) (Call.Clean block) .answer ≡ 0
+    → perform backPointer widths sizes (worldAfter backPointer widths sizes v events .volume) (Call.Clean block) .answer ≡ 0
     → Premises backPointer widths sizes v (events ++ map (befalls block) setbacks)
     → StateKnown backPointer widths sizes v (events ++ map (befalls block) setbacks)
-    → perform backPointer widths sizes (after backPointer widths sizes (started backPointer widths sizes v) (events ++ map (befalls block) setbacks) .volume) (Call.Clean block) .answer ≡ 0
+    → perform backPointer widths sizes (worldAfter backPointer widths sizes v (events ++ map (befalls block) setbacks) .volume) (Call.Clean block) .answer ≡ 0
 
 -- ---- sweeping
 
@@ -148,7 +148,7 @@ pub record Sweeps (widths : Widths) (sizes : Sizes) (v : Volume) : Type 0 where
   -- it is done
   pub answers : perform backPointer widths sizes v Call.Sweep .answer ≡ 0
   -- "the number of records left is exactly P plus the written pages in flight"
-  pub records-left : recordsIn (sizes .slots) (slotAt (perform backPointer widths sizes v Call.Sweep .left .flash .words)) ≡ sizes .pages + writtenPages (sizes .pages) (stateAt (v .state))
+  pub records-left : recordsIn (sizes .slots) (slotAt (perform backPointer widths sizes v Call.Sweep .left .flash .words)) ≡ sizes .pages + writtenPages (sizes .pages) (pagesOf v)
   -- the slots that it blanked, sorted by their old record with the state, are its three erasures
   pub sorted : Sorted sizes v (perform backPointer widths sizes v Call.Sweep .left .flash)
   -- "recovery straight before and after gives the same contents for all pages"
@@ -165,4 +165,4 @@ Sweeping =
     (widths : Widths) (sizes : Sizes) (v : Volume) (events : List Event)
     → Premises backPointer widths sizes v events
     → StateKnown backPointer widths sizes v events
-    → Sweeps widths sizes (after backPointer widths sizes (started backPointer widths sizes v) events .volume)
+    → Sweeps widths sizes (worldAfter backPointer widths sizes v events .volume)

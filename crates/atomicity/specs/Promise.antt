@@ -13,7 +13,7 @@ use Rattle.rules.specs.Format.{formatOutcomeIn}
 use Rattle.rules.specs.Read.{readOutcomeIn}
 use Rattle.atomicity.specs.Family.{Family, backPointer}
 use Rattle.atomicity.specs.Call.{Call, perform}
-use Rattle.atomicity.specs.Run.{Event, World, wasDone, happens, started, after, keepsPremises}
+use Rattle.atomicity.specs.Run.{Event, World, wasDone, happens, started, keepsPremises, worldAfter}
 use Rattle.atomicity.specs.Model.{Told, Model, freshModel, learns}
 
 -- what the model is told of a crash in a call: of a write, whether its slot was stored (it would be accepted, and its one step was done)
@@ -63,7 +63,7 @@ PromiseAt F widths =
     → Premises F widths sizes v events
     → (state : List ℕ)
     → length state ≡ 4 * sizes .pages
-    → Recovers F widths sizes (after F widths sizes (started F widths sizes v) events .volume .flash) (modelAfter F widths sizes (started F widths sizes v) (freshModel (sizes .width)) events .kept) state
+    → Recovers F widths sizes (worldAfter F widths sizes v events .volume .flash) (modelAfter F widths sizes (started F widths sizes v) (freshModel (sizes .width)) events .kept) state
 
 -- Promise 3 of a family of records. Document 02: "Show recovery, cleaning and the power-cut guarantee once for any width": that recovery answers 0 is in it, and that it finds
 -- the state's versions is `StatesAgree` of Companions.antt.
@@ -75,7 +75,7 @@ abbrev pub OwnState : Family → Type 0
 OwnState F =
     (widths : Widths) (sizes : Sizes) (v : Volume) (events : List Event)
     → Premises F widths sizes v events
-    → Recovers F widths sizes (after F widths sizes (started F widths sizes v) events .volume .flash) (modelAfter F widths sizes (started F widths sizes v) (freshModel (sizes .width)) events .kept) (after F widths sizes (started F widths sizes v) events .volume .state)
+    → Recovers F widths sizes (worldAfter F widths sizes v events .volume .flash) (modelAfter F widths sizes (started F widths sizes v) (freshModel (sizes .width)) events .kept) (worldAfter F widths sizes v events .volume .state)
 
 -- Promise 3 of document 01's records.
 abbrev pub Promise3 : Type 0

@@ -80,6 +80,10 @@ unfoldable pub after : Family → Widths → Sizes → World → List Event → 
 after F widths sizes x [] = x
 after F widths sizes x (e ∷ events) = after F widths sizes (happens F widths sizes x e) events
 
+-- the world after a list of events, begun on what a format of the volume leaves
+abbrev pub worldAfter : Family → Widths → Sizes → Volume → List Event → World
+worldAfter F widths sizes v events = after F widths sizes (started F widths sizes v) events
+
 -- What a run keeps to, event by event. These are all the premises on a list:
 -- "no call but recover follows until one has answered 0" after a crash; and the state, after a crash, "holds any words", as many as before, 4×P.
 unfoldable pub keepsTo : ℕ → World → Event → Bool

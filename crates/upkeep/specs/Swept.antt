@@ -10,8 +10,7 @@ use Rattle.sizes.specs.declared.Sizes.{Sizes}
 use Rattle.record.specs.declared.Slot.{Slot}
 use Rattle.record.specs.Slot.{slotAt, isBlank}
 use Rattle.record.specs.Flash.{Flash}
-use Rattle.state.specs.State.{stateAt}
-use Rattle.rules.specs.Volume.{Volume}
+use Rattle.rules.specs.Volume.{Volume, slotsOf, pagesOf}
 use Rattle.rules.specs.Erase.{eraseAnswer}
 use Rattle.rules.specs.Suggest.{suggestAnswer}
 use Rattle.upkeep.specs.Sweep.{isSpareExposed, isObsoleteAt, sweptExposed, withoutExposed, sweptObsolete, withoutObsolete, sweptTwins, sweepAnswer, sweepOutcome}
@@ -47,12 +46,12 @@ pub record Sorted (sizes : Sizes) (v : Volume) (after : Flash) : Type 0 where
   -- the first has those whose old record is exposed, and not of a page in flight with v = used;
   pub exposed-first :
       sweptExposed sizes v
-      ≡ listBelow (sizes .slots) (λ k. isBlanked (slotAt (v .flash .words)) (slotAt (after .words)) k && isSpareExposed (slotAt (v .flash .words)) (stateAt (v .state)) k)
+      ≡ listBelow (sizes .slots) (λ k. isBlanked (slotsOf v) (slotAt (after .words)) k && isSpareExposed (slotsOf v) (pagesOf v) k)
   -- the second those whose old record is obsolete;
   pub obsolete-second :
       sweptObsolete sizes v
-      ≡ listBelow (sizes .slots) (λ k. isBlanked (slotAt (v .flash .words)) (slotAt (after .words)) k && isObsoleteAt (slotAt (v .flash .words)) (stateAt (v .state)) k)
+      ≡ listBelow (sizes .slots) (λ k. isBlanked (slotsOf v) (slotAt (after .words)) k && isObsoleteAt (slotsOf v) (pagesOf v) k)
   -- and the third any other
   pub others-last :
       sweptTwins sizes v
-      ≡ listBelow (sizes .slots) (λ k. isBlanked (slotAt (v .flash .words)) (slotAt (after .words)) k && (not (isSpareExposed (slotAt (v .flash .words)) (stateAt (v .state)) k) && not (isObsoleteAt (slotAt (v .flash .words)) (stateAt (v .state)) k)))
+      ≡ listBelow (sizes .slots) (λ k. isBlanked (slotsOf v) (slotAt (after .words)) k && (not (isSpareExposed (slotsOf v) (pagesOf v) k) && not (isObsoleteAt (slotsOf v) (pagesOf v) k)))
