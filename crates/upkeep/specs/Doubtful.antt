@@ -23,7 +23,7 @@ maxDoubtful = 8
 
 -- ---- fillings
 
--- "a list of slots that may be there or blank": with d slots listed there are 2^d fillings, numbered from 0. In filling m the slots are blank whose digits in m, in base 2, are 1; the first listed has the last digit.
+-- "a list of slots that may be there or blank": a filling is a choice of those that are blank. With d slots listed there are 2^d, numbered from 0; filling m chooses the slots whose digits in m, in base 2, are 1, the first listed having the last digit.
 unfoldable pub absentIn : (slots : List ℕ) → (m : ℕ) → List ℕ
 absentIn [] m = []
 absentIn (k ∷ slots) m = cond (eqb (m % 2) 0) (absentIn slots (m / 2)) (k ∷ absentIn slots (m / 2))
