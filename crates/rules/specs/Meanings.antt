@@ -3,26 +3,27 @@ use Prim.Native.Nat.{ℕ, _*_, _≤_, _<_}
 use mathlib.Core.Path.{_≡_}
 use mathlib.Core.List.{List, [], _∷_}
 use mathlib.Core.Logic.{_⊎_, _↔_}
-use mathlib.Core.Bool.{Bool, true}
+use mathlib.Core.Bool.{Bool, true, false, _&&_}
+use lib.Dec.{ltb, eqb}
 use lib.ListN.{length, getD}
 use Rattle.bounded.specs.Limits.{Widths}
 use Rattle.sizes.specs.declared.Layout.{Layout}
 use Rattle.sizes.specs.declared.Layout.the-variants.{FourWords}
 use Rattle.sizes.specs.declared.Sizes.{Sizes}
-use Rattle.sizes.specs.Sizes.{strideOf, listed}
+use Rattle.sizes.specs.Sizes.{strideOf, listOk, listed}
 use Rattle.record.specs.declared.Record.{Record}
 use Rattle.record.specs.declared.Slot.{Slot}
 use Rattle.record.specs.declared.Slot.the-variants.{Blank, Holds}
-use Rattle.record.specs.Slot.{slotIn, recordSound}
+use Rattle.record.specs.Slot.{slotIn, recordSound, isBlank}
 use Rattle.record.specs.SlotLaws.{SoundRecord}
 use Rattle.record.specs.Flash.{flash}
 use Rattle.state.specs.declared.PageState.{PageState}
-use Rattle.state.specs.State.{stateSound}
+use Rattle.state.specs.State.{stateSound, inFlight, isWritten}
 use Rattle.state.specs.StateLaws.{StateFacts}
 use Rattle.table.specs.Table.{tableSound, highestVersionOf}
 use Rattle.twins.specs.Twins.{twins}
 use Rattle.follow.specs.Astray.{RunsIntoRing}
-use Rattle.rules.specs.Volume.{Volume, volume, slotsOf, slotsIn, pagesOf}
+use Rattle.rules.specs.Volume.{Volume, volume, volumeFits, volumeFitsIn, slotsOf, slotsIn, pagesOf}
 use Rattle.rules.specs.Permission.{scene, sceneOf, isNeeded, mayErase}
 use Rattle.rules.specs.Erase.{eraseOutcome}
 use Rattle.rules.specs.Suggest.{suggestOutcome}
@@ -53,15 +54,28 @@ pub record PermissionMeans : Type 0 where
 abbrev pub MayGo : Sizes → Volume → (inList : ℕ → Bool) → ℕ → Type 0
 MayGo sizes v inList k = TwinOutside (sceneOf sizes v) inList k ⊎ ErasableAt (sizes .slots) (slotsOf v) (pagesOf v) k
 
--- An erase that answers 0 lists only slots that may go, and one that answers 12 one that may not.
+-- An erase that answers 0 lists only slots that may go, and one that answers 12 one that may not; where 1, 2, 5 and 6 are not met it answers one of the two.
 pub record EraseMeans : Type 0 where
+  pub either :
+      (widths : Widths) (sizes : Sizes) (v : Volume) (slots : List ℕ)
+      → volumeFits widths sizes v ≡ true
+      → tableSound (sizes .pages) (sizes .slots) (slotsOf v) ≡ true
+      → stateSound (sizes .pages) (pagesOf v) ≡ true
+      → listOk (sizes .slots) slots ≡ true
+      → (eraseOutcome widths sizes v slots .answer ≡ 0) ⊎ (eraseOutcome widths sizes v slots .answer ≡ 12)
   pub permitted :
       (widths : Widths) (sizes : Sizes) (v : Volume) (slots : List ℕ) → eraseOutcome widths sizes v slots .answer ≡ 0 → (i : ℕ) → i < length slots → MayGo sizes v (listed slots) (getD slots i 0)
   pub barred :
       (widths : Widths) (sizes : Sizes) (v : Volume) (slots : List ℕ) → eraseOutcome widths sizes v slots .answer ≡ 12 → (i : ℕ) × (i < length slots) × ¬ (MayGo sizes v (listed slots) (getD slots i 0))
 
--- A suggest that answers 0 names the lowest slot that may go, "a list of one", and one that answers 13 means that none may.
+-- A suggest that answers 0 names the lowest slot that may go, "a list of one", and one that answers 13 means that none may; where 1, 2 and 5 are not met it answers one of the two.
 pub record SuggestMeans : Type 0 where
+  pub either :
+      (widths : Widths) (sizes : Sizes) (v : Volume)
+      → volumeFits widths sizes v ≡ true
+      → tableSound (sizes .pages) (sizes .slots) (slotsOf v) ≡ true
+      → stateSound (sizes .pages) (pagesOf v) ≡ true
+      → (suggestOutcome widths sizes v .answer ≡ 0) ⊎ (suggestOutcome widths sizes v .answer ≡ 13)
   pub lowest :
       (widths : Widths) (sizes : Sizes) (v : Volume)
       → suggestOutcome widths sizes v .answer ≡ 0
@@ -103,6 +117,13 @@ abbrev pub SimplyErasable : (ℕ → Slot) → (ℕ → PageState) → ℕ → T
 SimplyErasable t st k = (r : Record) × (t k ≡ Holds r) × (Obsolete st r ⊎ ExposedSpare st r)
 
 pub record SimpleEraseMeans : Type 0 where
+  pub either :
+      (widths : Widths) (sizes : Sizes) (v : Volume) (slots : List ℕ)
+      → volumeFitsIn FourWords widths sizes v ≡ true
+      → tableSound (sizes .pages) (sizes .slots) (slotsIn FourWords v) ≡ true
+      → stateSound (sizes .pages) (pagesOf v) ≡ true
+      → listOk (sizes .slots) slots ≡ true
+      → (simpleEraseOutcome widths sizes v slots .answer ≡ 0) ⊎ (simpleEraseOutcome widths sizes v slots .answer ≡ 12)
   pub may-erase : (t : ℕ → Slot) (st : ℕ → PageState) (k : ℕ) → (simpleMayErase t st k ≡ true) ↔ SimplyErasable t st k
   pub permitted :
       (widths : Widths) (sizes : Sizes) (v : Volume) (slots : List ℕ) → simpleEraseOutcome widths sizes v slots .answer ≡ 0 → (i : ℕ) → i < length slots → SimplyErasable (slotsIn FourWords v) (pagesOf v) (getD slots i 0)
@@ -113,8 +134,18 @@ pub record SimpleEraseMeans : Type 0 where
 abbrev pub SomeBuried : ℕ → (ℕ → Slot) → (ℕ → PageState) → ℕ → Type 0
 SomeBuried S t st p = (k : ℕ) × (J : Record) × (k < S) × (t k ≡ Holds J) × BuriedBy st p (st p .used) J
 
--- A write that answers 16 would bury such a record, and one that answers 0 buries none.
+-- A write that answers 16 would bury such a record, and one that answers 0 buries none; where no condition before it is met it answers one of the two.
 pub record BuryMeans : Type 0 where
+  pub either :
+      (widths : Widths) (sizes : Sizes) (v : Volume) (page slot : ℕ) (bytes : List ℕ)
+      → (volumeFitsIn FourWords widths sizes v && eqb (length bytes) (sizes .width)) ≡ true
+      → tableSound (sizes .pages) (sizes .slots) (slotsIn FourWords v) ≡ true
+      → stateSound (sizes .pages) (pagesOf v) ≡ true
+      → (ltb page (sizes .pages) && ltb slot (sizes .slots)) ≡ true
+      → inFlight (pagesOf v page) ≡ true
+      → isWritten (pagesOf v page) ≡ false
+      → isBlank (slotsIn FourWords v slot) ≡ true
+      → (simpleWriteOutcome widths sizes v page slot bytes .answer ≡ 0) ⊎ (simpleWriteOutcome widths sizes v page slot bytes .answer ≡ 16)
   pub would-bury : (S : ℕ) (t : ℕ → Slot) (st : ℕ → PageState) (p : ℕ) → (wouldBury S t st p ≡ true) ↔ SomeBuried S t st p
   pub buries :
       (widths : Widths) (sizes : Sizes) (v : Volume) (page slot : ℕ) (bytes : List ℕ) → simpleWriteOutcome widths sizes v page slot bytes .answer ≡ 16 → SomeBuried (sizes .slots) (slotsIn FourWords v) (pagesOf v) page

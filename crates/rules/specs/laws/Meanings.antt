@@ -1,7 +1,7 @@
 -- The tests and answers mean their sentences.
 use Prim.Native.Nat.{ℕ, zero, suc, _*_, _≤_, _<_}
 use native.Mathlib.Omega.{arith}
-use mathlib.Core.Path.{_≡_, refl, sym, ap, _∙_}
+use mathlib.Core.Path.{_≡_, refl, sym, _∙_, subst}
 use mathlib.Core.List.{List, [], _∷_}
 use mathlib.Core.Logic.{_⊎_, inl, inr, _↔_, ⊎-elim}
 use mathlib.Core.Bool.{Bool, true, false, not, _&&_, _||_}
@@ -69,6 +69,11 @@ past-test b n rest m d e = let p = past (not b) n rest m d e in (not-false b (p 
 
 met-test : (b : Bool) (n rest m : ℕ) → ¬ (rest ≡ m) → (not b ⇒ n otherwise rest) ≡ m → b ≡ false
 met-test b n rest m d e = not-true b (met (not b) n rest m d e)
+
+-- the last condition of a chain is met, or 0 is answered
+met-or-done : (b : Bool) (n : ℕ) → ((b ⇒ n otherwise 0) ≡ 0) ⊎ ((b ⇒ n otherwise 0) ≡ n)
+met-or-done true n = inr refl
+met-or-done false n = inl refl
 
 -- where not each passes, one does not
 some-fails : (f : ℕ → Bool) (n : ℕ) → allBelow n f ≡ false → (k : ℕ) × (k < n) × (f k ≡ false)
@@ -140,10 +145,22 @@ module _ (widths : Widths) (sizes : Sizes) (v : Volume) (slots : List ℕ) where
       let d = past-test (listOk (sizes .slots) slots) _ _ 12 (λ z. omega arith) (c .1) in
       met-test (mayEraseAll (sceneOf sizes v) slots) 12 0 12 (λ z. omega arith) (d .1)
 
+erase-either :
+    (widths : Widths) (sizes : Sizes) (v : Volume) (slots : List ℕ)
+    → volumeFits widths sizes v ≡ true
+    → tableSound (sizes .pages) (sizes .slots) (slotsOf v) ≡ true
+    → stateSound (sizes .pages) (pagesOf v) ≡ true
+    → listOk (sizes .slots) slots ≡ true
+    → (eraseOutcome widths sizes v slots .answer ≡ 0) ⊎ (eraseOutcome widths sizes v slots .answer ≡ 12)
+unfolding eraseOutcome eraseAnswer
+erase-either widths sizes v slots a b c d =
+    subst (λ (n : ℕ). (n ≡ 0) ⊎ (n ≡ 12)) (sym (settled-answer (eraseAnswer widths sizes v slots) _ _ _ _ ∙ rw (a, b, c, d) refl)) (met-or-done (not (mayEraseAll (sceneOf sizes v) slots)) 12)
+
 pub erase-means : EraseMeans
 unfolding eraseOutcome mayEraseAll
 erase-means =
     record {
+      either = erase-either;
       permitted = λ widths sizes v slots e i h.
           may-go sizes v (listed slots) (getD slots i 0) .0
           (may-erase-all (sceneOf sizes v) slots .0 (erase-tests widths sizes v slots (sym (settled-answer _ _ _ _ _) ∙ e) .permitted) i h);
@@ -160,10 +177,21 @@ suggest-none widths sizes v e =
     let c = past-test (stateSound (sizes .pages) (pagesOf v)) _ _ 13 (λ z. omega arith) (b .1) in
     met-test (someBelow (sizes .slots) (suggestible sizes v)) 13 0 13 (λ z. omega arith) (c .1)
 
+suggest-either :
+    (widths : Widths) (sizes : Sizes) (v : Volume)
+    → volumeFits widths sizes v ≡ true
+    → tableSound (sizes .pages) (sizes .slots) (slotsOf v) ≡ true
+    → stateSound (sizes .pages) (pagesOf v) ≡ true
+    → (suggestOutcome widths sizes v .answer ≡ 0) ⊎ (suggestOutcome widths sizes v .answer ≡ 13)
+unfolding suggestOutcome suggestAnswer
+suggest-either widths sizes v a b c =
+    subst (λ (n : ℕ). (n ≡ 0) ⊎ (n ≡ 13)) (sym (settled-answer (suggestAnswer widths sizes v) _ _ _ _ ∙ rw (a, b, c) refl)) (met-or-done (not (someBelow (sizes .slots) (suggestible sizes v))) 13)
+
 pub suggest-means : SuggestMeans
 unfolding suggestOutcome suggestible mayEraseAlone
 suggest-means =
     record {
+      either = suggest-either;
       lowest = λ widths sizes v e.
           let l = suggested-lowest widths sizes v (answer widths sizes v 0 e) in (
             l .slot-below,
@@ -287,10 +315,22 @@ barred widths sizes v slots e =
     let d = past-test (listOk (sizes .slots) slots) _ _ 12 (λ z. omega arith) (c .1) in
     met-test (simpleMayEraseAll (slotsIn FourWords v) (pagesOf v) slots) 12 0 12 (λ z. omega arith) (d .1)
 
+simple-erase-either :
+    (widths : Widths) (sizes : Sizes) (v : Volume) (slots : List ℕ)
+    → volumeFitsIn FourWords widths sizes v ≡ true
+    → tableSound (sizes .pages) (sizes .slots) (slotsIn FourWords v) ≡ true
+    → stateSound (sizes .pages) (pagesOf v) ≡ true
+    → listOk (sizes .slots) slots ≡ true
+    → (simpleEraseOutcome widths sizes v slots .answer ≡ 0) ⊎ (simpleEraseOutcome widths sizes v slots .answer ≡ 12)
+unfolding simpleEraseOutcome simpleEraseAnswer
+simple-erase-either widths sizes v slots a b c d =
+    subst (λ (n : ℕ). (n ≡ 0) ⊎ (n ≡ 12)) (sym (settled-answer (simpleEraseAnswer widths sizes v slots) _ _ _ _ ∙ rw (a, b, c, d) refl)) (met-or-done (not (simpleMayEraseAll (slotsIn FourWords v) (pagesOf v) slots)) 12)
+
 pub simple-erase-means : SimpleEraseMeans
 unfolding simpleEraseOutcome simpleMayEraseAll
 simple-erase-means =
     record {
+      either = simple-erase-either;
       may-erase = simple-may-erase-exactly;
       permitted = λ widths sizes v slots e i h.
           simple-may-erase-exactly (slotsIn FourWords v) (pagesOf v) (getD slots i 0) .0
@@ -312,10 +352,26 @@ buried widths sizes v page slot bytes e =
     let h = past-test (isBlank (slotsIn FourWords v slot)) _ _ 16 (λ z. omega arith) (g .1) in
     met (wouldBury (sizes .slots) (slotsIn FourWords v) (pagesOf v) page) 16 0 16 (λ z. omega arith) (h .1)
 
+bury-either :
+    (widths : Widths) (sizes : Sizes) (v : Volume) (page slot : ℕ) (bytes : List ℕ)
+    → (volumeFitsIn FourWords widths sizes v && eqb (length bytes) (sizes .width)) ≡ true
+    → tableSound (sizes .pages) (sizes .slots) (slotsIn FourWords v) ≡ true
+    → stateSound (sizes .pages) (pagesOf v) ≡ true
+    → (ltb page (sizes .pages) && ltb slot (sizes .slots)) ≡ true
+    → inFlight (pagesOf v page) ≡ true
+    → isWritten (pagesOf v page) ≡ false
+    → isBlank (slotsIn FourWords v slot) ≡ true
+    → (simpleWriteOutcome widths sizes v page slot bytes .answer ≡ 0) ⊎ (simpleWriteOutcome widths sizes v page slot bytes .answer ≡ 16)
+unfolding simpleWriteOutcome simpleWriteAnswer
+bury-either widths sizes v page slot bytes a b c d f g h =
+    subst (λ (n : ℕ). (n ≡ 0) ⊎ (n ≡ 16)) (sym (settled-answer (simpleWriteAnswer widths sizes v page slot bytes) _ _ _ _ ∙ rw (a, b, c, d, f, g, h) refl))
+    (met-or-done (wouldBury (sizes .slots) (slotsIn FourWords v) (pagesOf v) page) 16)
+
 pub bury-means : BuryMeans
 unfolding simpleWriteOutcome
 bury-means =
     record {
+      either = bury-either;
       would-bury = buried-exactly;
       buries = λ widths sizes v page slot bytes e. buried-exactly (sizes .slots) (slotsIn FourWords v) (pagesOf v) page .0 (buried widths sizes v page slot bytes (sym (settled-answer _ _ _ _ _) ∙ e));
       buries-none = λ widths sizes v page slot bytes e w.
