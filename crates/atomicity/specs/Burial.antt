@@ -48,7 +48,7 @@ pub record UnburiedAt (widths : Widths) (sizes : Sizes) (v : Volume) : Type 0 wh
       → simpleWriteAnswer widths sizes (perform simple widths sizes v (Call.Erase slots) .left) page slot bytes ≡ 0
 
 pub record Unburied : Type 0 where
-  -- so it is after every list under the premises that leaves the state known;
+  -- this holds of the volume after every list under the premises that leaves the state known;
   pub reached :
       (widths : Widths) (sizes : Sizes) (v : Volume) (events : List Event)
       → Premises simple widths sizes v events

@@ -78,6 +78,9 @@ pub record StagesInOrder (F : Family) : Type 0 where
   pub performed : (widths : Widths) (sizes : Sizes) (v : Volume) (call : Call) → perform F widths sizes v call .left .flash ≡ applyAllIn (F .layout) (sizes .width) (v .flash) (flatten (flashStages F widths sizes v call))
   -- a crash past the last stage leaves all done
   pub past-last : (stage : ℕ) (done : ℕ → Bool) (stages : List (List Step)) → length stages ≤ stage → cutShort stage done stages ≡ flatten stages
+  -- of the crash's own stage any steps were done, and of one behind it none
+  pub own-stage : (stage : ℕ) (done : ℕ → Bool) (i : ℕ) → wasDone stage done stage i ≡ done i
+  pub none-behind : (stage : ℕ) (done : ℕ → Bool) (k i : ℕ) → stage < k → wasDone stage done k i ≡ false
   -- where a step of a stage was done, every step of each stage before it was
   pub in-order : (stage : ℕ) (done : ℕ → Bool) (k i j n : ℕ) → wasDone stage done k i ≡ true → j < k → wasDone stage done j n ≡ true
 

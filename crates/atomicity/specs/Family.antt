@@ -53,7 +53,7 @@ backPointer =
       sweepStages = sweepStages;
     }
 
--- "These volumes are not cleaned", nor swept: there are no such calls, and in a run they refuse by 6 whatever they name
+-- "These volumes are not cleaned", nor swept: there are no such calls, and in a run they refuse by 6
 unfoldable pub noSuchCall : Volume → Outcome Flash
 noSuchCall v = record { answer = 6; second = 0; left = v .flash }
 

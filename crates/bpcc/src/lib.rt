@@ -6,6 +6,7 @@ ghost use mathlib.Core.Path.{_≡_};
 ghost use Rattle.bounded.specs.Limits.{twoWidths};
 ghost use Rattle.outcome.specs.Outcome.{returned};
 ghost use Rattle.outcome.specs.Row.{RowsHold};
+ghost use Rattle.sizes.specs.declared.Layout.{Layout};
 ghost use Rattle.sizes.specs.Sizes.{sizesOf};
 ghost use Rattle.sizes.specs.Blocks.{named};
 ghost use Rattle.record.specs.Flash.{flash};
@@ -29,7 +30,7 @@ ghost use Rattle.upkeep.specs.Sweep.{sweepOutcome};
 ghost use Rattle.upkeep.specs.Pick.{pickOutcome};
 ghost use Rattle.rules.specs.Recover.{recoverOutcome};
 ghost use Rattle.upkeep.specs.Doubtful.{doubtfulOutcome};
-ghost use Rattle.rules.specs.Links.{backPointing, simply, LinksAtMost, OneRingReaches, LinksAreSteps, LinksApart};
+ghost use Rattle.rules.specs.Links.{backPointing, LinksAtMost, OneRingReaches, LinksAreSteps, LinksApart};
 ghost use Rattle.rules.specs.cases.Star.{starTable};
 ghost use Rattle.rules.specs.cases.Found.{foundRows};
 ghost use Rattle.rules.specs.cases.Links.{linkRows};
@@ -46,7 +47,8 @@ ghost use Rattle.upkeep.specs.Doubted.{Fillings, Doubted, NoneRecovers, EmptyLi
 ghost use Rattle.cases.specs.Doubtful.{doubtfulRows};
 ghost use Rattle.cases.specs.Order.{orderRows};
 ghost use Rattle.rules.specs.laws.Found.{FoundExactly, JudgedByFound};
-ghost use Rattle.rules.specs.Meanings.{SoundMeans, PermissionMeans, EraseMeans, SuggestMeans, AstrayMeans, TwinsAlone, SecondMeans, SimpleEraseMeans, BuryMeans};
+ghost use Rattle.rules.specs.Meanings.{SlotMeans, ArgumentsMean, SoundMeans, TableMeans, TwinsMean, VerdictMeans, PermissionMeans, SecondMeans, SimplyMeans};
+ghost use Rattle.rules.specs.Answers.{EraseMeans, SuggestMeans, ReadMeans, RecoverMeans, TwinsAlone, SimpleRecoverMeans, SimpleEraseMeans, BuryMeans};
 ghost use Rattle.atomicity.specs.Family.{backPointer};
 ghost use Rattle.atomicity.specs.Promise.{PromiseAt, Promise3, OwnState};
 ghost use Rattle.atomicity.specs.Companions.{StatesAgree, PremisesMet, StagesInOrder, CleaningUnseen, CleanedAfterCut, Sweeping};
@@ -404,19 +406,27 @@ pub fn refusals()
     ensures order { λ _. ⌜ RowsHold orderRows ⌝ }
 {}
 
-// The tests and answers are exactly documents 01's and 02's sentences: what is sound; what may be erased, and what 12 and 13 mean; where links go astray, in both families; that recovery and suggest see
-// of the contents only which slots are twins; and of records without a back pointer the second highest version, what may be erased, and what 16 means.
+// What the tests mean, each exactly its sentence in document 01 or 02: a blank slot; sizes, lengths and lists; what is sound; the highest and the used version; twins; recovery's three cases, of both families; what may be erased; and of records
+// without a back pointer the second highest version, what may be erased and what a write would bury. And what the answers mean, by these: of erase, suggest, read and recover, of both families, of the second one's write; and that recovery and suggest see
+// of the contents only which slots are twins.
 pub fn meanings()
+    ensures slots { λ _. ⌜ SlotMeans ⌝ }
+    ensures arguments { λ _. ⌜ ArgumentsMean ⌝ }
     ensures sound { λ _. ⌜ SoundMeans ⌝ }
+    ensures table { λ _. ⌜ TableMeans ⌝ }
+    ensures twins { λ _. ⌜ TwinsMean ⌝ }
+    ensures verdicts { λ _. ⌜ VerdictMeans ⌝ }
     ensures permission { λ _. ⌜ PermissionMeans ⌝ }
+    ensures second { λ _. ⌜ SecondMeans ⌝ }
+    ensures simple { λ _. ⌜ SimplyMeans ⌝ }
     ensures erases { λ _. ⌜ EraseMeans ⌝ }
     ensures suggests { λ _. ⌜ SuggestMeans ⌝ }
-    ensures astray { λ _. ⌜ AstrayMeans backPointing ⌝ }
-    ensures twins { λ _. ⌜ TwinsAlone ⌝ }
-    ensures simply_astray { λ _. ⌜ AstrayMeans simply ⌝ }
-    ensures second_highest { λ _. ⌜ SecondMeans ⌝ }
-    ensures simply_erases { λ _. ⌜ SimpleEraseMeans ⌝ }
-    ensures buries { λ _. ⌜ BuryMeans ⌝ }
+    ensures reads { λ _. ⌜ ((layout : Layout) → ReadMeans layout) ⌝ }
+    ensures recovers { λ _. ⌜ RecoverMeans ⌝ }
+    ensures contents { λ _. ⌜ TwinsAlone ⌝ }
+    ensures sccrecovers { λ _. ⌜ SimpleRecoverMeans ⌝ }
+    ensures sccerases { λ _. ⌜ SimpleEraseMeans ⌝ }
+    ensures sccburies { λ _. ⌜ BuryMeans ⌝ }
 {}
 
 // Document 02, wish 2: "what is found is every exposed record and no other, and … judging by it is the rule's permission for any list"; and what is
@@ -440,21 +450,21 @@ pub fn promise_3()
 {}
 
 // Document 02, wishes 1 and 8: what an accepted cleaning leaves, by any table of blocks, and which slots its copies fill; that done again, by this table or another, it alters nothing; that as many blank slots as the block has are enough for it; that recovery straight
-// before and after one finds the same versions and contents; that after a cut in one, recovered, the same block can be cleaned; and twins, cleanings and tables of blocks, computed.
+// before and after one finds the same committed versions and contents; that after a cut in one, recovered, the same block can be cleaned; and twins, cleanings and tables of blocks, computed.
 pub fn cleaning()
     ensures leaves { λ _. ⌜ Cleaned ⌝ }
     ensures fills { λ _. ⌜ CleanFills ⌝ }
     ensures again { λ _. ⌜ CleanedAgain ⌝ }
     ensures room { λ _. ⌜ CleanAccepted ⌝ }
     ensures unseen { λ _. ⌜ CleaningUnseen backPointer ⌝ }
-    ensures after_cut { λ _. ⌜ CleanedAfterCut ⌝ }
+    ensures cut { λ _. ⌜ CleanedAfterCut ⌝ }
     ensures twins { λ _. ⌜ RowsHold twinRows ⌝ }
     ensures cleaned { λ _. ⌜ RowsHold cleanRows ⌝ }
     ensures blocks { λ _. ⌜ RowsHold blockRows ⌝ }
 {}
 
 // Document 02, wish 7: each erasure of a sweep is empty or one that erase accepts; straight after a sweep no slot may be erased; on volumes that runs reach, how many records it leaves, that what it blanked, sorted by the old records, is its three erasures, and that
-// recovery finds the same before it, after it and after a crash in it; and sweeps, computed.
+// recovery finds the same committed versions and contents before it, after it and after a crash in it; and sweeps, computed.
 pub fn sweeping()
     ensures erases { λ _. ⌜ SweepErases ⌝ }
     ensures bare { λ _. ⌜ SweptBare ⌝ }

@@ -15,5 +15,6 @@ pub mod Simple
 pub mod SimpleCalls
 pub mod Read
 pub mod Meanings
+pub mod Answers
 pub mod laws
 pub mod cases

@@ -33,7 +33,7 @@ pub record Scene : Type 0 where
   pub table : ℕ → Slot
   pub state : ℕ → PageState
   pub twin : (j k : ℕ) → Bool
-  -- "some exposed record" passes
+  -- some exposed record passes the test
   pub someExposed : (Record → Bool) → Bool
 
 -- … looked for among all S slots

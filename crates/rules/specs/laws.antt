@@ -11,3 +11,4 @@ pub mod Links
 pub mod Simple
 pub mod SimpleAccepted
 pub mod Meanings
+pub mod Answers

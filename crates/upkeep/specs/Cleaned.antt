@@ -20,7 +20,7 @@ use Rattle.rules.specs.Volume.{Volume, volumeFits, slotsOf, pagesOf}
 use Rattle.rules.specs.Permission.{mayErase, sceneOf}
 use Rattle.upkeep.specs.Clean.{recordIn, cleanFrom, cleanTo, cleanCopies, cleanAnswer, cleanOutcome}
 
--- slot k of the flash f holds the record with these contents
+-- slot k of the flash f holds the record, with the contents that slot j of the flash g has
 abbrev pub HoldsAt : Sizes → Flash → ℕ → Record → Flash → ℕ → Type 0
 HoldsAt sizes f k r g j = (slotAt (f .words) k ≡ Holds r) × (bytesAt (sizes .width) (f .contents) k ≡ bytesAt (sizes .width) (g .contents) j)
 

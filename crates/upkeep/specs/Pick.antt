@@ -31,7 +31,7 @@ isSeen block n k = someBelow (lookedAt block n) (λ i. eqb (seenAt block i .numb
 
 -- ---- what is returned
 
--- "the block, that number, the blocks looked at …, and how much an unseen block could beat it"
+-- "the block, that number, the blocks looked at …, and how much an unseen block could beat it", which is its lead
 pub record Pick : Type 0 where
   pub block : ℕ
   pub number : ℕ

@@ -85,7 +85,7 @@ module _ (stage : ℕ) (done : ℕ → Bool) where
   unfolding wasDone
   done-before k h = fun-ext (λ i. either-left (eqb k stage && done i) (lt-ltb k stage h))
 
-  done-here : (k : ℕ) → k ≡ stage → wasDone stage done k ≡ done
+  pub done-here : (k : ℕ) → k ≡ stage → wasDone stage done k ≡ done
   unfolding wasDone
   done-here k e = fun-ext (λ i. rw (le-ltb k stage (omega arith), eq-eqb k stage e))
 

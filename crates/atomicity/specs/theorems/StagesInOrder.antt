@@ -15,7 +15,7 @@ use Rattle.atomicity.specs.Call.{Call, withState, withFlash, perform, pl
 use Rattle.atomicity.specs.Run.{wasDone}
 use Rattle.atomicity.specs.Companions.{StagesInOrder}
 use Rattle.atomicity.specs.steps.Theory.{Theory, spared-done, write-done}
-use Rattle.atomicity.specs.steps.Stages.{answer-is, refused-leaves, refused-stages, accepted-stages, done-before, done-behind, cut-past-last}
+use Rattle.atomicity.specs.steps.Stages.{answer-is, refused-leaves, refused-stages, accepted-stages, done-before, done-here, done-behind, cut-past-last}
 
 module _ {F : Family} (T : Theory F) (widths : Widths) (sizes : Sizes) (v : Volume) where
   -- the flash that an accepted call leaves
@@ -48,5 +48,7 @@ stages-in-order T =
     record {
       performed = performs-stages T;
       past-last = cut-past-last;
+      own-stage = λ stage done i. ap (λ (f : ℕ → Bool). f i) (done-here stage done stage refl);
+      none-behind = λ stage done k i h. ap (λ (f : ℕ → Bool). f i) (done-behind stage done k h);
       in-order = cut-in-order;
     }
