@@ -48,7 +48,7 @@ ghost use Rattle.cases.specs.Doubtful.{doubtfulRows};
 ghost use Rattle.cases.specs.Order.{orderRows};
 ghost use Rattle.rules.specs.laws.Found.{FoundExactly, JudgedByFound};
 ghost use Rattle.rules.specs.Meanings.{SlotMeans, ArgumentsMean, SoundMeans, TableMeans, TwinsMean, VerdictMeans, PermissionMeans, SecondMeans, SimplyMeans};
-ghost use Rattle.rules.specs.Answers.{EraseMeans, SuggestMeans, ReadMeans, RecoverMeans, TwinsAlone, SimpleRecoverMeans, SimpleEraseMeans, BuryMeans};
+ghost use Rattle.rules.specs.Answers.{SettledMeans, EraseMeans, SuggestMeans, ReadMeans, RecoverMeans, TwinsAlone, SimpleRecoverMeans, SimpleEraseMeans, BuryMeans};
 ghost use Rattle.atomicity.specs.Family.{backPointer};
 ghost use Rattle.atomicity.specs.Promise.{PromiseAt, Promise3, OwnState};
 ghost use Rattle.atomicity.specs.Companions.{StatesAgree, PremisesMet, StagesInOrder, CleaningUnseen, CleanedAfterCut, Sweeping};
@@ -406,9 +406,9 @@ pub fn refusals()
     ensures order { λ _. ⌜ RowsHold orderRows ⌝ }
 {}
 
-// What the tests mean, each exactly its sentence in document 01 or 02: a blank slot; sizes, lengths and lists; what is sound; the highest and the used version; twins; recovery's three cases, of both families; what may be erased; and of records
-// without a back pointer the second highest version, what may be erased and what a write would bury. And what the answers mean, by these: of erase, suggest, read and recover, of both families, of the second one's write; and that recovery and suggest see
-// of the contents only which slots are twins.
+// What the tests mean, each exactly its sentence in document 01 or 02: slots and their words; sizes, lengths and lists; what is sound; the highest and the used version; twins; recovery's three cases, of both families; what may be erased; and of
+// records without a back pointer the second highest version, what may be erased and what a write would bury. And what the answers mean, by these: a refusal leaves all as it was; erase, suggest, read and recover; the second family's recover, erase and
+// write; and that recovery and suggest see of the contents only which slots are twins.
 pub fn meanings()
     ensures slots { λ _. ⌜ SlotMeans ⌝ }
     ensures arguments { λ _. ⌜ ArgumentsMean ⌝ }
@@ -419,6 +419,7 @@ pub fn meanings()
     ensures permission { λ _. ⌜ PermissionMeans ⌝ }
     ensures second { λ _. ⌜ SecondMeans ⌝ }
     ensures simple { λ _. ⌜ SimplyMeans ⌝ }
+    ensures settled { λ _. ⌜ SettledMeans ⌝ }
     ensures erases { λ _. ⌜ EraseMeans ⌝ }
     ensures suggests { λ _. ⌜ SuggestMeans ⌝ }
     ensures reads { λ _. ⌜ ((layout : Layout) → ReadMeans layout) ⌝ }

@@ -1,24 +1,27 @@
--- What the answers mean, stated, by what the tests mean (Meanings): of each call whose last conditions rest on the rules, when it is refused by which, and what it names or finds.
-use Prim.Native.Nat.{ℕ, _<_}
+-- What the answers mean, stated, by what the tests mean (Meanings): of erase, suggest, read and recover, and of the second family's write, which answer is given where the conditions that all calls share are not met, and what is named or found.
+use Prim.Native.Nat.{ℕ, _*_, _<_}
 use mathlib.Core.Path.{_≡_}
 use mathlib.Core.List.{List, [], _∷_}
-use mathlib.Core.Logic.{_⊎_}
-use mathlib.Core.Bool.{Bool, true, false, _&&_}
-use lib.Dec.{ltb, eqb}
+use mathlib.Core.Logic.{_⊎_, _↔_}
+use mathlib.Core.Bool.{Bool, true, false}
 use lib.ListN.{length, getD}
-use Rattle.bounded.specs.Limits.{Widths}
+use Rattle.bounded.specs.Limits.{noNumber, Widths}
+use Rattle.outcome.specs.Outcome.{settled}
 use Rattle.sizes.specs.declared.Layout.{Layout}
 use Rattle.sizes.specs.declared.Layout.the-variants.{FiveWords, FourWords}
 use Rattle.sizes.specs.declared.Sizes.{Sizes}
-use Rattle.sizes.specs.Sizes.{sizesOk, wordsFitIn, stateFits, listOk, listed}
+use Rattle.sizes.specs.Sizes.{listOk, listed}
+use Rattle.sizes.specs.SizesLaws.{SizesFacts}
 use Rattle.record.specs.declared.Record.{Record}
 use Rattle.record.specs.declared.Slot.{Slot}
-use Rattle.record.specs.declared.Slot.the-variants.{Holds}
+use Rattle.record.specs.declared.Slot.the-variants.{Blank, Holds}
 use Rattle.record.specs.Slot.{bytesAt, isBlank}
-use Rattle.record.specs.Flash.{flash}
-use Rattle.state.specs.State.{stateSound, inFlight, isWritten}
-use Rattle.table.specs.Table.{tableSound}
+use Rattle.record.specs.Flash.{Flash, flash}
+use Rattle.state.specs.State.{stateWords, stateSound, inFlight, isWritten}
+use Rattle.table.specs.Table.{tableSound, highest, versionIn, highestVersionOf, usedOf}
 use Rattle.twins.specs.Twins.{twins}
+use Rattle.follow.specs.declared.End.the-variants as ends
+use Rattle.follow.specs.Steps.{Walked}
 use Rattle.follow.specs.Astray.{RunsIntoRing}
 use Rattle.rules.specs.Volume.{Volume, volume, volumeFitsIn, slotsOf, slotsIn, pagesOf}
 use Rattle.rules.specs.Permission.{sceneOf, noTwins}
@@ -27,10 +30,20 @@ use Rattle.rules.specs.Suggest.{suggestOutcome}
 use Rattle.rules.specs.Verdict.{verdict}
 use Rattle.rules.specs.Recover.{committedOf, recoverOutcome}
 use Rattle.rules.specs.Read.{readOutcomeIn}
-use Rattle.rules.specs.Simple.{simpleVerdict, hasCommitted}
+use Rattle.rules.specs.Simple.{simpleVerdict, second, committedSlotOf}
 use Rattle.rules.specs.SimpleCalls.{simpleWriteOutcome, simpleEraseOutcome, simpleRecoverOutcome}
 use Rattle.rules.specs.laws.Permission.{ErasableAt, TwinOutside}
 use Rattle.rules.specs.Meanings.{SimplyErasable, SomeBuried}
+
+-- "After any number but 0 every lent slice is unaltered", and the second number is the refusal's; with 0 both are the call's own: every outcome is `settled` over what it may alter
+abbrev pub Settles : Type 0 → Type 0
+Settles B =
+    (answer refusedSecond second : ℕ) (before after : B)
+    → (answer ≡ 0 → settled answer refusedSecond second before after ≡ record { answer = 0; second = second; left = after })
+    × (¬ (answer ≡ 0) → settled answer refusedSecond second before after ≡ record { answer = answer; second = refusedSecond; left = before })
+
+abbrev pub SettledMeans : Type 0
+SettledMeans = Settles (List ℕ) × Settles Flash × Settles Volume × Settles (Unit {0})
 
 -- conditions 1, 2 and 5 are not met: the volume's sizes and lengths are right, its table and its state are sound
 pub record Judged (layout : Layout) (widths : Widths) (sizes : Sizes) (v : Volume) : Type 0 where
@@ -75,8 +88,18 @@ pub record SuggestMeans : Type 0 where
 
 -- ---- read
 
--- Read answers 0 with the bytes of "the lowest slot holding the page at its committed version", and 14 where no slot holds it.
+-- Read answers 0 or 14 exactly where 1, 2, 5 and 6 are not met; with 0 its bytes are those of "the lowest slot holding the page at its committed version", with 14 no slot holds it.
 pub record ReadMeans (layout : Layout) : Type 0 where
+  pub either :
+      (widths : Widths) (sizes : Sizes) (v : Volume) (page : ℕ) (out : List ℕ)
+      → Judged layout widths sizes v
+      → length out ≡ sizes .width
+      → page < sizes .pages
+      → (readOutcomeIn layout widths sizes v page out .answer ≡ 0) ⊎ (readOutcomeIn layout widths sizes v page out .answer ≡ 14)
+  pub judged :
+      (widths : Widths) (sizes : Sizes) (v : Volume) (page : ℕ) (out : List ℕ)
+      → (readOutcomeIn layout widths sizes v page out .answer ≡ 0) ⊎ (readOutcomeIn layout widths sizes v page out .answer ≡ 14)
+      → Judged layout widths sizes v × (length out ≡ sizes .width) × (page < sizes .pages)
   pub lowest :
       (widths : Widths) (sizes : Sizes) (v : Volume) (page : ℕ) (out : List ℕ)
       → readOutcomeIn layout widths sizes v page out .answer ≡ 0
@@ -98,7 +121,7 @@ pub record ReadMeans (layout : Layout) : Type 0 where
 abbrev pub PageMissing : Sizes → (ℕ → Slot) → Type 0
 PageMissing sizes t = (p : ℕ) × (p < sizes .pages) × ((k : ℕ) (r : Record) → k < sizes .slots → t k ≡ Holds r → ¬ (r .p ≡ p))
 
--- two records with equal page and version, of which `twin` does not hold
+-- two records with equal page and version that are no twins
 abbrev pub TwoAlike : Sizes → (ℕ → Slot) → (twin : ℕ → ℕ → Bool) → Type 0
 TwoAlike sizes t twin = (j : ℕ) × (k : ℕ) × (a : Record) × (b : Record) × (j < k) × (k < sizes .slots) × (t j ≡ Holds a) × (t k ≡ Holds b) × (a .p ≡ b .p) × (a .v ≡ b .v) × (twin j k ≡ false)
 
@@ -106,22 +129,24 @@ TwoAlike sizes t twin = (j : ℕ) × (k : ℕ) × (a : Record) × (b : Record) �
 abbrev pub HasVersion : Sizes → (ℕ → Slot) → (p n : ℕ) → Type 0
 HasVersion sizes t p n = (k : ℕ) × (r : Record) × (k < sizes .slots) × (t k ≡ Holds r) × (r .p ≡ p) × (r .v ≡ n)
 
--- "two records with equal page and version", no twins, "or a page with no record": 3; "the links run into a ring that lacks the start": 4; "no record with the committed version": 14. Recover
--- has no other answer but 1, 2 and 0, and each means that those before it are not met.
+abbrev pub OneOfSix : ℕ → Type 0
+OneOfSix n = (n ≡ 0) ⊎ ((n ≡ 1) ⊎ ((n ≡ 2) ⊎ ((n ≡ 3) ⊎ ((n ≡ 4) ⊎ (n ≡ 14)))))
+
+-- Recover answers 0, 1, 2, 3, 4 or 14. 1: "P, S or a lent slice's length is wrong". 2: "a slot neither blank nor sound". 3: "two records with equal page and version", no twins, "or a page with no record". 4: "the links run into a ring that
+-- lacks the start". 14: "no record with the committed version". Each means that those before it are not met, and 0 that none is.
 pub record RecoverMeans : Type 0 where
-  pub some-answer :
+  pub some-answer : (widths : Widths) (sizes : Sizes) (v : Volume) → OneOfSix (recoverOutcome widths sizes v .answer)
+  pub lengths : (widths : Widths) (sizes : Sizes) (v : Volume) → (recoverOutcome widths sizes v .answer ≡ 1) ↔ (volumeFitsIn FiveWords widths sizes v ≡ false)
+  pub unsound : (widths : Widths) (sizes : Sizes) (v : Volume) → recoverOutcome widths sizes v .answer ≡ 2 → tableSound (sizes .pages) (sizes .slots) (slotsOf v) ≡ false
+  pub sound :
       (widths : Widths) (sizes : Sizes) (v : Volume)
-      → let answer = recoverOutcome widths sizes v .answer in
-      (answer ≡ 0) ⊎ ((answer ≡ 1) ⊎ ((answer ≡ 2) ⊎ ((answer ≡ 3) ⊎ ((answer ≡ 4) ⊎ (answer ≡ 14)))))
-  pub lengths : (widths : Widths) (sizes : Sizes) (v : Volume) → recoverOutcome widths sizes v .answer ≡ 1 → volumeFitsIn FiveWords widths sizes v ≡ false
-  pub unsound :
-      (widths : Widths) (sizes : Sizes) (v : Volume) → recoverOutcome widths sizes v .answer ≡ 2 → (volumeFitsIn FiveWords widths sizes v ≡ true) × (tableSound (sizes .pages) (sizes .slots) (slotsOf v) ≡ false)
+      → ¬ (recoverOutcome widths sizes v .answer ≡ 1)
+      → ¬ (recoverOutcome widths sizes v .answer ≡ 2)
+      → tableSound (sizes .pages) (sizes .slots) (slotsOf v) ≡ true
   pub alike :
       (widths : Widths) (sizes : Sizes) (v : Volume)
       → recoverOutcome widths sizes v .answer ≡ 3
-      → (volumeFitsIn FiveWords widths sizes v ≡ true)
-      × (tableSound (sizes .pages) (sizes .slots) (slotsOf v) ≡ true)
-      × (TwoAlike sizes (slotsOf v) (twins (sizes .width) (v .flash)) ⊎ PageMissing sizes (slotsOf v))
+      → TwoAlike sizes (slotsOf v) (twins (sizes .width) (v .flash)) ⊎ PageMissing sizes (slotsOf v)
   pub astray :
       (widths : Widths) (sizes : Sizes) (v : Volume)
       → recoverOutcome widths sizes v .answer ≡ 4
@@ -142,6 +167,16 @@ pub record RecoverMeans : Type 0 where
       × ¬ (PageMissing sizes (slotsOf v))
       × ((p : ℕ) → p < sizes .pages → ¬ (RunsIntoRing (verdict (sizes .slots) (slotsOf v)) p))
       × ((p : ℕ) → p < sizes .pages → HasVersion sizes (slotsOf v) p (committedOf (sizes .pages) (sizes .slots) (slotsOf v) p))
+  -- "Recover fills the sheet", with each page's committed version and used, "No page is in flight, and written is 0 for all."
+  pub fills :
+      (widths : Widths) (sizes : Sizes) (v : Volume)
+      → recoverOutcome widths sizes v .answer ≡ 0
+      → recoverOutcome widths sizes v .left
+      ≡ stateWords (sizes .pages) (λ p. record { committed = committedOf (sizes .pages) (sizes .slots) (slotsOf v) p; used = usedOf (sizes .slots) (slotsOf v) p; next = noNumber; written = 0 })
+  -- "Committed = hv(p), or else the c of p's highest record", by where the walk from p ends
+  pub committed : (P S : ℕ) (t : ℕ → Slot) → tableSound P S t ≡ true → (p n : ℕ) → p < P → Walked (verdict S t) p ends.Committed n → committedOf P S t p ≡ highestVersionOf S t p
+  pub uncommitted :
+      (P S : ℕ) (t : ℕ → Slot) → tableSound P S t ≡ true → (p n : ℕ) (J : Record) → p < P → Walked (verdict S t) p ends.Uncommitted n → highest S t p ≡ Holds J → committedOf P S t p ≡ J .c
 
 -- "Recovery and suggest now read the contents too": of these they see only which slots are twins.
 pub record TwinsAlone : Type 0 where
@@ -158,22 +193,25 @@ pub record TwinsAlone : Type 0 where
 
 -- ---- records without a back pointer
 
--- "two records of equal page and version always give 3"; "With no second version recovery gives 14"
+-- P, S, the width and the lengths of what its recover is lent are right
+abbrev pub SimplyFits : Widths → Sizes → Volume → Type 0
+SimplyFits widths sizes v = SizesFacts (sizes .pages) (sizes .slots) × (widths (sizes .width) ≡ true) × (length (v .flash .words) ≡ 4 * sizes .slots) × (length (v .state) ≡ 4 * sizes .pages)
+
+-- Its recover, as the first family's: "two records of equal page and version always give 3"; "an uncommitted highest gives the second highest version. … With no second version recovery gives 14."
 pub record SimpleRecoverMeans : Type 0 where
-  pub some-answer :
-      (widths : Widths) (sizes : Sizes) (v : Volume)
-      → let answer = simpleRecoverOutcome widths sizes (v .flash .words) (v .state) .answer in
-      (answer ≡ 0) ⊎ ((answer ≡ 1) ⊎ ((answer ≡ 2) ⊎ ((answer ≡ 3) ⊎ ((answer ≡ 4) ⊎ (answer ≡ 14)))))
-  pub lengths :
-      (widths : Widths) (sizes : Sizes) (v : Volume)
-      → simpleRecoverOutcome widths sizes (v .flash .words) (v .state) .answer ≡ 1
-      → (sizesOk widths sizes && (wordsFitIn FourWords (sizes .slots) (v .flash .words) && stateFits (sizes .pages) (v .state))) ≡ false
+  pub some-answer : (widths : Widths) (sizes : Sizes) (v : Volume) → OneOfSix (simpleRecoverOutcome widths sizes (v .flash .words) (v .state) .answer)
+  pub lengths : (widths : Widths) (sizes : Sizes) (v : Volume) → (simpleRecoverOutcome widths sizes (v .flash .words) (v .state) .answer ≡ 1) ↔ ¬ (SimplyFits widths sizes v)
   pub unsound :
       (widths : Widths) (sizes : Sizes) (v : Volume) → simpleRecoverOutcome widths sizes (v .flash .words) (v .state) .answer ≡ 2 → tableSound (sizes .pages) (sizes .slots) (slotsIn FourWords v) ≡ false
+  pub sound :
+      (widths : Widths) (sizes : Sizes) (v : Volume)
+      → ¬ (simpleRecoverOutcome widths sizes (v .flash .words) (v .state) .answer ≡ 1)
+      → ¬ (simpleRecoverOutcome widths sizes (v .flash .words) (v .state) .answer ≡ 2)
+      → tableSound (sizes .pages) (sizes .slots) (slotsIn FourWords v) ≡ true
   pub alike :
       (widths : Widths) (sizes : Sizes) (v : Volume)
       → simpleRecoverOutcome widths sizes (v .flash .words) (v .state) .answer ≡ 3
-      → (tableSound (sizes .pages) (sizes .slots) (slotsIn FourWords v) ≡ true) × (TwoAlike sizes (slotsIn FourWords v) noTwins ⊎ PageMissing sizes (slotsIn FourWords v))
+      → TwoAlike sizes (slotsIn FourWords v) noTwins ⊎ PageMissing sizes (slotsIn FourWords v)
   pub astray :
       (widths : Widths) (sizes : Sizes) (v : Volume)
       → simpleRecoverOutcome widths sizes (v .flash .words) (v .state) .answer ≡ 4
@@ -186,14 +224,22 @@ pub record SimpleRecoverMeans : Type 0 where
       → ¬ (TwoAlike sizes (slotsIn FourWords v) noTwins)
       × ¬ (PageMissing sizes (slotsIn FourWords v))
       × ((p : ℕ) → p < sizes .pages → ¬ (RunsIntoRing (simpleVerdict (sizes .slots) (slotsIn FourWords v)) p))
-      × ((p : ℕ) × (p < sizes .pages) × (hasCommitted (sizes .pages) (sizes .slots) (slotsIn FourWords v) p ≡ false))
+      × ((p : ℕ) × (p < sizes .pages) × (committedSlotOf (sizes .pages) (sizes .slots) (slotsIn FourWords v) p ≡ Blank))
   pub done :
       (widths : Widths) (sizes : Sizes) (v : Volume)
       → simpleRecoverOutcome widths sizes (v .flash .words) (v .state) .answer ≡ 0
       → ¬ (TwoAlike sizes (slotsIn FourWords v) noTwins)
       × ¬ (PageMissing sizes (slotsIn FourWords v))
       × ((p : ℕ) → p < sizes .pages → ¬ (RunsIntoRing (simpleVerdict (sizes .slots) (slotsIn FourWords v)) p))
-      × ((p : ℕ) → p < sizes .pages → hasCommitted (sizes .pages) (sizes .slots) (slotsIn FourWords v) p ≡ true)
+      × ((p : ℕ) → p < sizes .pages → (r : Record) × (committedSlotOf (sizes .pages) (sizes .slots) (slotsIn FourWords v) p ≡ Holds r))
+  pub fills :
+      (widths : Widths) (sizes : Sizes) (v : Volume)
+      → simpleRecoverOutcome widths sizes (v .flash .words) (v .state) .answer ≡ 0
+      → simpleRecoverOutcome widths sizes (v .flash .words) (v .state) .left
+      ≡ stateWords (sizes .pages)
+      (λ p. record { committed = versionIn (committedSlotOf (sizes .pages) (sizes .slots) (slotsIn FourWords v) p); used = usedOf (sizes .slots) (slotsIn FourWords v) p; next = noNumber; written = 0 })
+  pub committed : (P S : ℕ) (t : ℕ → Slot) → tableSound P S t ≡ true → (p n : ℕ) → p < P → Walked (simpleVerdict S t) p ends.Committed n → committedSlotOf P S t p ≡ highest S t p
+  pub uncommitted : (P S : ℕ) (t : ℕ → Slot) → tableSound P S t ≡ true → (p n : ℕ) → p < P → Walked (simpleVerdict S t) p ends.Uncommitted n → committedSlotOf P S t p ≡ second S t p
 
 -- Its erase, as the first family's.
 pub record SimpleEraseMeans : Type 0 where
@@ -211,18 +257,26 @@ pub record SimpleEraseMeans : Type 0 where
   pub barred :
       (widths : Widths) (sizes : Sizes) (v : Volume) (slots : List ℕ) → simpleEraseOutcome widths sizes v slots .answer ≡ 12 → (i : ℕ) × (i < length slots) × ¬ (SimplyErasable (slotsIn FourWords v) (pagesOf v) (getD slots i 0))
 
--- A write that answers 16 would bury a record, and one that answers 0 buries none; where no condition before it is met it answers one of the two.
+-- no condition of its write before 16 is met
+pub record WriteJudged (widths : Widths) (sizes : Sizes) (v : Volume) (page slot : ℕ) (bytes : List ℕ) : Type 0 where
+  pub volume : Judged FourWords widths sizes v
+  pub whole : length bytes ≡ sizes .width
+  pub page-below : page < sizes .pages
+  pub slot-below : slot < sizes .slots
+  pub flying : inFlight (pagesOf v page) ≡ true
+  pub unwritten : isWritten (pagesOf v page) ≡ false
+  pub free : isBlank (slotsIn FourWords v slot) ≡ true
+
+-- Its write answers 0 or 16 exactly where no condition before 16 is met; with 16 it would bury a record, with 0 it buries none.
 pub record BuryMeans : Type 0 where
   pub either :
       (widths : Widths) (sizes : Sizes) (v : Volume) (page slot : ℕ) (bytes : List ℕ)
-      → (volumeFitsIn FourWords widths sizes v && eqb (length bytes) (sizes .width)) ≡ true
-      → tableSound (sizes .pages) (sizes .slots) (slotsIn FourWords v) ≡ true
-      → stateSound (sizes .pages) (pagesOf v) ≡ true
-      → (ltb page (sizes .pages) && ltb slot (sizes .slots)) ≡ true
-      → inFlight (pagesOf v page) ≡ true
-      → isWritten (pagesOf v page) ≡ false
-      → isBlank (slotsIn FourWords v slot) ≡ true
+      → WriteJudged widths sizes v page slot bytes
       → (simpleWriteOutcome widths sizes v page slot bytes .answer ≡ 0) ⊎ (simpleWriteOutcome widths sizes v page slot bytes .answer ≡ 16)
+  pub judged :
+      (widths : Widths) (sizes : Sizes) (v : Volume) (page slot : ℕ) (bytes : List ℕ)
+      → (simpleWriteOutcome widths sizes v page slot bytes .answer ≡ 0) ⊎ (simpleWriteOutcome widths sizes v page slot bytes .answer ≡ 16)
+      → WriteJudged widths sizes v page slot bytes
   pub buries :
       (widths : Widths) (sizes : Sizes) (v : Volume) (page slot : ℕ) (bytes : List ℕ) → simpleWriteOutcome widths sizes v page slot bytes .answer ≡ 16 → SomeBuried (sizes .slots) (slotsIn FourWords v) (pagesOf v) page
   pub buries-none :

@@ -9,16 +9,17 @@ use Rattle.bounded.specs.Limits.{noNumber, Widths}
 use Rattle.bounded.specs.Parts.{part}
 use Rattle.sizes.specs.declared.Layout.{Layout}
 use Rattle.sizes.specs.declared.Sizes.{Sizes}
-use Rattle.sizes.specs.Sizes.{strideOf, listOk}
+use Rattle.sizes.specs.declared.Layout.the-variants.{FiveWords, FourWords}
+use Rattle.sizes.specs.Sizes.{strideOf, listOk, listed}
 use Rattle.sizes.specs.Lists.{Listed}
 use Rattle.record.specs.declared.Record.{Record}
 use Rattle.record.specs.declared.Slot.{Slot}
 use Rattle.record.specs.declared.Slot.the-variants.{Blank, Holds}
-use Rattle.record.specs.Slot.{decoded, slotIn, bytesAt, recordSound}
+use Rattle.record.specs.Slot.{decoded, slotIn, bytesAt, recordSound, isBlank}
 use Rattle.record.specs.SlotLaws.{SoundRecord, Straddles}
 use Rattle.record.specs.Flash.{Flash}
 use Rattle.state.specs.declared.PageState.{PageState}
-use Rattle.state.specs.State.{inFlight, stateSound}
+use Rattle.state.specs.State.{stateAt, inFlight, isWritten, stateSound}
 use Rattle.state.specs.StateLaws.{StateFacts}
 use Rattle.table.specs.Table.{tableSound, highest, highestVersionOf, usedOf}
 use Rattle.twins.specs.Twins.{twins}
@@ -35,13 +36,24 @@ use Rattle.rules.specs.laws.Simple.{BelowHighest, BuriedBy}
 
 -- ---- slots, lengths, lists
 
--- "A blank slot has 4,294,967,295 in all five words. Any other slot is a record", in either layout; a word past the table's counts as 4,294,967,295.
+-- word i of slot k, for w words a slot
+abbrev pub wordAt : (w : ℕ) → List ℕ → (k i : ℕ) → ℕ
+wordAt w words k i = getD words (w * k + i) noNumber
+
+-- "A blank slot has 4,294,967,295 in all five words. Any other slot is a record", in either layout; a word past the table's counts as 4,294,967,295. "The five words are" p, v, c, np and nv, of slot k "words 5k to 5k+4 and bytes" wk to
+-- wk + w − 1; of page p's state the words 4p to 4p + 3.
 pub record SlotMeans : Type 0 where
   pub blank : (layout : Layout) (words : List ℕ) (k : ℕ) → (slotIn layout words k ≡ Blank) ↔ ((i : ℕ) → i < strideOf layout → getD words (strideOf layout * k + i) noNumber ≡ noNumber)
   pub other : (layout : Layout) (words : List ℕ) (k : ℕ) → (slotIn layout words k ≡ Blank) ⊎ (slotIn layout words k ≡ Holds (decoded layout (part (strideOf layout) k words)))
+  pub is-blank : (s : Slot) → (isBlank s ≡ true) ↔ (s ≡ Blank)
+  pub five : (words : List ℕ) (k : ℕ) → decoded FiveWords (part 5 k words) ≡ record { p = wordAt 5 words k 0; v = wordAt 5 words k 1; c = wordAt 5 words k 2; np = wordAt 5 words k 3; nv = wordAt 5 words k 4 }
+  pub four : (words : List ℕ) (k : ℕ) → decoded FourWords (part 4 k words) ≡ record { p = wordAt 4 words k 0; v = wordAt 4 words k 1; c = 0; np = wordAt 4 words k 2; nv = wordAt 4 words k 3 }
+  pub bytes : (w : ℕ) (contents : List ℕ) (k i : ℕ) → i < w → getD (bytesAt w contents k) i 0 ≡ getD contents (w * k + i) 0
+  pub page : (state : List ℕ) (p : ℕ) → stateAt state p ≡ record { committed = getD state (4 * p + 0) 0; used = getD state (4 * p + 1) 0; next = getD state (4 * p + 2) 0; written = getD state (4 * p + 3) 0 }
 
--- "P, S or a lent slice's length is wrong", of a volume; "empty list, repeated entry, or a page or slot out of range"
+-- no "P, S or a lent slice's length is wrong", of a volume; no "empty list, repeated entry, or a page or slot out of range"; and a number is listed where it is an entry
 pub record ArgumentsMean : Type 0 where
+  pub is-listed : (list : List ℕ) (n : ℕ) → (listed list n ≡ true) ↔ ((i : ℕ) × (i < length list) × (getD list i 0 ≡ n))
   pub volume : (layout : Layout) (widths : Widths) (sizes : Sizes) (v : Volume) → (volumeFitsIn layout widths sizes v ≡ true) ↔ FitsIn layout widths sizes v
   pub list : (n : ℕ) (list : List ℕ) → (listOk n list ≡ true) ↔ Listed n list
 
@@ -52,6 +64,7 @@ pub record SoundMeans : Type 0 where
   pub one-record : (P : ℕ) (r : Record) → (recordSound P r ≡ true) ↔ SoundRecord P r
   pub table : (P S : ℕ) (t : ℕ → Slot) → (tableSound P S t ≡ true) ↔ ((k : ℕ) → k < S → (t k ≡ Blank) ⊎ ((r : Record) × (t k ≡ Holds r) × SoundRecord P r))
   pub flight : (s : PageState) → (inFlight s ≡ true) ↔ ¬ (s .next ≡ noNumber)
+  pub written : (s : PageState) → (isWritten s ≡ true) ↔ (s .written ≡ 1)
   pub state : (P : ℕ) (st : ℕ → PageState) → (stateSound P st ≡ true) ↔ StateFacts P st
 
 -- ---- the table

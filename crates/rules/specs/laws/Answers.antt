@@ -7,26 +7,32 @@ use mathlib.Core.Logic.{_⊎_, inl, inr, _↔_, ⊎-elim}
 use mathlib.Core.Bool.{Bool, true, false, not, _&&_, _||_}
 use lib.Dec.{ltb, eqb}
 use lib.ListN.{length, getD}
-use borrow.Author.Tests.{not-true, not-false, ltb-true}
-use Rattle.bounded.specs.Limits.{Widths}
+use borrow.Author.Tests.{not-true, not-false, ltb-true, lt-ltb, eqb-true, eq-eqb}
+use Rattle.bounded.specs.Limits.{noNumber, Widths}
 use Rattle.bounded.specs.Choice.{never, on-test, both, both-left, both-right}
 use Rattle.bounded.specs.Below.{allBelow, someBelow}
 use Rattle.bounded.specs.BelowLaws.{all-at, some-at, some-of, some-not-at, some-cong}
 use Rattle.outcome.specs.Outcome.{_⇒_otherwise_, Outcome}
-use Rattle.outcome.specs.OutcomeLaws.{settled-answer}
+use Rattle.outcome.specs.OutcomeLaws.{settled-answer, settled-done, settled-refused}
 use Rattle.sizes.specs.declared.Layout.{Layout}
 use Rattle.sizes.specs.declared.Layout.the-variants.{FiveWords, FourWords}
 use Rattle.sizes.specs.declared.Sizes.{Sizes}
 use Rattle.sizes.specs.Sizes.{sizesOk, wordsFitIn, contentsFit, stateFits, listOk, listed}
+use Rattle.sizes.specs.SizesLaws.{sizes-facts, sizes-test, words-fit-in, state-fits-exactly}
 use Rattle.record.specs.declared.Record.{Record}
 use Rattle.record.specs.declared.Slot.{Slot}
-use Rattle.record.specs.declared.Slot.the-variants.{Holds}
+use Rattle.record.specs.declared.Slot.the-variants.{Blank, Holds}
 use Rattle.record.specs.Slot.{isBlank}
-use Rattle.state.specs.State.{stateSound, inFlight, isWritten}
-use Rattle.table.specs.Table.{tableSound, clash, someClash, hasRecord, hasVersion, lowestSlot}
+use Rattle.record.specs.SlotLaws.{is-blank-exactly, not-blank-exactly}
+use Rattle.state.specs.State.{stateWords, stateSound, inFlight, isWritten}
+use Rattle.state.specs.Change.{atRest}
+use Rattle.table.specs.Table.{tableSound, clash, someClash, hasRecord, hasVersion, lowestSlot, highest, versionIn, highestVersionOf, usedOf}
 use Rattle.table.specs.TableLaws.{clash-exactly, has-record, has-version, lowest-holds, lowest-first}
 use Rattle.twins.specs.Twins.{twins, someConflict}
 use Rattle.follow.specs.declared.Verdict.{Verdict}
+use Rattle.follow.specs.declared.Walk.{Walk}
+use Rattle.follow.specs.declared.End.the-variants as ends
+use Rattle.follow.specs.Steps.{Walked}
 use Rattle.follow.specs.Follow.{follow, isAstray, StaysInside}
 use Rattle.follow.specs.Astray.{RunsIntoRing}
 use Rattle.rules.specs.Volume.{Volume, volumeFitsIn, slotsOf, slotsIn, pagesOf}
@@ -34,18 +40,19 @@ use Rattle.rules.specs.Permission.{sceneOf, noTwins, mayEraseFrom, mayEr
 use Rattle.rules.specs.Erase.{eraseAnswer, eraseOutcome}
 use Rattle.rules.specs.Suggest.{suggestible, suggestAnswer, suggestedSlot, suggestOutcome}
 use Rattle.rules.specs.Verdict.{verdict}
-use Rattle.rules.specs.Recover.{walkOf, committedOf, recoverAnswer, recoverOutcome}
+use Rattle.rules.specs.Recover.{walkOf, backPointer, committedBy, committedOf, recovered, recoverAnswer, recoverOutcome}
+use Rattle.rules.specs.Links.{LinksAreSteps, LinksApart}
 use Rattle.rules.specs.Read.{readSlotIn, readAnswerIn, readOutcomeIn}
-use Rattle.rules.specs.Simple.{simpleVerdict, simpleWalkOf, hasCommitted, simpleMayErase, simpleMayEraseAll, wouldBury}
+use Rattle.rules.specs.Simple.{simpleVerdict, simpleWalkOf, second, simpleCommittedSlot, committedSlotOf, hasCommitted, simpleRecovered, simpleMayErase, simpleMayEraseAll, wouldBury}
 use Rattle.rules.specs.SimpleCalls.{simpleWriteAnswer, simpleWriteOutcome, simpleEraseAnswer, simpleEraseOutcome, simpleRecoverAnswer, simpleRecoverOutcome}
 use Rattle.rules.specs.laws.Permission.{may-erase-exactly, may-erase-from, may-erase-all}
 use Rattle.rules.specs.laws.Accepted.{erase-tests, suggested-lowest}
 use Rattle.rules.specs.laws.Outcomes.{read-done}
-use Rattle.rules.specs.laws.Recover.{verdict-inside, astray-some, recover-reads-twins}
-use Rattle.rules.specs.laws.Links.{simple-verdict-inside}
+use Rattle.rules.specs.laws.Recover.{verdict-inside, astray-some, recover-fills, recover-reads-twins}
+use Rattle.rules.specs.laws.Links.{simple-verdict-inside, links-are-steps, links-apart, simple-links-are-steps, simple-links-apart}
 use Rattle.rules.specs.laws.Simple.{simple-may-erase-exactly, simple-may-erase-all, buried-exactly}
-use Rattle.rules.specs.laws.SimpleAccepted.{simple-erase-tests, simple-write-tests}
-use Rattle.rules.specs.Answers.{Judged, MayGo, EraseMeans, SuggestMeans, ReadMeans, PageMissing, TwoAlike, HasVersion, RecoverMeans, TwinsAlone, SimpleRecoverMeans, SimpleEraseMeans, BuryMeans}
+use Rattle.rules.specs.laws.SimpleAccepted.{simple-erase-tests}
+use Rattle.rules.specs.Answers.{Settles, SettledMeans, Judged, MayGo, EraseMeans, SuggestMeans, ReadMeans, PageMissing, TwoAlike, HasVersion, OneOfSix, RecoverMeans, TwinsAlone, SimplyFits, SimpleRecoverMeans, SimpleEraseMeans, WriteJudged, BuryMeans}
 
 -- ---- chains of conditions
 
@@ -199,21 +206,41 @@ module _ (layout : Layout) (widths : Widths) (sizes : Sizes) (v : Volume) (page 
   abbrev there : Bool
   there = hasVersion (sizes .slots) (slotsIn layout v) page (pagesOf v page .committed)
 
-  read-past : (m : ℕ) → ¬ (1 ≡ m) → ¬ (2 ≡ m) → ¬ (5 ≡ m) → ¬ (6 ≡ m) → readAnswerIn layout widths sizes v page out ≡ m → (not there ⇒ 14 otherwise 0) ≡ m
+  read-past :
+      (m : ℕ) → ¬ (1 ≡ m) → ¬ (2 ≡ m) → ¬ (5 ≡ m) → ¬ (6 ≡ m) → readAnswerIn layout widths sizes v page out ≡ m
+      → Judged layout widths sizes v × (length out ≡ sizes .width) × (page < sizes .pages) × ((not there ⇒ 14 otherwise 0) ≡ m)
   unfolding readAnswerIn
   read-past m d1 d2 d5 d6 e =
       let a = past-test (volumeFitsIn layout widths sizes v && eqb (length out) (sizes .width)) 1 _ m d1 e in
       let b = past-test (tableSound (sizes .pages) (sizes .slots) (slotsIn layout v)) 2 _ m d2 (a .1) in
       let c = past-test (stateSound (sizes .pages) (pagesOf v)) 5 _ m d5 (b .1) in
-      past-test (ltb page (sizes .pages)) 6 _ m d6 (c .1) .1
+      let d = past-test (ltb page (sizes .pages)) 6 _ m d6 (c .1) in (
+        record { fits = both-left (volumeFitsIn layout widths sizes v) (eqb (length out) (sizes .width)) (a .0); table = b .0; state = c .0 },
+        eqb-true (length out) (sizes .width) (both-right (volumeFitsIn layout widths sizes v) (eqb (length out) (sizes .width)) (a .0)),
+        ltb-true page (sizes .pages) (d .0),
+        d .1,
+      )
+
+  read-either : Judged layout widths sizes v → length out ≡ sizes .width → page < sizes .pages → (readOutcomeIn layout widths sizes v page out .answer ≡ 0) ⊎ (readOutcomeIn layout widths sizes v page out .answer ≡ 14)
+  unfolding readOutcomeIn readAnswerIn
+  read-either j l h =
+      subst (λ (n : ℕ). (n ≡ 0) ⊎ (n ≡ 14))
+      (sym (settled-answer (readAnswerIn layout widths sizes v page out) _ _ _ _ ∙ rw (j .fits, eq-eqb (length out) (sizes .width) l, j .table, j .state, lt-ltb page (sizes .pages) h) refl))
+      (met-or-done (not there) 14)
 
 pub read-means : (layout : Layout) → ReadMeans layout
 unfolding readSlotIn hasVersion
 read-means layout =
     record {
+      either = read-either layout;
+      judged = λ widths sizes v page out e.
+          ⊎-elim
+          (λ z. let p = read-past layout widths sizes v page out 0 (λ q. omega arith) (λ q. omega arith) (λ q. omega arith) (λ q. omega arith) (read-answer layout widths sizes v page out 0 z) in (p .0, p .1, p .2))
+          (λ z. let p = read-past layout widths sizes v page out 14 (λ q. omega arith) (λ q. omega arith) (λ q. omega arith) (λ q. omega arith) (read-answer layout widths sizes v page out 14 z) in (p .0, p .1, p .2))
+          e;
       lowest = λ widths sizes v page out e.
           let z = read-answer layout widths sizes v page out 0 e in
-          let y = past-test (there layout widths sizes v page out) 14 0 0 (λ q. omega arith) (read-past layout widths sizes v page out 0 (λ q. omega arith) (λ q. omega arith) (λ q. omega arith) (λ q. omega arith) z) .0 in
+          let y = past-test (there layout widths sizes v page out) 14 0 0 (λ q. omega arith) (read-past layout widths sizes v page out 0 (λ q. omega arith) (λ q. omega arith) (λ q. omega arith) (λ q. omega arith) z .3) .0 in
           let t = slotsIn layout v in
           let n = pagesOf v page .committed in
           let l = ltb-true (lowestSlot (sizes .slots) t page n) (sizes .slots) y in
@@ -228,7 +255,7 @@ read-means layout =
             ap (λ (o : Outcome (List ℕ)). o .left) (read-done layout widths sizes v page out z),
           );
       none = λ widths sizes v page out e k q h f g u.
-          let z = read-past layout widths sizes v page out 14 (λ x. omega arith) (λ x. omega arith) (λ x. omega arith) (λ x. omega arith) (read-answer layout widths sizes v page out 14 e) in
+          let z = read-past layout widths sizes v page out 14 (λ x. omega arith) (λ x. omega arith) (λ x. omega arith) (λ x. omega arith) (read-answer layout widths sizes v page out 14 e) .3 in
           never (has-version (slotsIn layout v) (sizes .slots) page (pagesOf v page .committed) .1 (k, q, h, f, g, u)) (met-test (there layout widths sizes v page out) 14 0 14 (λ x. omega arith) z);
     }
 
@@ -237,10 +264,7 @@ read-means layout =
 abbrev chain : (fits sound alike pages astray there : Bool) → ℕ
 chain fits sound alike pages astray there = not fits ⇒ 1 otherwise not sound ⇒ 2 otherwise (alike || not pages) ⇒ 3 otherwise astray ⇒ 4 otherwise not there ⇒ 14 otherwise 0
 
-abbrev OneOf : ℕ → Type 0
-OneOf n = (n ≡ 0) ⊎ ((n ≡ 1) ⊎ ((n ≡ 2) ⊎ ((n ≡ 3) ⊎ ((n ≡ 4) ⊎ (n ≡ 14)))))
-
-chain-some : (fits sound alike pages astray there : Bool) → OneOf (chain fits sound alike pages astray there)
+chain-some : (fits sound alike pages astray there : Bool) → OneOfSix (chain fits sound alike pages astray there)
 chain-some false s c p a t = inr (inl refl)
 chain-some true false c p a t = inr (inr (inl refl))
 chain-some true true true p a t = inr (inr (inr (inl refl)))
@@ -257,6 +281,15 @@ chain-lengths true true false false a t e = absurd (omega arith)
 chain-lengths true true false true true t e = absurd (omega arith)
 chain-lengths true true false true false false e = absurd (omega arith)
 chain-lengths true true false true false true e = absurd (omega arith)
+
+chain-refused : (fits sound alike pages astray there : Bool) → fits ≡ false → chain fits sound alike pages astray there ≡ 1
+chain-refused false s c p a t e = refl
+chain-refused true s c p a t e = absurd (never refl e)
+
+chain-sound : (fits sound alike pages astray there : Bool) → ¬ (chain fits sound alike pages astray there ≡ 1) → ¬ (chain fits sound alike pages astray there ≡ 2) → sound ≡ true
+chain-sound false s c p a t d e = absurd (d refl)
+chain-sound true false c p a t d e = absurd (e refl)
+chain-sound true true c p a t d e = refl
 
 chain-unsound : (fits sound alike pages astray there : Bool) → chain fits sound alike pages astray there ≡ 2 → (fits ≡ true) × (sound ≡ false)
 chain-unsound false s c p a t e = absurd (omega arith)
@@ -299,11 +332,17 @@ record Tests : Type 0 where
 abbrev answerBy : Tests → ℕ
 answerBy x = chain (x .fits) (x .sound) (x .alike) (x .pages) (x .astray) (x .there)
 
-by-some : (x : Tests) → OneOf (answerBy x)
+by-some : (x : Tests) → OneOfSix (answerBy x)
 by-some x = chain-some (x .fits) (x .sound) (x .alike) (x .pages) (x .astray) (x .there)
 
 by-lengths : (x : Tests) → answerBy x ≡ 1 → x .fits ≡ false
 by-lengths x e = chain-lengths (x .fits) (x .sound) (x .alike) (x .pages) (x .astray) (x .there) e
+
+by-refused : (x : Tests) → x .fits ≡ false → answerBy x ≡ 1
+by-refused x e = chain-refused (x .fits) (x .sound) (x .alike) (x .pages) (x .astray) (x .there) e
+
+by-sound : (x : Tests) (n : ℕ) → n ≡ answerBy x → ¬ (n ≡ 1) → ¬ (n ≡ 2) → x .sound ≡ true
+by-sound x n q d e = chain-sound (x .fits) (x .sound) (x .alike) (x .pages) (x .astray) (x .there) (λ z. d (q ∙ z)) (λ z. e (q ∙ z))
 
 by-unsound : (x : Tests) → answerBy x ≡ 2 → (x .fits ≡ true) × (x .sound ≡ false)
 by-unsound x e = chain-unsound (x .fits) (x .sound) (x .alike) (x .pages) (x .astray) (x .there) e
@@ -406,15 +445,38 @@ module _ (widths : Widths) (sizes : Sizes) (v : Volume) where
       let b = behind recoverTests m d1 d2 d3 (sym recover-chain ∙ e) in
       (not-alike sizes t twin (b .1), none-missing sizes t (b .2), verdict-inside (sizes .slots) t (sizes .pages) (b .0), b .3)
 
+-- where the walk from a page ends, its committed version
+committed-by : (P S : ℕ) (t : ℕ → Slot) → tableSound P S t ≡ true → (p n : ℕ) → p < P → Walked (verdict S t) p ends.Committed n → committedOf P S t p ≡ highestVersionOf S t p
+unfolding committedOf walkOf committedBy highestVersionOf
+committed-by P S t sound p n h w = ap (λ (x : Walk). committedBy (x .end) (highest S t p)) (links-are-steps .exactly P S t sound p n ends.Committed h w)
+
+uncommitted-by : (P S : ℕ) (t : ℕ → Slot) → tableSound P S t ≡ true → (p n : ℕ) (J : Record) → p < P → Walked (verdict S t) p ends.Uncommitted n → highest S t p ≡ Holds J → committedOf P S t p ≡ J .c
+unfolding committedOf walkOf committedBy backPointer
+uncommitted-by P S t sound p n J h w e = ap (λ (x : Walk). committedBy (x .end) (highest S t p)) (links-are-steps .exactly P S t sound p n ends.Uncommitted h w) ∙ ap backPointer e
+
+recover-fills-so :
+    (widths : Widths) (sizes : Sizes) (v : Volume)
+    → recoverOutcome widths sizes v .answer ≡ 0
+    → recoverOutcome widths sizes v .left
+    ≡ stateWords (sizes .pages) (λ p. record { committed = committedOf (sizes .pages) (sizes .slots) (slotsOf v) p; used = usedOf (sizes .slots) (slotsOf v) p; next = noNumber; written = 0 })
+unfolding recovered atRest
+recover-fills-so widths sizes v e = ap (λ (o : Outcome (List ℕ)). o .left) (recover-fills widths sizes v (sym (links-apart .answer widths sizes v) ∙ e))
+
 pub recover-means : RecoverMeans
 recover-means =
     record {
-      some-answer = λ widths sizes v. subst OneOf (sym (recover-chain widths sizes v)) (by-some (recoverTests widths sizes v));
-      lengths = λ widths sizes v e. by-lengths (recoverTests widths sizes v) (sym (recover-chain widths sizes v) ∙ e);
-      unsound = λ widths sizes v e. by-unsound (recoverTests widths sizes v) (sym (recover-chain widths sizes v) ∙ e);
+      some-answer = λ widths sizes v. subst OneOfSix (sym (recover-chain widths sizes v)) (by-some (recoverTests widths sizes v));
+      lengths = λ widths sizes v. (λ e. by-lengths (recoverTests widths sizes v) (sym (recover-chain widths sizes v) ∙ e), λ n. recover-chain widths sizes v ∙ by-refused (recoverTests widths sizes v) n);
+      unsound = λ widths sizes v e. by-unsound (recoverTests widths sizes v) (sym (recover-chain widths sizes v) ∙ e) .1;
+      sound = λ widths sizes v d e. by-sound (recoverTests widths sizes v) (recoverOutcome widths sizes v .answer) (recover-chain widths sizes v) d e;
       alike = λ widths sizes v e.
-          let a = by-alike (recoverTests widths sizes v) (sym (recover-chain widths sizes v) ∙ e) in
-          (a .0, a .1, ⊎-elim (λ y. inl (alike-of sizes (slotsOf v) (twin widths sizes v) .0 y)) (λ n. inr (page-missing sizes (slotsOf v) n)) (a .2));
+          ⊎-elim
+          (λ y. inl (alike-of sizes (slotsOf v) (twin widths sizes v) .0 y))
+          (λ n. inr (page-missing sizes (slotsOf v) n))
+          (by-alike (recoverTests widths sizes v) (sym (recover-chain widths sizes v) ∙ e) .2);
+      fills = recover-fills-so;
+      committed = committed-by;
+      uncommitted = uncommitted-by;
       astray = λ widths sizes v e.
           let b = recover-behind widths sizes v 4 (λ q. omega arith) (λ q. omega arith) (λ q. omega arith) e in
           (b .0, b .1, astray-at sizes (slotsOf v) (verdict (sizes .slots) (slotsOf v)) (b .2) (versionThere widths sizes v) (b .3));
@@ -471,27 +533,73 @@ module _ (widths : Widths) (sizes : Sizes) (v : Volume) where
       let b = behind simpleTests m d1 d2 d3 (sym simple-chain ∙ e) in
       (not-alike sizes four noTwins (sym (clashes sizes four) ∙ b .1), none-missing sizes four (b .2), simple-verdict-inside (sizes .slots) four (sizes .pages) (b .0), b .3)
 
+simply-fits : (widths : Widths) (sizes : Sizes) (v : Volume) → (simpleTests widths sizes v .fits ≡ true) ↔ SimplyFits widths sizes v
+simply-fits widths sizes v =
+    let words : Bool = wordsFitIn FourWords (sizes .slots) (v .flash .words) in
+    let state : Bool = stateFits (sizes .pages) (v .state) in (
+      λ e. let s = sizes-facts widths sizes (both-left (sizesOk widths sizes) (words && state) e) in
+          let r = both-right (sizesOk widths sizes) (words && state) e in
+          (s .0, s .1, words-fit-in FourWords (sizes .slots) (v .flash .words) .0 (both-left words state r), state-fits-exactly (sizes .pages) (v .state) .0 (both-right words state r)),
+      λ f. both (sizes-test widths sizes (f .0) (f .1)) (both (words-fit-in FourWords (sizes .slots) (v .flash .words) .1 (f .2)) (state-fits-exactly (sizes .pages) (v .state) .1 (f .3))),
+    )
+
+simple-committed-by : (P S : ℕ) (t : ℕ → Slot) → tableSound P S t ≡ true → (p n : ℕ) → p < P → Walked (simpleVerdict S t) p ends.Committed n → committedSlotOf P S t p ≡ highest S t p
+unfolding committedSlotOf simpleWalkOf simpleCommittedSlot
+simple-committed-by P S t sound p n h w = ap (λ (x : Walk). simpleCommittedSlot (x .end) S t p) (simple-links-are-steps .exactly P S t sound p n ends.Committed h w)
+
+simple-uncommitted-by : (P S : ℕ) (t : ℕ → Slot) → tableSound P S t ≡ true → (p n : ℕ) → p < P → Walked (simpleVerdict S t) p ends.Uncommitted n → committedSlotOf P S t p ≡ second S t p
+unfolding committedSlotOf simpleWalkOf simpleCommittedSlot
+simple-uncommitted-by P S t sound p n h w = ap (λ (x : Walk). simpleCommittedSlot (x .end) S t p) (simple-links-are-steps .exactly P S t sound p n ends.Uncommitted h w)
+
+simple-fills-so :
+    (widths : Widths) (sizes : Sizes) (v : Volume)
+    → simpleRecoverOutcome widths sizes (v .flash .words) (v .state) .answer ≡ 0
+    → simpleRecoverOutcome widths sizes (v .flash .words) (v .state) .left
+    ≡ stateWords (sizes .pages)
+    (λ p. record { committed = versionIn (committedSlotOf (sizes .pages) (sizes .slots) (slotsIn FourWords v) p); used = usedOf (sizes .slots) (slotsIn FourWords v) p; next = noNumber; written = 0 })
+unfolding simpleRecovered atRest
+simple-fills-so widths sizes v e = simple-links-apart .filled widths sizes v (sym (simple-links-apart .answer widths sizes v) ∙ e)
+
+-- a page has a committed record, or none
+committed-held : (P S : ℕ) (t : ℕ → Slot) (p : ℕ) → hasCommitted P S t p ≡ true → (r : Record) × (committedSlotOf P S t p ≡ Holds r)
+unfolding hasCommitted
+committed-held P S t p e = not-blank-exactly (committedSlotOf P S t p) .0 (not-true (isBlank (committedSlotOf P S t p)) e)
+
+committed-blank : (P S : ℕ) (t : ℕ → Slot) (p : ℕ) → hasCommitted P S t p ≡ false → committedSlotOf P S t p ≡ Blank
+unfolding hasCommitted
+committed-blank P S t p e = is-blank-exactly (committedSlotOf P S t p) .0 (not-false (isBlank (committedSlotOf P S t p)) e)
+
 pub simple-recover-means : SimpleRecoverMeans
 simple-recover-means =
     record {
-      some-answer = λ widths sizes v. subst OneOf (sym (simple-chain widths sizes v)) (by-some (simpleTests widths sizes v));
-      lengths = λ widths sizes v e. by-lengths (simpleTests widths sizes v) (sym (simple-chain widths sizes v) ∙ e);
+      some-answer = λ widths sizes v. subst OneOfSix (sym (simple-chain widths sizes v)) (by-some (simpleTests widths sizes v));
+      lengths = λ widths sizes v. (
+        λ e f. never (simply-fits widths sizes v .1 f) (by-lengths (simpleTests widths sizes v) (sym (simple-chain widths sizes v) ∙ e)),
+        λ n. simple-chain widths sizes v ∙ by-refused (simpleTests widths sizes v) (on-test (simpleTests widths sizes v .fits) (λ y. absurd (n (simply-fits widths sizes v .0 y))) (λ z. z)),
+      );
       unsound = λ widths sizes v e. by-unsound (simpleTests widths sizes v) (sym (simple-chain widths sizes v) ∙ e) .1;
+      sound = λ widths sizes v d e. by-sound (simpleTests widths sizes v) (simpleRecoverOutcome widths sizes (v .flash .words) (v .state) .answer) (simple-chain widths sizes v) d e;
       alike = λ widths sizes v e.
-          let a = by-alike (simpleTests widths sizes v) (sym (simple-chain widths sizes v) ∙ e) in
-          (a .1, ⊎-elim (λ y. inl (alike-of sizes (slotsIn FourWords v) noTwins .0 (sym (clashes sizes (slotsIn FourWords v)) ∙ y))) (λ n. inr (page-missing sizes (slotsIn FourWords v) n)) (a .2));
+          ⊎-elim
+          (λ y. inl (alike-of sizes (slotsIn FourWords v) noTwins .0 (sym (clashes sizes (slotsIn FourWords v)) ∙ y)))
+          (λ n. inr (page-missing sizes (slotsIn FourWords v) n))
+          (by-alike (simpleTests widths sizes v) (sym (simple-chain widths sizes v) ∙ e) .2);
+      fills = simple-fills-so;
+      committed = simple-committed-by;
+      uncommitted = simple-uncommitted-by;
       astray = λ widths sizes v e.
           let b = simple-behind widths sizes v 4 (λ q. omega arith) (λ q. omega arith) (λ q. omega arith) e in
           (b .0, b .1, astray-at sizes (slotsIn FourWords v) (simpleVerdict (sizes .slots) (slotsIn FourWords v)) (b .2) (committedThere widths sizes v) (b .3));
       no-record = λ widths sizes v e.
           let b = simple-behind widths sizes v 14 (λ q. omega arith) (λ q. omega arith) (λ q. omega arith) e in
           let c = on-course sizes (slotsIn FourWords v) (simpleVerdict (sizes .slots) (slotsIn FourWords v)) (b .2) (committedThere widths sizes v) 14 (λ q. omega arith) (b .3) in
-          (b .0, b .1, c .0, some-fails (hasCommitted (sizes .pages) (sizes .slots) (slotsIn FourWords v)) (sizes .pages) (met-test (committedThere widths sizes v) 14 0 14 (λ q. omega arith) (c .1)));
+          let w = some-fails (hasCommitted (sizes .pages) (sizes .slots) (slotsIn FourWords v)) (sizes .pages) (met-test (committedThere widths sizes v) 14 0 14 (λ q. omega arith) (c .1)) in
+          (b .0, b .1, c .0, (w .0, w .1, committed-blank (sizes .pages) (sizes .slots) (slotsIn FourWords v) (w .0) (w .2)));
       done = λ widths sizes v e.
           let b = simple-behind widths sizes v 0 (λ q. omega arith) (λ q. omega arith) (λ q. omega arith) e in
           let c = on-course sizes (slotsIn FourWords v) (simpleVerdict (sizes .slots) (slotsIn FourWords v)) (b .2) (committedThere widths sizes v) 0 (λ q. omega arith) (b .3) in
           let y = past-test (committedThere widths sizes v) 14 0 0 (λ q. omega arith) (c .1) .0 in
-          (b .0, b .1, c .0, λ p h. all-at (hasCommitted (sizes .pages) (sizes .slots) (slotsIn FourWords v)) (sizes .pages) p y h);
+          (b .0, b .1, c .0, λ p h. committed-held (sizes .pages) (sizes .slots) (slotsIn FourWords v) p (all-at (hasCommitted (sizes .pages) (sizes .slots) (slotsIn FourWords v)) (sizes .pages) p y h));
     }
 
 module _ (widths : Widths) (sizes : Sizes) (v : Volume) (slots : List ℕ) where
@@ -533,39 +641,66 @@ simple-erase-means =
           (w .0, w .1, λ m. never (simple-may-erase-exactly (slotsIn FourWords v) (pagesOf v) (getD slots (w .0) 0) .1 m) (w .2));
     }
 
-buried : (widths : Widths) (sizes : Sizes) (v : Volume) (page slot : ℕ) (bytes : List ℕ) → simpleWriteAnswer widths sizes v page slot bytes ≡ 16 → wouldBury (sizes .slots) (slotsIn FourWords v) (pagesOf v) page ≡ true
-unfolding simpleWriteAnswer
-buried widths sizes v page slot bytes e =
-    let a = past-test (volumeFitsIn FourWords widths sizes v && eqb (length bytes) (sizes .width)) _ _ 16 (λ z. omega arith) e in
-    let b = past-test (tableSound (sizes .pages) (sizes .slots) (slotsIn FourWords v)) _ _ 16 (λ z. omega arith) (a .1) in
-    let c = past-test (stateSound (sizes .pages) (pagesOf v)) _ _ 16 (λ z. omega arith) (b .1) in
-    let d = past-test (ltb page (sizes .pages) && ltb slot (sizes .slots)) _ _ 16 (λ z. omega arith) (c .1) in
-    let f = past-test (inFlight (pagesOf v page)) _ _ 16 (λ z. omega arith) (d .1) in
-    let g = past (isWritten (pagesOf v page)) _ _ 16 (λ z. omega arith) (f .1) in
-    let h = past-test (isBlank (slotsIn FourWords v slot)) _ _ 16 (λ z. omega arith) (g .1) in
-    met (wouldBury (sizes .slots) (slotsIn FourWords v) (pagesOf v) page) 16 0 16 (λ z. omega arith) (h .1)
+module _ (widths : Widths) (sizes : Sizes) (v : Volume) (page slot : ℕ) (bytes : List ℕ) where
+  write-answer : (n : ℕ) → simpleWriteOutcome widths sizes v page slot bytes .answer ≡ n → simpleWriteAnswer widths sizes v page slot bytes ≡ n
+  unfolding simpleWriteOutcome
+  write-answer n e = sym (settled-answer _ _ _ _ _) ∙ e
 
-bury-either :
-    (widths : Widths) (sizes : Sizes) (v : Volume) (page slot : ℕ) (bytes : List ℕ)
-    → (volumeFitsIn FourWords widths sizes v && eqb (length bytes) (sizes .width)) ≡ true
-    → tableSound (sizes .pages) (sizes .slots) (slotsIn FourWords v) ≡ true
-    → stateSound (sizes .pages) (pagesOf v) ≡ true
-    → (ltb page (sizes .pages) && ltb slot (sizes .slots)) ≡ true
-    → inFlight (pagesOf v page) ≡ true
-    → isWritten (pagesOf v page) ≡ false
-    → isBlank (slotsIn FourWords v slot) ≡ true
-    → (simpleWriteOutcome widths sizes v page slot bytes .answer ≡ 0) ⊎ (simpleWriteOutcome widths sizes v page slot bytes .answer ≡ 16)
-unfolding simpleWriteOutcome simpleWriteAnswer
-bury-either widths sizes v page slot bytes a b c d f g h =
-    subst (λ (n : ℕ). (n ≡ 0) ⊎ (n ≡ 16)) (sym (settled-answer (simpleWriteAnswer widths sizes v page slot bytes) _ _ _ _ ∙ rw (a, b, c, d, f, g, h) refl))
-    (met-or-done (wouldBury (sizes .slots) (slotsIn FourWords v) (pagesOf v) page) 16)
+  write-past :
+      (m : ℕ) → ¬ (1 ≡ m) → ¬ (2 ≡ m) → ¬ (5 ≡ m) → ¬ (6 ≡ m) → ¬ (9 ≡ m) → ¬ (10 ≡ m) → ¬ (11 ≡ m)
+      → simpleWriteAnswer widths sizes v page slot bytes ≡ m
+      → WriteJudged widths sizes v page slot bytes × ((wouldBury (sizes .slots) (slotsIn FourWords v) (pagesOf v) page ⇒ 16 otherwise 0) ≡ m)
+  unfolding simpleWriteAnswer
+  write-past m d1 d2 d5 d6 d9 d10 d11 e =
+      let a = past-test (volumeFitsIn FourWords widths sizes v && eqb (length bytes) (sizes .width)) 1 _ m d1 e in
+      let b = past-test (tableSound (sizes .pages) (sizes .slots) (slotsIn FourWords v)) 2 _ m d2 (a .1) in
+      let c = past-test (stateSound (sizes .pages) (pagesOf v)) 5 _ m d5 (b .1) in
+      let d = past-test (ltb page (sizes .pages) && ltb slot (sizes .slots)) 6 _ m d6 (c .1) in
+      let f = past-test (inFlight (pagesOf v page)) 9 _ m d9 (d .1) in
+      let g = past (isWritten (pagesOf v page)) 10 _ m d10 (f .1) in
+      let h = past-test (isBlank (slotsIn FourWords v slot)) 11 _ m d11 (g .1) in (
+        record {
+          volume = record { fits = both-left (volumeFitsIn FourWords widths sizes v) (eqb (length bytes) (sizes .width)) (a .0); table = b .0; state = c .0 };
+          whole = eqb-true (length bytes) (sizes .width) (both-right (volumeFitsIn FourWords widths sizes v) (eqb (length bytes) (sizes .width)) (a .0));
+          page-below = ltb-true page (sizes .pages) (both-left (ltb page (sizes .pages)) (ltb slot (sizes .slots)) (d .0));
+          slot-below = ltb-true slot (sizes .slots) (both-right (ltb page (sizes .pages)) (ltb slot (sizes .slots)) (d .0));
+          flying = f .0;
+          unwritten = g .0;
+          free = h .0;
+        },
+        h .1,
+      )
+
+  bury-either : WriteJudged widths sizes v page slot bytes → (simpleWriteOutcome widths sizes v page slot bytes .answer ≡ 0) ⊎ (simpleWriteOutcome widths sizes v page slot bytes .answer ≡ 16)
+  unfolding simpleWriteOutcome simpleWriteAnswer
+  bury-either j =
+      subst (λ (n : ℕ). (n ≡ 0) ⊎ (n ≡ 16))
+      (sym (settled-answer (simpleWriteAnswer widths sizes v page slot bytes) _ _ _ _
+      ∙ rw (j .volume .fits, eq-eqb (length bytes) (sizes .width) (j .whole), j .volume .table, j .volume .state, lt-ltb page (sizes .pages) (j .page-below), lt-ltb slot (sizes .slots) (j .slot-below), j .flying, j .unwritten, j .free) refl))
+      (met-or-done (wouldBury (sizes .slots) (slotsIn FourWords v) (pagesOf v) page) 16)
+
+  -- of 0 and of 16
+  write-done : simpleWriteOutcome widths sizes v page slot bytes .answer ≡ 0 → WriteJudged widths sizes v page slot bytes × (wouldBury (sizes .slots) (slotsIn FourWords v) (pagesOf v) page ≡ false)
+  write-done e =
+      let p = write-past 0 (λ q. omega arith) (λ q. omega arith) (λ q. omega arith) (λ q. omega arith) (λ q. omega arith) (λ q. omega arith) (λ q. omega arith) (write-answer 0 e) in
+      (p .0, past (wouldBury (sizes .slots) (slotsIn FourWords v) (pagesOf v) page) 16 0 0 (λ q. omega arith) (p .1) .0)
+
+  write-buries : simpleWriteOutcome widths sizes v page slot bytes .answer ≡ 16 → WriteJudged widths sizes v page slot bytes × (wouldBury (sizes .slots) (slotsIn FourWords v) (pagesOf v) page ≡ true)
+  write-buries e =
+      let p = write-past 16 (λ q. omega arith) (λ q. omega arith) (λ q. omega arith) (λ q. omega arith) (λ q. omega arith) (λ q. omega arith) (λ q. omega arith) (write-answer 16 e) in
+      (p .0, met (wouldBury (sizes .slots) (slotsIn FourWords v) (pagesOf v) page) 16 0 16 (λ q. omega arith) (p .1))
 
 pub bury-means : BuryMeans
-unfolding simpleWriteOutcome
 bury-means =
     record {
       either = bury-either;
-      buries = λ widths sizes v page slot bytes e. buried-exactly (sizes .slots) (slotsIn FourWords v) (pagesOf v) page .0 (buried widths sizes v page slot bytes (sym (settled-answer _ _ _ _ _) ∙ e));
-      buries-none = λ widths sizes v page slot bytes e w.
-          never (buried-exactly (sizes .slots) (slotsIn FourWords v) (pagesOf v) page .1 w) (simple-write-tests widths sizes v page slot bytes (sym (settled-answer _ _ _ _ _) ∙ e) .none-buried);
+      judged = λ widths sizes v page slot bytes e. ⊎-elim (λ z. write-done widths sizes v page slot bytes z .0) (λ z. write-buries widths sizes v page slot bytes z .0) e;
+      buries = λ widths sizes v page slot bytes e. buried-exactly (sizes .slots) (slotsIn FourWords v) (pagesOf v) page .0 (write-buries widths sizes v page slot bytes e .1);
+      buries-none = λ widths sizes v page slot bytes e w. never (buried-exactly (sizes .slots) (slotsIn FourWords v) (pagesOf v) page .1 w) (write-done widths sizes v page slot bytes e .1);
     }
+
+settles : {B : Type 0} → Settles B
+settles a r s before after = (λ e. settled-done a r s before after e, λ n. settled-refused a r s before after n)
+
+pub settled-means : SettledMeans
+settled-means = (settles, settles, settles, settles)

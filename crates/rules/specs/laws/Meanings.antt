@@ -7,24 +7,25 @@ use mathlib.Core.Logic.{_⊎_, inl, inr, _↔_, ⊎-elim}
 use mathlib.Core.Bool.{Bool, true, false, cond}
 use lib.Dec.{ltb, eqb}
 use lib.ListN.{length, getD}
-use borrow.Author.Tests.{ltb-true, lt-ltb, le-ltb, eqb-true}
+use borrow.Author.Tests.{ltb-true, lt-ltb, le-ltb, eqb-true, eq-eqb}
 use Rattle.bounded.specs.Limits.{noNumber, Widths}
-use Rattle.bounded.specs.Choice.{never, on-test, on-lt}
+use Rattle.bounded.specs.Choice.{never, on-test, on-lt, equal-test}
 use Rattle.bounded.specs.Below.{maxBelow}
-use Rattle.bounded.specs.BelowLaws.{all-each, max-at}
+use Rattle.bounded.specs.BelowLaws.{all-each, max-at, some-at, some-of}
 use Rattle.bounded.specs.Parts.{part}
 use Rattle.bounded.specs.PartsLaws.{part-at}
 use Rattle.sizes.specs.declared.Layout.{Layout}
 use Rattle.sizes.specs.declared.Sizes.{Sizes}
-use Rattle.sizes.specs.Sizes.{strideOf}
+use Rattle.sizes.specs.declared.Layout.the-variants.{FiveWords, FourWords}
+use Rattle.sizes.specs.Sizes.{strideOf, listed}
 use Rattle.sizes.specs.Lists.{list-exactly}
 use Rattle.record.specs.declared.Record.{Record}
 use Rattle.record.specs.declared.Slot.{Slot}
 use Rattle.record.specs.declared.Slot.the-variants.{Blank, Holds}
-use Rattle.record.specs.Slot.{blankIn, slotIn, slotSound}
-use Rattle.record.specs.SlotLaws.{SoundRecord, sound-exactly, slot-blank-exactly, slot-blank, slot-holds}
+use Rattle.record.specs.Slot.{decoded, blankIn, slotIn, bytesAt, slotSound}
+use Rattle.record.specs.SlotLaws.{SoundRecord, sound-exactly, slot-blank-exactly, slot-blank, slot-holds, is-blank-exactly}
 use Rattle.state.specs.declared.PageState.{PageState}
-use Rattle.state.specs.State.{inFlight}
+use Rattle.state.specs.State.{pageOf, stateAt, inFlight, isWritten}
 use Rattle.state.specs.StateLaws.{state-sound-means, number-flies, none-rests}
 use Rattle.table.specs.Table.{tableSound, highest, versionIn, highestVersionOf, mentioned, usedOf}
 use Rattle.table.specs.TableLaws.{blank-holds, highest-is, highest-held, highest-page, highest-above, highest-exists, has-record}
@@ -38,7 +39,7 @@ use Rattle.rules.specs.laws.Volume.{fits-in-facts, fits-in-test}
 use Rattle.rules.specs.laws.Permission.{needed-exactly, may-erase-exactly}
 use Rattle.rules.specs.laws.Recover.{straddled-exactly}
 use Rattle.rules.specs.laws.Simple.{second-held, second-above, second-exists, simple-may-erase-exactly, buried-exactly}
-use Rattle.rules.specs.Meanings.{SlotMeans, ArgumentsMean, SoundMeans, TableMeans, TwinsMean, Cases, SimpleCases, VerdictMeans, PermissionMeans, SecondMeans, SimplyMeans}
+use Rattle.rules.specs.Meanings.{wordAt, SlotMeans, ArgumentsMean, SoundMeans, TableMeans, TwinsMean, Cases, SimpleCases, VerdictMeans, PermissionMeans, SecondMeans, SimplyMeans}
 
 -- ---- slots, lengths, lists
 
@@ -51,6 +52,31 @@ module _ (layout : Layout) (words : List ℕ) (k : ℕ) where
         λ f. e .1 (λ i h. part-at (strideOf layout) k words i noNumber h ∙ f i h),
       )
 
+five-words-at : (words : List ℕ) (k : ℕ) → decoded FiveWords (part 5 k words) ≡ record { p = wordAt 5 words k 0; v = wordAt 5 words k 1; c = wordAt 5 words k 2; np = wordAt 5 words k 3; nv = wordAt 5 words k 4 }
+unfolding decoded
+five-words-at words k =
+    rw (part-at 5 k words 0 noNumber (omega arith), part-at 5 k words 1 noNumber (omega arith), part-at 5 k words 2 noNumber (omega arith), part-at 5 k words 3 noNumber (omega arith), part-at 5 k words 4 noNumber (omega arith)) refl
+
+four-words-at : (words : List ℕ) (k : ℕ) → decoded FourWords (part 4 k words) ≡ record { p = wordAt 4 words k 0; v = wordAt 4 words k 1; c = 0; np = wordAt 4 words k 2; nv = wordAt 4 words k 3 }
+unfolding decoded
+four-words-at words k =
+    rw (part-at 4 k words 0 noNumber (omega arith), part-at 4 k words 1 noNumber (omega arith), part-at 4 k words 2 noNumber (omega arith), part-at 4 k words 3 noNumber (omega arith)) refl
+
+bytes-at : (w : ℕ) (contents : List ℕ) (k i : ℕ) → i < w → getD (bytesAt w contents k) i 0 ≡ getD contents (w * k + i) 0
+unfolding bytesAt
+bytes-at w contents k i h = part-at w k contents i 0 h
+
+page-at : (state : List ℕ) (p : ℕ) → stateAt state p ≡ record { committed = getD state (4 * p + 0) 0; used = getD state (4 * p + 1) 0; next = getD state (4 * p + 2) 0; written = getD state (4 * p + 3) 0 }
+unfolding stateAt pageOf
+page-at state p = rw (part-at 4 p state 0 0 (omega arith), part-at 4 p state 1 0 (omega arith), part-at 4 p state 2 0 (omega arith), part-at 4 p state 3 0 (omega arith)) refl
+
+is-listed-exactly : (list : List ℕ) (n : ℕ) → (listed list n ≡ true) ↔ ((i : ℕ) × (i < length list) × (getD list i 0 ≡ n))
+unfolding listed
+is-listed-exactly list n = (
+  λ e. let w = some-at (λ i. eqb (getD list i 0) n) (length list) e in (w .0, w .1, eqb-true (getD list (w .0) 0) n (w .2)),
+  λ w. some-of (λ i. eqb (getD list i 0) n) (length list) (w .0) (w .1) (eq-eqb (getD list (w .0) 0) n (w .2)),
+)
+
 pub slot-means : SlotMeans
 unfolding slotIn
 slot-means =
@@ -58,15 +84,20 @@ slot-means =
       blank = slot-blank-words;
       other = λ layout words k.
           let ws = part (strideOf layout) k words in on-test (blankIn layout ws) (λ y. inl (slot-blank layout ws y)) (λ n. inr (slot-holds layout ws n));
+      is-blank = is-blank-exactly;
+      five = five-words-at;
+      four = four-words-at;
+      bytes = λ w contents k i h. bytes-at w contents k i h;
+      page = page-at;
     }
 
 pub arguments-mean : ArgumentsMean
-arguments-mean = record { volume = λ layout widths sizes v. (fits-in-facts layout widths sizes v, fits-in-test layout widths sizes v); list = list-exactly }
+arguments-mean = record { is-listed = is-listed-exactly; volume = λ layout widths sizes v. (fits-in-facts layout widths sizes v, fits-in-test layout widths sizes v); list = list-exactly }
 
 -- ---- what is sound
 
 pub sound-means : SoundMeans
-unfolding tableSound slotSound
+unfolding tableSound slotSound isWritten
 sound-means =
     record {
       one-record = sound-exactly;
@@ -75,6 +106,7 @@ sound-means =
         λ each. all-each (λ k. slotSound P (t k)) S .1 (λ k h. back P (t k) (each k h)),
       );
       flight = λ s. (λ e z. never e (none-rests s z), number-flies s);
+      written = λ s. equal-test (s .written) 1;
       state = state-sound-means;
     }
   where
