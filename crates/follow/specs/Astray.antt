@@ -12,7 +12,7 @@ use Rattle.follow.specs.Steps.{Leads, EndsAt, committed, uncommitted, ba
 use Rattle.follow.specs.Course.{Course, ended, astray, walk-ends, walk-astray, course, as-many, same-way-on, pages-led, led-inside}
 
 module _ (v : ℕ → Verdict) (start : ℕ) where
-  -- "the links run into a ring that lacks the start": after i links and again after d more they are at the same page, and never back at the start
+  -- "the links run into a ring that lacks the start": after some links, and again after some more around, they are at the same page, and never back at the start
   pub record RunsIntoRing : Type 0 where
     pub page : ℕ
     pub before : ℕ

@@ -9,11 +9,11 @@ use lib.Dec.{ltb, eqb}
 use lib.ListN.{length, getD}
 use borrow.Author.Tests.{not-true, not-false, ltb-true, lt-ltb, eqb-true, eq-eqb}
 use Rattle.bounded.specs.Limits.{noNumber, Widths}
-use Rattle.bounded.specs.Choice.{never, on-test, both, both-left, both-right}
+use Rattle.bounded.specs.Choice.{never, on-test, and-true, both, both-left, both-right}
 use Rattle.bounded.specs.Below.{allBelow, someBelow}
 use Rattle.bounded.specs.BelowLaws.{all-at, some-at, some-of, some-not-at, some-cong}
 use Rattle.outcome.specs.Outcome.{_⇒_otherwise_, Outcome}
-use Rattle.outcome.specs.OutcomeLaws.{settled-answer, settled-done, settled-refused}
+use Rattle.outcome.specs.OutcomeLaws.{past, past-test, met, met-test, met-or-done, settled-answer, settled-done, settled-refused}
 use Rattle.sizes.specs.declared.Layout.{Layout}
 use Rattle.sizes.specs.declared.Layout.the-variants.{FiveWords, FourWords}
 use Rattle.sizes.specs.declared.Sizes.{Sizes}
@@ -53,30 +53,6 @@ use Rattle.rules.specs.laws.Links.{simple-verdict-inside, links-are-step
 use Rattle.rules.specs.laws.Simple.{simple-may-erase-exactly, simple-may-erase-all, buried-exactly}
 use Rattle.rules.specs.laws.SimpleAccepted.{simple-erase-tests}
 use Rattle.rules.specs.Answers.{Settles, SettledMeans, Judged, MayGo, EraseMeans, SuggestMeans, ReadMeans, PageMissing, TwoAlike, HasVersion, OneOfSix, RecoverMeans, TwinsAlone, SimplyFits, SimpleRecoverMeans, SimpleEraseMeans, WriteJudged, BuryMeans}
-
--- ---- chains of conditions
-
--- another answer than a condition's is what those below it give
-past : (b : Bool) (n rest m : ℕ) → ¬ (n ≡ m) → (b ⇒ n otherwise rest) ≡ m → (b ≡ false) × (rest ≡ m)
-past true n rest m d e = absurd (d e)
-past false n rest m d e = (refl, e)
-
--- and an answer that those below do not give is the condition's
-met : (b : Bool) (n rest m : ℕ) → ¬ (rest ≡ m) → (b ⇒ n otherwise rest) ≡ m → b ≡ true
-met true n rest m d e = refl
-met false n rest m d e = absurd (d e)
-
--- a condition that is a test's failure
-past-test : (b : Bool) (n rest m : ℕ) → ¬ (n ≡ m) → (not b ⇒ n otherwise rest) ≡ m → (b ≡ true) × (rest ≡ m)
-past-test b n rest m d e = let p = past (not b) n rest m d e in (not-false b (p .0), p .1)
-
-met-test : (b : Bool) (n rest m : ℕ) → ¬ (rest ≡ m) → (not b ⇒ n otherwise rest) ≡ m → b ≡ false
-met-test b n rest m d e = not-true b (met (not b) n rest m d e)
-
--- the last condition of a chain is met, or 0 is answered
-met-or-done : (b : Bool) (n : ℕ) → ((b ⇒ n otherwise 0) ≡ 0) ⊎ ((b ⇒ n otherwise 0) ≡ n)
-met-or-done true n = inr refl
-met-or-done false n = inl refl
 
 -- where not each passes, one does not
 some-fails : (f : ℕ → Bool) (n : ℕ) → allBelow n f ≡ false → (k : ℕ) × (k < n) × (f k ≡ false)
@@ -378,11 +354,7 @@ module _ (sizes : Sizes) (t : ℕ → Slot) where
   -- without twins a clash is a conflict
   clashes : someClash (sizes .slots) t ≡ someConflict (sizes .slots) t noTwins
   unfolding someClash someConflict
-  clashes = some-cong (sizes .slots) (λ k h. some-cong k (λ j l. and-true (clash (t j) (t k))))
-    where
-      and-true : (b : Bool) → b ≡ (b && true)
-      and-true true = refl
-      and-true false = refl
+  clashes = some-cong (sizes .slots) (λ k h. some-cong k (λ j l. sym (and-true (clash (t j) (t k)))))
 
   page-missing : allBelow (sizes .pages) (hasRecord (sizes .slots) t) ≡ false → PageMissing sizes t
   page-missing e =
