@@ -7,7 +7,3 @@ pub mod Companions
 pub mod Burial
 pub mod Runs
 pub mod rings
-pub mod steps
-pub mod theorems
-pub mod BackPointer
-pub mod Simple

@@ -1,1 +1,3 @@
-// No code: promise 3, stated and proved (specs/).
+// No code: promise 3, stated (specs/) and proved (proofs/).
+
+#![tactic(auto)]

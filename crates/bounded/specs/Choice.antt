@@ -81,6 +81,9 @@ said_no {b} e h = sym e ∙ not-true b h
 pub said_yes : {b s : Bool} → b ≡ s → not b ≡ false → s ≡ true
 said_yes {b} e h = sym e ∙ not-false b h
 
+pub told : {b s t : Bool} → b ≡ s → b ≡ t → s ≡ t
+told e h = sym e ∙ h
+
 -- ---- tests that are exactly a proposition, put together
 pub negated : {A : Type 0} (b : Bool) → (b ≡ true) ↔ A → (not b ≡ true) ↔ (¬ A)
 negated b i =

@@ -9,7 +9,7 @@ use Rattle.bounded.specs.Passing.{list_exactly}
 
 -- a number stands in a list, or not
 pub listed? : (k : ℕ) (l : List ℕ) → Memᴰ k l ⊎ ¬ (Memᴰ k l)
-listed? k [] = inr Memᴰ.not_nil
+listed? k [] = inr Memᴰ.not-nil
 listed? k (x ∷ l) = on_eq k x (λ e. inl (Memᴰ.head e)) (λ d. by d (listed? k l))
   where
     by : ¬ (k ≡ x) → Memᴰ k l ⊎ ¬ (Memᴰ k l) → Memᴰ k (x ∷ l) ⊎ ¬ (Memᴰ k (x ∷ l))
@@ -18,7 +18,7 @@ listed? k (x ∷ l) = on_eq k x (λ e. inl (Memᴰ.head e)) (λ d. by d (listed?
 
 -- the members of a list are its entries by index
 pub member_at : (l : List ℕ) (k : ℕ) → Memᴰ k l → (i : ℕ) × (i < length l) × (get_or l i 0 ≡ k)
-member_at [] k m = absurd (Memᴰ.not_nil m)
+member_at [] k m = absurd (Memᴰ.not-nil m)
 member_at (x ∷ l) k m =
     ⊎_elim
     (λ e. (0, omega arith, sym e))
@@ -94,7 +94,7 @@ Rises b n (x ∷ l) = (b ≤ x) × (x < n) × Rises (suc x) n l
 
 pub rises_member : (b n : ℕ) (l : List ℕ) → Rises b n l → (k : ℕ) → Memᴰ k l → (b ≤ k) × (k < n)
 unfolding Rises
-rises_member b n [] r k m = absurd (Memᴰ.not_nil m)
+rises_member b n [] r k m = absurd (Memᴰ.not-nil m)
 rises_member b n (x ∷ l) r k m =
     ⊎_elim
     (λ e. ((let a = r.0 in omega arith), (let c = r.1 in omega arith)))

@@ -1,5 +1,7 @@
 // The C interface: every call, exported. The functions `star_cases`, `refusals`, `meanings`, `exposed_found`, `promise_3`, `cleaning`, `sweeping`, `picking`, `doubting`, `two_widths` and `slowest_start` pin theorems in their contracts.
 
+#![tactic(auto)]
+
 pub mod scc; // scc.rt: the second family
 
 ghost use Rattle.std.specs.Prelude.{◌≡◌};

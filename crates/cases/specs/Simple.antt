@@ -13,7 +13,8 @@ use Rattle.rules.specs.Format.{formatted_in}
 use Rattle.rules.specs.Launch.{launch_outcome}
 use Rattle.rules.specs.SimpleCalls.{simple_write_outcome, simple_recover_outcome}
 use Rattle.rules.specs.cases.Computing.{computing}
-use Rattle.rules.specs.cases.Simple.{four, four_table, rest, whole_of, launched_two, first_of_two, second_of_two, written_into, simple_format_rows, simple_format_rows_lem, simple_recover_rows, simple_recover_rows_lem, ring_of_two_rows, ring_of_two_rows_lem, bury_rows, bury_rows_lem, simple_erase_rows, simple_erase_rows_lem}
+use Rattle.rules.specs.cases.Simple.{four, four_table, rest, whole_of, launched_two, first_of_two, second_of_two, written_into, simple_format_rows, simple_recover_rows, ring_of_two_rows, bury_rows, simple_erase_rows}
+use Rattle.rules.proofs.cases.Simple.{simple_format_rows_lem, simple_recover_rows_lem, ring_of_two_rows_lem, bury_rows_lem, simple_erase_rows_lem}
 
 -- the state with the ring of three in flight at version 1; whether pages 1 and 2 are written
 unfoldable pub three_in_flight : (written1 written2 : ℕ) → List ℕ

@@ -1,5 +1,7 @@
 // The slots as chains, made in one pass over the slots: then those of one chain are searched without looking at any other. The chains
 // are a table of 1,024 numbers, one for each chain, and 1,024 for the slots. The definitions are in specs/.
+#![tactic(auto)]
+
 pub mod version; // version.rt: the slots of one page and version
 
 ghost use Rattle.std.specs.Prelude.{◌≡◌, cond, ◌+◌, ◌*◌, ◌-◌, ◌%◌, ◌≤◌, ◌<◌, length, get_or};
@@ -11,7 +13,7 @@ use record::{Record, Slot};
 use sizes::Layout;
 
 // What the records of one chain share.
-#[derive(Drop)]
+#[derive(Clone, Copy)]
 pub enum Key {
     Page,
     // The page, of records that may straddle a link.

@@ -13,7 +13,8 @@ use Rattle.bounded.specs.Noted.{list_goes_on}
 use Rattle.sizes.specs.declared.Block.{Block}
 use Rattle.sizes.specs.declared.Layout.TheVariants.{FiveWords}
 use Rattle.sizes.specs.Blocks.{in_block}
-use Rattle.sizes.specs.BlocksLaws.{BlockIn, before_block, behind_block}
+use Rattle.sizes.specs.BlocksLaws.{BlockIn}
+use Rattle.sizes.proofs.BlocksLaws.{before_block, behind_block}
 use Rattle.record.specs.Flash.{Flash, Step, apply, apply_all_in, apply_all}
 use Rattle.record.specs.FlashLaws.{apply_append}
 use Rattle.rules.specs.Erase.{erase_steps}

@@ -15,7 +15,7 @@ use Rattle.twins.specs.Twins.{twins}
 use Rattle.rules.specs.Permission.{Scene, scene, may_erase_from}
 use Rattle.rules.specs.Found.{exposed_slots, by_found}
 use Rattle.upkeep.specs.Clean.{is_copied}
-use Rattle.rules.specs.laws.Found.{found_scene}
+use Rattle.rules.proofs.laws.Found.{found_scene}
 use Rattle.judge.specs.Marked.{marked}
 use Rattle.judge.specs.Judgeable.{Judgeable}
 

@@ -11,16 +11,18 @@ use Rattle.sizes.specs.declared.Block.{Block}
 use Rattle.sizes.specs.declared.Layout.TheVariants.{FiveWords}
 use Rattle.sizes.specs.declared.Sizes.{Sizes}
 use Rattle.sizes.specs.Blocks.{NamedBlock, block_ok, block_at, in_block}
-use Rattle.sizes.specs.BlocksLaws.{BlockIn, named_inside}
+use Rattle.sizes.specs.BlocksLaws.{BlockIn}
+use Rattle.sizes.proofs.BlocksLaws.{named_inside}
 use Rattle.record.specs.Flash.{Flash, flash, apply_all}
 use Rattle.record.specs.FlashLaws.{apply_append}
 use Rattle.rules.specs.Volume.{Volume, volume}
 use Rattle.rules.specs.Erase.{erase_steps}
 use Rattle.upkeep.specs.Clean.{copy_steps, clean_from, clean_to, clean_copies, clean_blanks, clean_steps, clean_answer, too_few_blank}
-use Rattle.rules.specs.laws.Chains.{block_judged, block_judged_passed, volume_spans}
-use Rattle.upkeep.specs.laws.Tests.{clean_own, clean_chain}
+use Rattle.rules.specs.laws.Chains.{block_judged}
+use Rattle.rules.proofs.laws.Chains.{block_judged_passed, volume_spans}
+use Rattle.upkeep.proofs.laws.Tests.{clean_own, clean_chain}
 use Rattle.upkeep.specs.laws.Copies.{Ready}
-use Rattle.upkeep.specs.laws.Clean.{ready}
+use Rattle.upkeep.proofs.laws.Clean.{ready}
 use Rattle.judge.specs.Judgeable.{SoundFlash, sound_flash}
 use Rattle.clean.specs.Copying.{Copying, copying_begins}
 

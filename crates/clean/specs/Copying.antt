@@ -14,7 +14,8 @@ use Rattle.record.specs.Slot.{encoded, slot_at, bytes_at}
 use Rattle.record.specs.Flash.{Flash, flash, Step, put_slot_in, apply_in, apply, apply_all_in, apply_all}
 use Rattle.record.specs.FlashLaws.{SizedIn}
 use Rattle.upkeep.specs.Clean.{record_in, copy_step, copy_steps}
-use Rattle.upkeep.specs.laws.Copies.{Ready, first_source, first_below_lem, ready_on}
+use Rattle.upkeep.specs.laws.Copies.{Ready}
+use Rattle.upkeep.proofs.laws.Copies.{first_source, first_below_lem, ready_on}
 
 -- one copy, its bytes through a buffer of w
 pub copy_is :

@@ -1,6 +1,8 @@
 // Cleaning one block of slots, document 02, wish 1: what may not be erased is copied to blank slots outside it, and the block is blanked. The single steps are
 // fixed before the first is done. The definitions are in crate upkeep; what may be erased is judged in crate judge.
 
+#![tactic(auto)]
+
 mod blocks; // blocks.rt: a block's slots
 mod choice; // choice.rt: what is copied, and where to
 mod steps; // steps.rt: the copies and the blankings

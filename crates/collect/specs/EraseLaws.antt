@@ -19,13 +19,15 @@ use Rattle.sizes.specs.Sizes.{stride_of, list_ok}
 use Rattle.sizes.specs.Lists.{list_facts}
 use Rattle.record.specs.Flash.{Flash, Step, apply_in, apply_all_in}
 use Rattle.record.specs.FlashLaws.{SizedIn}
-use Rattle.table.specs.Inside.{slot_inside}
+use Rattle.table.proofs.Inside.{slot_inside}
 use Rattle.rules.specs.Volume.{Volume, volume_fits_in}
 use Rattle.rules.specs.Erase.{erase_steps, erase_outcome}
 use Rattle.rules.specs.SimpleCalls.{simple_erase_outcome}
-use Rattle.rules.specs.laws.Volume.{FitsIn, fits_in_facts}
+use Rattle.rules.specs.laws.Volume.{FitsIn}
+use Rattle.rules.proofs.laws.Volume.{fits_in_facts}
 use Rattle.rules.specs.laws.Families.{erase_answer_in, erase_outcome_in}
-use Rattle.rules.specs.laws.Chains.{judged_in, judged_passed, erase_own, erase_chain}
+use Rattle.rules.specs.laws.Chains.{judged_in, erase_own}
+use Rattle.rules.proofs.laws.Chains.{judged_passed, erase_chain}
 
 -- the bytes of all slots of a volume that fits are in its contents
 pub contents_span : (layout : Layout) (widths : Widths) (sizes : Sizes) (v : Volume) → volume_fits_in layout widths sizes v ≡ true → sizes.width * sizes.slots ≤ length v.flash.contents

@@ -1,4 +1,6 @@
 // Garbage collection: erase and suggest. The definitions are in crate rules; what may go is judged in crate judge, and of records without a back pointer in crate permit.
+#![tactic(auto)]
+
 ghost use Rattle.std.specs.Prelude.{◌≡◌, ◌+◌, ◌*◌, ◌≤◌, length, true};
 ghost use Rattle.bounded.specs.Limits.{two_widths};
 ghost use Rattle.outcome.specs.Outcome.{returned};

@@ -1,5 +1,7 @@
 // Records of equal page and version: whether the table has two, and two that are no twins. Each slot is looked up among those before it, which are
 // chained by page and version in lent tables. The definitions are in crates table and twins.
+#![tactic(auto)]
+
 ghost use Rattle.std.specs.Prelude.{◌≡◌, false, not, ◌&&◌, ◌+◌, ◌*◌, ◌≤◌, ◌<◌, length};
 ghost use Rattle.bounded.specs.Below.{some_below};
 ghost use Rattle.sizes.specs.Sizes.{stride_of};

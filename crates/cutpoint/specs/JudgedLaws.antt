@@ -18,7 +18,7 @@ use Rattle.record.specs.Flash.{Flash, Step, apply, apply_all, apply_all_in}
 use Rattle.rules.specs.Volume.{Volume, volume_fits}
 use Rattle.rules.specs.Recover.{recover_answer, recover_outcome}
 use Rattle.rules.specs.Erase.{erase_steps}
-use Rattle.rules.specs.laws.Volume.{fits_facts}
+use Rattle.rules.proofs.laws.Volume.{fits_facts}
 use Rattle.dispatch.specs.Dispatch.{lost}
 use Rattle.atomicity.specs.Family.{back_pointer}
 use Rattle.atomicity.specs.Run.{done_of}

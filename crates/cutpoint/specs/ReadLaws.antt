@@ -19,8 +19,9 @@ use Rattle.table.specs.Table.{has_version}
 use Rattle.twins.specs.Twins.{has_same_bytes}
 use Rattle.rules.specs.Volume.{Volume, volume_fits}
 use Rattle.rules.specs.Read.{read_slot_in, read_slot, read_answer, read_outcome_in}
-use Rattle.rules.specs.laws.Volume.{fits_facts, bytes_whole}
-use Rattle.rules.specs.laws.Chains.{judged, judged_passed, judged_refuses, judged_passes, read_own, read_chain, SpansIn, volume_spans}
+use Rattle.rules.proofs.laws.Volume.{fits_facts, bytes_whole}
+use Rattle.rules.specs.laws.Chains.{judged, read_own, SpansIn}
+use Rattle.rules.proofs.laws.Chains.{judged_passed, judged_refuses, judged_passes, read_chain, volume_spans}
 use Rattle.atomicity.specs.Family.{back_pointer}
 use Rattle.everywhere.specs.Cuts.{are_reads_kept}
 use Rattle.ledger.specs.Ledger.{filled}

@@ -1,5 +1,7 @@
 // A cut judged: a flash that a cut left is recovered and every page read; and all cuts in an erase.
 
+#![tactic(auto)]
+
 pub mod copy; // copy.rt: the flash copied
 pub mod page; // page.rt: every page read and held against what is kept of it
 pub mod erase; // erase.rt: the cuts in an erase
@@ -16,7 +18,7 @@ ghost use Rattle.cutpoint.specs.Judged.{tallied};
 use sizes::Sizes;
 
 // How many cuts came back the same, and how many did not.
-#[derive(Drop)]
+#[derive(Clone, Copy)]
 pub struct Tally {
     pub same: u32,
     pub differ: u32,

@@ -8,7 +8,7 @@ use Rattle.bounded.specs.Fronts.{equal_lent}
 use Rattle.outcome.specs.Outcome.{Outcome, returned}
 use Rattle.sizes.specs.declared.Sizes.{Sizes}
 use Rattle.sizes.specs.Sizes.{sizes_ok}
-use Rattle.sizes.specs.SizesLaws.{sizes_facts}
+use Rattle.sizes.proofs.SizesLaws.{sizes_facts}
 use Rattle.rules.specs.Volume.{Volume, volume}
 use Rattle.rules.specs.Format.{formatted, format_outcome}
 use Rattle.cutpoint.specs.JudgedLaws.{lent, front_again}

@@ -7,7 +7,7 @@ use Rattle.text.specs.Print.{decimal_in, decimal}
 use Rattle.text.specs.Lines.{onto, lines_of}
 use Rattle.line.specs.Line.{on_format}
 use Rattle.line.specs.Computing.{computing as line_computing}
-use Rattle.everywhere.specs.Cases.{cuts_computing}
+use Rattle.everywhere.proofs.Cases.{cuts_computing}
 use Rattle.cuts.specs.Recording.{step_by, joined, steps_by, script, zeroed, script_of, recording, counts_text, cuts_text, report_of, report_text}
 
 -- "case 6's script, fills not 0"

@@ -23,20 +23,20 @@ use Rattle.rules.specs.Launch.{launch_answer, launch_outcome}
 use Rattle.rules.specs.Withdraw.{withdraw_answer, withdraw_outcome}
 use Rattle.rules.specs.Recover.{recovered, recover_answer, recover_outcome}
 use Rattle.rules.specs.laws.Volume.{FitsIn}
-use Rattle.rules.specs.laws.Accepted.{launch_tests, withdraw_tests}
-use Rattle.rules.specs.laws.Outcomes.{launch_refused, launch_done, withdraw_refused, withdraw_done}
+use Rattle.rules.proofs.laws.Accepted.{launch_tests, withdraw_tests}
+use Rattle.rules.proofs.laws.Outcomes.{launch_refused, launch_done, withdraw_refused, withdraw_done}
 use Rattle.atomicity.specs.Call.{Call}
 use Rattle.atomicity.specs.Model.{Told, Model, new_ring, close_ring, close_all, accept, learns}
 use Rattle.everywhere.specs.Cuts.{wiped_state}
 use Rattle.atomicity.specs.rings.Match.{RingsMatch}
-use Rattle.atomicity.specs.rings.Cycle.{rings_match_cong}
-use Rattle.atomicity.specs.rings.Launch.{launch_match, launch_entered}
-use Rattle.atomicity.specs.rings.Close.{close_entered, withdraw_match, no_rings_match}
-use Rattle.atomicity.specs.steps.Launch.{listed_some, listed_launchable}
+use Rattle.atomicity.proofs.rings.Cycle.{rings_match_cong}
+use Rattle.atomicity.proofs.rings.Launch.{launch_match, launch_entered}
+use Rattle.atomicity.proofs.rings.Close.{close_entered, withdraw_match, no_rings_match}
+use Rattle.atomicity.proofs.steps.Launch.{listed_some, listed_launchable}
 use Rattle.ledger.specs.Ledger.{settled_entered, settled_kept}
 use Rattle.recorded.specs.Desk.{Desk, Ready, settled_desk}
 use Rattle.cuts.specs.Follows.{EnteredAt, EnteredIs, KeptIs, entered_settled, kept_stays}
-use Rattle.atomicity.specs.steps.Event.{learns_refused}
+use Rattle.atomicity.proofs.steps.Event.{learns_refused}
 
 -- ---- the state
 

@@ -18,9 +18,9 @@ use Rattle.state.specs.Change.{at_rest, completes, completed, committed_page, af
 use Rattle.state.specs.CompletionLaws.{completes_at, after_write_done}
 use Rattle.atomicity.specs.Model.{Model, Entry, entry_page, has_bytes, enter}
 use Rattle.atomicity.specs.rings.Match.{IsEntered, RingsMatch, ring_of}
-use Rattle.atomicity.specs.rings.Laws.{in_ring_entry, ring_of_page}
-use Rattle.atomicity.specs.rings.Cycle.{ring_of_matches, ring_of_cycle, entered_flies}
-use Rattle.atomicity.specs.rings.Write.{write_open_kept, write_open_entered, write_done_own, write_done_cycle, write_done_other, write_done_entered}
+use Rattle.atomicity.proofs.rings.Laws.{in_ring_entry, ring_of_page}
+use Rattle.atomicity.proofs.rings.Cycle.{ring_of_matches, ring_of_cycle, entered_flies}
+use Rattle.atomicity.proofs.rings.Write.{write_open_kept, write_open_entered, write_done_own, write_done_cycle, write_done_other, write_done_entered}
 use Rattle.ledger.specs.Ledger.{entered_then, kept_then, settled_entered, settled_kept}
 
 -- ---- what is entered for a page, and what is kept

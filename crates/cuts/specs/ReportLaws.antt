@@ -13,7 +13,7 @@ use Rattle.text.specs.Lines.{lines_of}
 use Rattle.line.specs.Line.{Said, on_format, max_entries, line_means}
 use Rattle.line.specs.Computing.{computing as line_computing}
 use Rattle.everywhere.specs.Cuts.{sames, differs}
-use Rattle.everywhere.specs.Laws.{same_or_not}
+use Rattle.everywhere.proofs.Laws.{same_or_not}
 use Rattle.cutpoint.specs.declared.Tally.{Tally}
 use Rattle.cutpoint.specs.Judged.{tallied}
 use Rattle.cuts.specs.declared.run.Ran.{Ran}

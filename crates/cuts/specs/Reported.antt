@@ -16,24 +16,25 @@ use Rattle.outcome.specs.Outcome.{Outcome, settled}
 use Rattle.sizes.specs.declared.Layout.TheVariants.{FiveWords}
 use Rattle.sizes.specs.declared.Sizes.{Sizes}
 use Rattle.sizes.specs.Sizes.{sizes_ok}
-use Rattle.sizes.specs.SizesLaws.{sizes_facts}
+use Rattle.sizes.proofs.SizesLaws.{sizes_facts}
 use Rattle.text.specs.Scan.{bytes}
 use Rattle.line.specs.Line.{Said, on_format, max_entries, line_means}
-use Rattle.line.specs.Says.{line_says}
+use Rattle.line.proofs.Says.{line_says}
 use Rattle.state.specs.State.{state_at, in_flight}
 use Rattle.state.specs.StateLaws.{state_at_words, none_rests}
 use Rattle.state.specs.Change.{at_rest, fresh_state}
 use Rattle.rules.specs.Volume.{Volume, volume_fits, volume_fits_in}
 use Rattle.rules.specs.Format.{formatted, formatted_in, format_answer_in, format_outcome, format_outcome_in}
-use Rattle.rules.specs.laws.Volume.{FitsIn, fits_test}
-use Rattle.rules.specs.laws.Outcomes.{format_done}
+use Rattle.rules.specs.laws.Volume.{FitsIn}
+use Rattle.rules.proofs.laws.Volume.{fits_test}
+use Rattle.rules.proofs.laws.Outcomes.{format_done}
 use Rattle.atomicity.specs.Run.{started}
 use Rattle.atomicity.specs.Model.{fresh_model}
 use Rattle.everywhere.specs.Cuts.{Recorded, cuts_from, cuts_of, erasing}
-use Rattle.atomicity.specs.rings.Close.{no_rings_match}
-use Rattle.atomicity.specs.rings.Cycle.{entered_flies}
-use Rattle.atomicity.specs.steps.Format.{formatted_fits}
-use Rattle.atomicity.specs.BackPointer.{back_pointer_lem}
+use Rattle.atomicity.proofs.rings.Close.{no_rings_match}
+use Rattle.atomicity.proofs.rings.Cycle.{entered_flies}
+use Rattle.atomicity.proofs.steps.Format.{formatted_fits}
+use Rattle.atomicity.proofs.BackPointer.{back_pointer_lem}
 use Rattle.cuts.specs.Recording.{steps_by, script, zeroed, script_of, cuts_text, report_of}
 use Rattle.recorded.specs.Desk.{desk}
 use Rattle.cuts.specs.Followed.{Follows}

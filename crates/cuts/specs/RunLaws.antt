@@ -22,7 +22,7 @@ use Rattle.line.specs.contracts.Line.{the_type}
 use Rattle.record.specs.Flash.{Flash}
 use Rattle.rules.specs.Write.{write_outcome}
 use Rattle.everywhere.specs.Cuts.{wiped_state, erase_outcome_by, sames, differs}
-use Rattle.everywhere.specs.Laws.{differs_append, sames_append, same_or_not}
+use Rattle.everywhere.proofs.Laws.{differs_append, sames_append, same_or_not}
 use Rattle.cutpoint.specs.declared.Tally.{Tally}
 use Rattle.cutpoint.specs.Judged.{tallied, erase_cuts}
 use Rattle.ledger.specs.Ledger.{filled}

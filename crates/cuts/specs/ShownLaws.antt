@@ -24,14 +24,15 @@ use Rattle.line.specs.Line.{Said, on_format, max_entries, line_means}
 use Rattle.rules.specs.Volume.{Volume}
 use Rattle.rules.specs.Format.{formatted, format_answer, format_outcome, format_outcome_in}
 use Rattle.rules.specs.laws.Volume.{FitsIn}
-use Rattle.rules.specs.laws.Outcomes.{format_done}
+use Rattle.rules.proofs.laws.Outcomes.{format_done}
 use Rattle.dispatch.specs.Dispatch.{accepted, line_outcome}
 use Rattle.atomicity.specs.Call.{perform, with_state, with_flash}
 use Rattle.atomicity.specs.Family.{Family, back_pointer}
 use Rattle.atomicity.specs.Run.{World, happens, started, after}
-use Rattle.atomicity.specs.Model.{Model, fresh_model}
+use Rattle.atomicity.specs.Model.{Model, learns, fresh_model}
+use Rattle.atomicity.specs.Promise.{told}
 use Rattle.everywhere.specs.Cuts.{Recorded, event_of, cuts_of, sames, differs, erasing}
-use Rattle.everywhere.specs.Laws.{Reached, holding_fits, reached_step, reached_first, own_erase, cut_everywhere}
+use Rattle.everywhere.proofs.Laws.{Reached, holding_fits, reached_step, reached_first, own_erase, cut_everywhere}
 use Rattle.cuts.specs.Recording.{step_by, joined, steps_by, Script, script, zeroed, script_of, recording, counts_text, cuts_text, report_of, report_text}
 use Rattle.recorded.specs.StepLaws.{lost_wiped}
 use Rattle.cuts.specs.Shown.{slots_of_script, ReportShown, longest_script, EnoughRead, longest_report, RoomEnough, lines_leave, AllLinesRun}
@@ -234,7 +235,7 @@ module _ (widths : Widths) (sizes : Sizes) where
   reached_after : (x : World) (m : Model) → Reached widths sizes x m → (steps : List Recorded) → (n : Model) × Reached widths sizes (after back_pointer widths sizes x (map (event_of sizes) steps)) n
   unfolding after
   reached_after x m k [] = (m, k)
-  reached_after x m k (r ∷ steps) = reached_after _ _ (reached_step widths sizes x m k r) steps
+  reached_after x m k (r ∷ steps) = reached_after (happens back_pointer widths sizes x (event_of sizes r)) (learns m (told back_pointer widths sizes x (event_of sizes r))) (reached_step widths sizes x m k r) steps
 
   lines_run : (x : World) (m : Model) → Reached widths sizes x m → (lines : List Said) (steps : List Recorded) → steps_by sizes lines ≡ some steps → (after back_pointer widths sizes x (map (event_of sizes) steps)).volume ≡ lines_leave widths sizes x.volume lines
   unfolding steps_by joined lines_leave after

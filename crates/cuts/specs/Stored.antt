@@ -26,23 +26,23 @@ use Rattle.rules.specs.Volume.{Volume}
 use Rattle.rules.specs.Write.{write_answer, done_of_write, write_change, write_step, write_outcome}
 use Rattle.rules.specs.Erase.{erase_answer, erase_steps}
 use Rattle.rules.specs.laws.Volume.{FitsIn}
-use Rattle.rules.specs.laws.Accepted.{WriteTests, write_tests}
-use Rattle.rules.specs.laws.Outcomes.{write_refused, write_done}
+use Rattle.rules.proofs.laws.Accepted.{WriteTests, write_tests}
+use Rattle.rules.proofs.laws.Outcomes.{write_refused, write_done}
 use Rattle.dispatch.specs.Dispatch.{lost}
 use Rattle.atomicity.specs.Family.{Family, back_pointer}
 use Rattle.atomicity.specs.Call.{Call, with_flash, perform, planned_stages, flash_stages}
 use Rattle.atomicity.specs.Run.{Event, World, done_of, done_in, steps_cut_short, was_done, happens}
-use Rattle.atomicity.specs.steps.Stages.{cut_first}
+use Rattle.atomicity.proofs.steps.Stages.{cut_first}
 use Rattle.atomicity.specs.Model.{Told, Model, close_all, enter, accept, learns}
 use Rattle.atomicity.specs.Promise.{told_of_crash, told}
 use Rattle.everywhere.specs.Cuts.{wiped_state, Recorded, Point, up_to, slot_of, stage_points, points_from, are_reads_kept, comes_back, same_after, cuts_in, answer_by, erase_outcome_by, erasing}
-use Rattle.atomicity.specs.rings.Cycle.{rings_match_cong}
-use Rattle.atomicity.specs.rings.Write.{write_open_match, write_done_match}
+use Rattle.atomicity.proofs.rings.Cycle.{rings_match_cong}
+use Rattle.atomicity.proofs.rings.Write.{write_open_match, write_done_match}
 use Rattle.ledger.specs.Ledger.{filled, settled_entered, settled_kept}
 use Rattle.cutpoint.specs.Judged.{erase_cuts}
 use Rattle.recorded.specs.Desk.{Desk, desk, settled_desk, wrote_desk, write_desk, desk_back, write_cuts, erase_desk, cuts_of_erase}
 use Rattle.cuts.specs.Follows.{entered_settled, kept_cong, open_entered, open_kept, done_entered, done_kept}
-use Rattle.atomicity.specs.steps.Event.{learns_accepted, learns_refused}
+use Rattle.atomicity.proofs.steps.Event.{learns_accepted, learns_refused}
 use Rattle.recorded.specs.TrialLaws.{done_list}
 use Rattle.cuts.specs.Followed.{Follows, behind}
 

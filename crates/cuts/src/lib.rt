@@ -1,5 +1,7 @@
 // A recorded script run with a cut at every point, each followed by recovery: from its text to the line that is printed.
 
+#![tactic(auto)]
+
 pub mod lines; // lines.rt: the lines of a text
 pub mod run; // run.rt: the lines carried out, one after the other
 

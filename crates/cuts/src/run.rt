@@ -16,7 +16,7 @@ use line::Line;
 use sizes::Sizes;
 
 // What a script comes to: it is refused, or its cuts are counted.
-#[derive(Drop)]
+#[derive(Clone, Copy)]
 pub enum Ran {
     Refused,
     Counted { tally: Tally },

@@ -1,6 +1,12 @@
 // Cut it everywhere: a recorded script from standard input, run with a cut at every point, and one line about it to standard output. With the argument `trial` its erase
 // never answers 12.
 
+#![tactic(auto)]
+
+use program::Output;
+use std::io::{Read, Write};
+use std::process::ExitCode;
+use std::rt::Env;
 use text::scan::Place;
 
 // The word is `trial`.
@@ -13,37 +19,43 @@ fn is_trial(word: &[u8]) -> bool {
 
 // The script, and what is printed of it. 256 lines of 512 bytes with their line ends have 131,328 bytes, and one byte more is enough to tell that a script is longer
 // (`EnoughRead` of crate cuts); what is printed has its room (`RoomEnough`).
-fn run(trial: bool) {
+fn run<R: Read, W: Write>(trial: bool, from: &mut R, to: &mut W) {
     let mut script = [0u8; 131329];
-    let n = io::read_full(0, &mut script);
+    let n = program::read_full(from, &mut script);
     let mut out = [0u8; 64];
     let end = cuts::report(trial, &script[..n], &mut out);
-    io::write_all(1, &out[..end]);
+    let _ = to.write_all(&out[..end]);
 }
 
-fn refuse() {
-    io::write_all(2, b"usage: cuts_main [trial] < SCRIPT\n");
+fn refuse<W: Write>(errors: &mut W) {
+    let _ = errors.write_all(b"usage: cuts_main [trial] < SCRIPT\n");
 }
 
-fn main() {
-    let count = os::arg_count();
-    if count < 2 {
-        run(false);
+// What the arguments ask for.
+fn answer<E: Env, R: Read, W: Write, X: Write>(env: &E, from: &mut R, to: &mut W, errors: &mut X) {
+    if !program::has_argument(env, 1) {
+        run(false, from, to);
         return;
     }
     let mut word = [0u8; 8];
-    let n = os::arg(1, &mut word);
-    if os::errno() != 0 {
-        refuse();
+    let Ok(n) = env.arg(1, &mut word) else {
+        refuse(errors);
         return;
-    }
-    if count > 2 {
-        refuse();
+    };
+    if program::has_argument(env, 2) {
+        refuse(errors);
         return;
     }
     if !is_trial(&word[..n]) {
-        refuse();
+        refuse(errors);
         return;
     }
-    run(true);
+    run(true, from, to);
+}
+
+fn main(rt: HostRuntime) -> ExitCode {
+    let mut to = Output::new(rt.stdout());
+    let mut errors = Output::new(rt.stderr());
+    answer(&rt, &mut rt.stdin(), &mut to, &mut errors);
+    program::status(to.unread || errors.unread)
 }

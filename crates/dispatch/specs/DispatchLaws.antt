@@ -1,6 +1,6 @@
 -- Laws of a line and its call: a line that is no format, a state that is lost word by word, and a write of equal bytes.
 use Rattle.std.specs.Prelude.{ℕ, ◌-◌, ◌≤◌, ◌<◌, min, ◌≡◌, refl, List, [], ◌∷◌, true, false, length, take, drop, replicate}
-use Rattle.std.proofs.Common.{arith, sym, ◌∙◌}
+use Rattle.std.proofs.Common.{arith, sym, ◌∙◌, inl, inr}
 use Rattle.std.proofs.lemmas.List.{length-replicate, get_or-replicate}
 use types.Run.{OneOf, miss}
 use denote.Enum.Declared.{tag_of}
@@ -16,7 +16,7 @@ use Rattle.line.specs.Line.{said, on_format}
 use Rattle.line.specs.contracts.Line.{the_type}
 use Rattle.rules.specs.Volume.{Volume, volume_fits}
 use Rattle.rules.specs.Write.{write_answer, write_outcome}
-use Rattle.rules.specs.laws.Volume.{fits_facts}
+use Rattle.rules.proofs.laws.Volume.{fits_facts}
 use Rattle.dispatch.specs.Dispatch.{lost}
 
 -- a line of another key than format's
@@ -31,6 +31,18 @@ other_line lines.Recover list f other k = refl
 other_line lines.Cut list f other k = refl
 other_line lines.List list f other k = refl
 other_line lines.Malformed list f other k = refl
+
+-- a line that no format is has another key
+pub other_key : (line : Line) → ((sizes : Sizes) → ¬ (line ≡ lines.Format sizes)) → OneOf (1 ∷ 2 ∷ 3 ∷ 4 ∷ 5 ∷ 6 ∷ 7 ∷ 8 ∷ []) (tag_of the_type line)
+other_key (lines.Format sizes) f = absurd (f sizes refl)
+other_key (lines.Launch count) f = inl refl
+other_key (lines.Write page slot fill) f = inr (inl refl)
+other_key (lines.Withdraw page) f = inr (inr (inl refl))
+other_key (lines.Erase count) f = inr (inr (inr (inl refl)))
+other_key lines.Recover f = inr (inr (inr (inr (inl refl))))
+other_key lines.Cut f = inr (inr (inr (inr (inr (inl refl)))))
+other_key lines.List f = inr (inr (inr (inr (inr (inr (inl refl))))))
+other_key lines.Malformed f = inr (inr (inr (inr (inr (inr (inr refl))))))
 
 -- the word of a lost state
 abbrev pub no_word : ℕ → ℕ

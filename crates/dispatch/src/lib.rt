@@ -1,4 +1,6 @@
 // The call that a line of a script names, carried out on a volume.
+#![tactic(auto)]
+
 ghost use Rattle.std.specs.Prelude.{min, ◌≡◌, replicate};
 ghost use Rattle.bounded.specs.Limits.{two_widths};
 ghost use Rattle.outcome.specs.Outcome.{returned};

@@ -16,7 +16,7 @@ use Rattle.bounded.specs.PartsLaws.{join_parts_cong}
 use Rattle.sizes.specs.declared.Sizes.{Sizes}
 use Rattle.record.specs.Flash.{Flash}
 use Rattle.upkeep.specs.Doubtful.{absent_in, fillings, filled_with, recovery_of, recovers, version_filled, recovering, lowest_filled, highest_filled, doubtful_words}
-use Rattle.upkeep.specs.laws.Doubtful.{version_below, low, high, low_is, high_is, low_word, high_word}
+use Rattle.upkeep.proofs.laws.Doubtful.{version_below, low, high, low_is, high_is, low_word, high_word}
 use Rattle.doubtful.specs.Versions.{lowest_noted, highest_noted, page_noted, versions_noted, filling_noted}
 
 -- ---- the lowest, and how many pass

@@ -11,7 +11,7 @@ use Rattle.sizes.specs.Sizes.{in_range}
 use Rattle.record.specs.Flash.{Flash, flash}
 use Rattle.record.specs.FlashLaws.{Sized}
 use Rattle.upkeep.specs.Doubtful.{doubtful_fits, doubtful_list_ok}
-use Rattle.upkeep.specs.laws.Fillings.{FitsFacts, fits_facts}
+use Rattle.upkeep.proofs.laws.Fillings.{FitsFacts, fits_facts}
 
 -- so many words have room for those of a filling and of its state
 module _ (sizes : Sizes) (f : Flash) (out : List ℕ) (facts : FitsFacts sizes f out) where

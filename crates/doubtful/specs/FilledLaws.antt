@@ -7,7 +7,7 @@ use Rattle.bounded.specs.Parts.{put_part}
 use Rattle.sizes.specs.declared.Layout.TheVariants.{FiveWords}
 use Rattle.record.specs.Slot.{encoded, blank_record}
 use Rattle.upkeep.specs.Doubtful.{absent_in}
-use Rattle.upkeep.specs.laws.Fillings.{there, absent}
+use Rattle.upkeep.proofs.laws.Fillings.{there, absent}
 use Rattle.doubtful.specs.Filled.{blanked_words}
 
 -- the words with the slots blank that stand from place i on, by these digits

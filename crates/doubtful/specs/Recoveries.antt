@@ -20,9 +20,9 @@ use Rattle.rules.specs.Volume.{volume}
 use Rattle.rules.specs.Erase.{erase_steps}
 use Rattle.rules.specs.Recover.{recover_outcome}
 use Rattle.upkeep.specs.Doubtful.{absent_in, filled_with, recovery_of, recovers}
-use Rattle.rules.specs.laws.Recover.{recover_reads_twins}
-use Rattle.upkeep.specs.laws.Fillings.{absent_listed}
-use Rattle.upkeep.specs.laws.Doubtful.{any_sheet_answer, any_sheet_left}
+use Rattle.rules.proofs.laws.Recover.{recover_reads_twins}
+use Rattle.upkeep.proofs.laws.Fillings.{absent_listed}
+use Rattle.upkeep.proofs.laws.Doubtful.{any_sheet_answer, any_sheet_left}
 use Rattle.doubtful.specs.Fillable.{Fillable}
 use Rattle.doubtful.specs.Filled.{blanked_words}
 use Rattle.doubtful.specs.Versions.{versions_noted, filling_noted}

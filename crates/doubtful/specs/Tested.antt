@@ -16,7 +16,7 @@ use Rattle.record.specs.Slot.{slot_at, is_blank}
 use Rattle.record.specs.Flash.{Flash}
 use Rattle.table.specs.Table.{table_sound}
 use Rattle.upkeep.specs.Doubtful.{max_doubtful, recovering, doubtful_list_ok, doubtful_fits, doubtful_answer}
-use Rattle.upkeep.specs.laws.Fillings.{FitsFacts, fits_facts}
+use Rattle.upkeep.proofs.laws.Fillings.{FitsFacts, fits_facts}
 use Rattle.doubtful.specs.Fillable.{Fillable, fillable}
 
 -- ---- the list

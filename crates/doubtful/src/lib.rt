@@ -1,6 +1,8 @@
 // What a failing chip may lose, document 02, wish 11: each filling of a volume some of whose slots are in doubt is recovered, and each page's lowest and highest version kept. The definitions are in crate
 // upkeep; recovery is crate recovery's.
 
+#![tactic(auto)]
+
 mod filling; // filling.rt: one filling of the slot table
 mod tests; // tests.rt: what a call tests before a filling is tried
 mod versions; // versions.rt: the lowest and highest versions so far

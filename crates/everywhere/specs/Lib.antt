@@ -1,4 +1,3 @@
 pub mod Cuts
 pub mod Shown
-pub mod Laws
 pub mod Cases

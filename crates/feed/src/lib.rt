@@ -1,4 +1,6 @@
 // The bytes of a script one by one: a line is held in a buffer until it ends.
+#![tactic(auto)]
+
 ghost use Rattle.std.specs.Prelude.{◌≡◌, length};
 ghost use Rattle.bounded.specs.Limits.{two_widths};
 ghost use Rattle.text.specs.Print.{shown, added};

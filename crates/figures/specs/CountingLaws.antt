@@ -15,10 +15,10 @@ use Rattle.state.specs.declared.PageState.{PageState}
 use Rattle.state.specs.State.{is_set}
 use Rattle.rules.specs.Permission.{is_obsolete, is_needed, may_erase_record, may_erase, Scene, no_twins, untwinned}
 use Rattle.rules.specs.Found.{exposed_slots, by_found}
-use Rattle.rules.specs.laws.Found.{found_scene}
+use Rattle.rules.proofs.laws.Found.{found_scene}
 use Rattle.permit.specs.SearchLaws.{holds_record}
 use Rattle.fleet.specs.Figures.{is_needed_straddler, slots_with, set_pages, figures_of}
-use Rattle.fleet.specs.FiguresLaws.{erased_unless_needed}
+use Rattle.fleet.proofs.FiguresLaws.{erased_unless_needed}
 use Rattle.figures.specs.declared.Obsolete.{Obsolete}
 use Rattle.figures.specs.Counting.{obsolete_below}
 

@@ -8,7 +8,7 @@ use Rattle.outcome.specs.OutcomeLaws.{held, settled_answer}
 use Rattle.sizes.specs.declared.Layout.TheVariants.{FiveWords}
 use Rattle.sizes.specs.declared.Sizes.{Sizes}
 use Rattle.sizes.specs.Sizes.{sizes_ok}
-use Rattle.sizes.specs.SizesLaws.{sizes_facts}
+use Rattle.sizes.proofs.SizesLaws.{sizes_facts}
 use Rattle.record.specs.Slot.{slot_at}
 use Rattle.record.specs.Flash.{flash}
 use Rattle.state.specs.State.{state_at}
@@ -16,9 +16,9 @@ use Rattle.state.specs.StateLaws.{length_state_words}
 use Rattle.chain.specs.Chain.{Linkable}
 use Rattle.rules.specs.Volume.{volume, volume_fits}
 use Rattle.rules.specs.Recover.{recovered, recover_answer, recover_outcome}
-use Rattle.rules.specs.laws.Accepted.{recover_tests_lem}
-use Rattle.rules.specs.laws.Recover.{recover_fills}
-use Rattle.rules.specs.laws.Chains.{volume_spans}
+use Rattle.rules.proofs.laws.Accepted.{recover_tests_lem}
+use Rattle.rules.proofs.laws.Recover.{recover_fills}
+use Rattle.rules.proofs.laws.Chains.{volume_spans}
 use Rattle.permit.specs.Prepared.{judged_linkable}
 use Rattle.fleet.specs.declared.Figures.{Figures}
 use Rattle.fleet.specs.declared.Entry.TheVariants.{Counted, Refused}

@@ -1,6 +1,8 @@
 // What a volume comes to, document 02, wish 13: it is recovered, and "pages set, obsolete, exposed and needed-straddler records" are counted by the state that
 // this gives. The definitions are in crate fleet; recovery is crate recovery's, and what may be erased is judged in crate permit.
 
+#![tactic(auto)]
+
 ghost use Rattle.std.specs.Prelude.{◌≡◌, true, ◌+◌, ◌*◌, ◌≤◌, ◌<◌, length, replicate};
 ghost use Rattle.bounded.specs.Limits.{two_widths};
 ghost use Rattle.sizes.specs.Sizes.{sizes_ok};
@@ -17,7 +19,7 @@ use record::Slot;
 use sizes::{Layout, Sizes};
 
 // How many records are obsolete, and how many of these are needed straddlers.
-#[derive(Drop)]
+#[derive(Clone, Copy)]
 struct Obsolete {
     all: u32,
     needed: u32,

@@ -1,18 +1,12 @@
 -- Pages, computed: of volumes with 1 byte of contents a slot or none, and of small ones of the two widths; and which sizes are taken.
-use Rattle.std.specs.Prelude.{ℕ, zero, suc, ◌*◌, ◌≡◌, refl, List, [], ◌∷◌, ◌++◌, true, false, length, take, replicate}
+use Rattle.std.specs.Prelude.{ℕ, zero, suc, ◌*◌, ◌≡◌, List, [], ◌∷◌, ◌++◌, true, false, length, take, replicate}
 use Rattle.bounded.specs.Limits.{Widths, two_widths, no_number}
-use Rattle.bounded.specs.Tabulate.{tabulate}
 use Rattle.sizes.specs.Sizes.{sizes_of}
 use Rattle.text.specs.Scan.{bytes}
-use Rattle.text.specs.Print.{decimal_in, decimal}
 use Rattle.record.specs.Flash.{flash}
-use Rattle.state.specs.State.{is_set}
-use Rattle.rules.specs.cases.Computing.{computing as rules_computing}
-use Rattle.upkeep.specs.Doubtful.{recovery_of}
-use Rattle.fleet.specs.Figures.{is_needed_straddler, slots_with, set_pages, figures_of, entry_of}
-use Rattle.fleet.specs.Input.{word_of, word_at, sizes_at, table_end, volume_length, flash_at, sizes_taken, is_whole, entries_if, entries_of}
-use Rattle.fleet.specs.Page.{counted, sum_of, totals, mean_whole, mean_remainder, blanks, column, figures_text, entry_text, volume_line, volume_lines, totals_line, mean_line, page_lines, as_text, van_page}
-use Rattle.fleet.specs.Shown.{word_bytes, sizes_bytes, volume_bytes}
+use Rattle.fleet.specs.Input.{sizes_taken}
+use Rattle.fleet.specs.Page.{van_page}
+use Rattle.fleet.specs.Shown.{sizes_bytes, volume_bytes}
 
 unfoldable pub any_width : Widths
 any_width w = true
@@ -78,25 +72,3 @@ pub record PagesComputed : Type 0 where
   pub narrow_most : sizes_taken two_widths (sizes_of 256 1024 32) ≡ true
   pub narrow_more : sizes_taken two_widths (sizes_of 256 1025 32) ≡ false
   pub other_width : sizes_taken two_widths (sizes_of 1 1 33) ≡ false
-
--- A name for "these definitions compute": a declaration that unfolds it unfolds them all.
-unfoldable computing : Unit {0}
-unfolding rules_computing bytes decimal_in decimal tabulate is_set is_needed_straddler slots_with set_pages figures_of recovery_of entry_of word_of word_at sizes_at table_end volume_length flash_at sizes_taken is_whole entries_if entries_of counted sum_of totals mean_whole mean_remainder blanks column figures_text entry_text volume_line volume_lines totals_line mean_line page_lines as_text van_page word_bytes sizes_bytes volume_bytes
-computing = tt
-
-pub pages_computed : PagesComputed
-unfolding computing any_width volume_of case6 record_of_none two_twins smallest
-pages_computed =
-    record {
-      four = refl;
-      none = refl;
-      each_byte = refl;
-      wide = refl;
-      last = refl;
-      not_read = refl;
-      wide_most = refl;
-      wide_more = refl;
-      narrow_most = refl;
-      narrow_more = refl;
-      other_width = refl;
-    }

@@ -2,8 +2,6 @@ pub mod Figures
 pub mod Input
 pub mod Page
 pub mod Shown
-pub mod FiguresLaws
 pub mod InputLaws
-pub mod CellLaws
 pub mod PageLaws
 pub mod Cases

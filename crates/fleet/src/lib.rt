@@ -1,7 +1,9 @@
-// Volumes on one page: what is counted of each, the page that is printed of them, and what is shown of it (specs/). No code but the types.
+// Volumes on one page: what is counted of each, the page that is printed of them, and what is shown of it (specs/, proofs/). No code but the types.
+
+#![tactic(auto)]
 
 // What is counted of a volume.
-#[derive(Drop)]
+#[derive(Clone, Copy)]
 pub struct Figures {
     // Pages that are set.
     pub pages: u32,
@@ -14,7 +16,7 @@ pub struct Figures {
 }
 
 // What a volume comes to: it is counted, or refused by a number.
-#[derive(Drop)]
+#[derive(Clone, Copy)]
 pub enum Entry {
     Counted { figures: Figures },
     Refused { answer: u32 },

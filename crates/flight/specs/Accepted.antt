@@ -6,7 +6,7 @@ use Rattle.bounded.specs.Choice.{on_eq, never}
 use Rattle.bounded.specs.BelowLaws.{some_not_at}
 use Rattle.sizes.specs.declared.Sizes.{Sizes}
 use Rattle.sizes.specs.Sizes.{state_fits, list_ok}
-use Rattle.sizes.specs.SizesLaws.{state_fits_exactly}
+use Rattle.sizes.proofs.SizesLaws.{state_fits_exactly}
 use Rattle.sizes.specs.Lists.{Listed, list_facts}
 use Rattle.state.specs.State.{state_at, state_words, state_sound, in_flight}
 use Rattle.state.specs.StateLaws.{state_sound_facts}
@@ -15,7 +15,7 @@ use Rattle.state.specs.Walk.{pages_in, Walkable, Launchable}
 use Rattle.state.specs.WalkLaws.{pages_in_lem, walkable_in}
 use Rattle.rules.specs.Launch.{some_page, used_up, launch_answer}
 use Rattle.rules.specs.Withdraw.{withdraw_answer}
-use Rattle.rules.specs.laws.Accepted.{launch_tests, withdraw_tests}
+use Rattle.rules.proofs.laws.Accepted.{launch_tests, withdraw_tests}
 
 -- the tests of a list of pages and of the state's words, for the pages that these words are of
 pub listed_pages : (P : ℕ) (state pages : List ℕ) → state_fits P state ≡ true → list_ok P pages ≡ true → Listed (pages_in state) pages

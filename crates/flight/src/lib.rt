@@ -1,4 +1,6 @@
 // Transactions ("rings") launched and withdrawn: they see the state alone, so that every family of records shares them. The definitions are in crate rules.
+#![tactic(auto)]
+
 ghost use Rattle.std.specs.Prelude.{◌≡◌};
 ghost use Rattle.bounded.specs.Limits.{two_widths};
 ghost use Rattle.outcome.specs.Outcome.{returned};
@@ -14,7 +16,7 @@ use sizes::Sizes;
 use state::PageState;
 
 // What bars a page from a launch.
-#[derive(Drop)]
+#[derive(Clone, Copy)]
 pub enum Bar {
     InFlight,
     UsedUp,

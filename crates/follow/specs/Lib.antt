@@ -1,10 +1,6 @@
 pub mod Follow
 pub mod Steps
-pub mod Course
 pub mod Astray
-pub mod Colours
 pub mod Codes
-pub mod Links
 pub mod Ends
 pub mod Walks
-pub mod WalksLaws

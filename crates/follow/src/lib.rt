@@ -1,4 +1,6 @@
 // Following links over a table of verdicts, every page's walk found once: no record is mentioned. The definitions are in specs/.
+#![tactic(auto)]
+
 ghost use Rattle.std.specs.Prelude.{◌≡◌, true, false, ◌≤◌, ◌<◌, get_or};
 ghost use Rattle.bounded.specs.Below.{some_below};
 ghost use Rattle.follow.specs.declared.End.TheVariants as ends;
@@ -7,7 +9,7 @@ ghost use Rattle.follow.specs.Codes.{code_of, of_code, coded};
 ghost use Rattle.follow.specs.Walks.{walk_numbered, Followed, number_on, Tells, Known, Given, WalkFound};
 
 // What one link says: the start is committed, it is uncommitted, or go on at a page's highest record.
-#[derive(Drop)]
+#[derive(Clone, Copy)]
 pub enum Verdict {
     Committed,
     Uncommitted,
@@ -15,7 +17,7 @@ pub enum Verdict {
 }
 
 // Where following the links from a page ends.
-#[derive(Drop)]
+#[derive(Clone, Copy)]
 pub enum End {
     Committed,
     Uncommitted,
@@ -24,7 +26,7 @@ pub enum End {
 }
 
 // The end, and how many links were compared on the way.
-#[derive(Drop)]
+#[derive(Clone, Copy)]
 pub struct Walk {
     pub end: End,
     pub links: u32,

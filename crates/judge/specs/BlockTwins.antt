@@ -12,11 +12,11 @@ use Rattle.record.specs.declared.Record.{Record}
 use Rattle.record.specs.declared.Slot.TheVariants.{Holds}
 use Rattle.record.specs.Slot.{slot_at}
 use Rattle.record.specs.Flash.{Flash}
-use Rattle.table.specs.TableLaws.{holds_of}
+use Rattle.table.proofs.TableLaws.{holds_of}
 use Rattle.twins.specs.Twins.{twins}
 use Rattle.chain.specs.declared.Key.TheVariants.{Pointer}
 use Rattle.chain.specs.Chain.{chain_of, in_chain, max_chains, Chained}
-use Rattle.chain.specs.ChainLaws.{Left, search_goes_on}
+use Rattle.chain.proofs.ChainLaws.{Left, search_goes_on}
 use Rattle.judge.specs.JudgeLaws.{twin_in_chain}
 
 -- ---- a twin below the slot, searched for along its chain

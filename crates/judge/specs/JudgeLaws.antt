@@ -11,14 +11,14 @@ use Rattle.record.specs.declared.Slot.TheVariants.{Blank, Holds}
 use Rattle.record.specs.Slot.{slot_at}
 use Rattle.record.specs.Flash.{Flash}
 use Rattle.state.specs.declared.PageState.{PageState}
-use Rattle.table.specs.TableLaws.{blank_holds, holds_of}
+use Rattle.table.proofs.TableLaws.{blank_holds, holds_of}
 use Rattle.twins.specs.Twins.{twins}
-use Rattle.twins.specs.TwinsLaws.{twins_hold}
+use Rattle.twins.proofs.TwinsLaws.{twins_hold}
 use Rattle.chain.specs.declared.Key.TheVariants.{Pointer}
 use Rattle.chain.specs.Chain.{chain_of, in_chain}
 use Rattle.rules.specs.Permission.{Scene, scene, untwinned, may_erase, twin_outside, may_erase_from}
 use Rattle.rules.specs.Found.{by_found}
-use Rattle.rules.specs.laws.Permission.{twins_apart}
+use Rattle.rules.proofs.laws.Permission.{twins_apart}
 
 -- ---- a slot's twins
 

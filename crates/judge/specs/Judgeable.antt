@@ -6,7 +6,7 @@ use Rattle.bounded.specs.Noted.{Noted}
 use Rattle.bounded.specs.PartsLaws.{part_inside}
 use Rattle.sizes.specs.declared.Layout.TheVariants.{FiveWords}
 use Rattle.sizes.specs.declared.Sizes.{Sizes}
-use Rattle.sizes.specs.SizesLaws.{width_most}
+use Rattle.sizes.proofs.SizesLaws.{width_most}
 use Rattle.record.specs.Slot.{slot_at}
 use Rattle.record.specs.Flash.{flash}
 use Rattle.record.specs.FlashLaws.{SizedIn}
@@ -14,8 +14,8 @@ use Rattle.table.specs.Table.{table_sound}
 use Rattle.chain.specs.declared.Key.TheVariants.{Pointer}
 use Rattle.chain.specs.Chain.{Linkable, Chained}
 use Rattle.rules.specs.Volume.{volume, volume_fits}
-use Rattle.rules.specs.laws.Volume.{fits_facts}
-use Rattle.rules.specs.laws.Chains.{volume_spans}
+use Rattle.rules.proofs.laws.Volume.{fits_facts}
+use Rattle.rules.proofs.laws.Chains.{volume_spans}
 use Rattle.permit.specs.Prepared.{exposed_at, Within, Searchable, judged_linkable, linkable_within, searchable}
 
 -- slot k is in the words, and its w bytes in the contents

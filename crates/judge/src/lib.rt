@@ -1,6 +1,8 @@
 // The permission to erase listed slots: crate permit's for one slot, and a twin that is not in the list. A mark stands for each listed slot. The
 // definitions are in crate rules.
 
+#![tactic(auto)]
+
 pub mod choose; // choose.rt: slots that a call chooses itself
 
 ghost use Rattle.std.specs.Prelude.{◌≡◌, not, ◌&&◌, ℕ, ◌*◌, ◌≤◌, ◌<◌, length, get_or};

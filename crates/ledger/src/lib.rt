@@ -1,6 +1,8 @@
 // What a recorded run's ledger says of each page: the fill entered for it in an open ring, NO_NUMBER where none is, and the fill that is kept. A ring is closed exactly where
 // its pages have left flight, so whether what was entered still stands is read off the state behind each call.
 
+#![tactic(auto)]
+
 ghost use Rattle.std.specs.Prelude.{◌≡◌, ◌*◌, ◌≤◌, length, set};
 ghost use Rattle.state.specs.State.{state_at};
 ghost use Rattle.ledger.specs.Ledger.{entered_then, kept_then, settled_entered, settled_kept};

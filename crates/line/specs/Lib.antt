@@ -2,4 +2,3 @@ pub mod Line
 pub mod LineLaws
 pub mod Computing
 pub mod Cases
-pub mod Says

@@ -1,4 +1,6 @@
 // What a line of a script says.
+#![tactic(auto)]
+
 ghost use Rattle.std.specs.Prelude.{◌≡◌, List, ℕ, length, drop};
 ghost use Rattle.text.specs.Scan.{number, number_at};
 ghost use Rattle.line.specs.Line.{number_then, said, listed, line_means, sizes_means, format_means, fill_means, write_means, withdraw_means, launch_means, erase_means, plain_means, at_end, numbers};
@@ -7,7 +9,7 @@ use sizes::Sizes;
 use text::scan::{Number, Place};
 
 // A line: a call with its numbers. A list of pages or slots stands beside it, in a lent slice; `count` says how many.
-#[derive(Drop)]
+#[derive(Clone, Copy)]
 pub enum Line {
     Format { sizes: Sizes },
     Launch { count: usize },

@@ -14,10 +14,10 @@ use Rattle.record.specs.declared.Slot.TheVariants.{Blank, Holds}
 use Rattle.record.specs.Slot.{holds, is_blank}
 use Rattle.record.specs.SlotLaws.{sound_facts}
 use Rattle.table.specs.Table.{table_sound, has_version, of_page, above, better, raised, highest, highest_version_of, version_in}
-use Rattle.table.specs.TableLaws.{sound_at, has_version_lem, highest_is, highest_held, highest_page}
+use Rattle.table.proofs.TableLaws.{sound_at, has_version_lem, highest_is, highest_held, highest_page}
 use Rattle.chain.specs.declared.Key.TheVariants.{Page}
 use Rattle.chain.specs.Chain.{in_chain}
-use Rattle.chain.specs.ChainLaws.{page_in_chain}
+use Rattle.chain.proofs.ChainLaws.{page_in_chain}
 use Rattle.follow.specs.declared.Verdict.{Verdict}
 use Rattle.follow.specs.declared.Verdict.TheVariants.{Committed, Uncommitted, On}
 use Rattle.follow.specs.declared.End.{End}
@@ -27,7 +27,7 @@ use Rattle.follow.specs.Follow.{follow, links_followed}
 use Rattle.rules.specs.Verdict.{is_straddled, link_verdict, slot_verdict, verdict}
 use Rattle.rules.specs.Recover.{walk_of, back_pointer, committed_by, committed_of}
 use Rattle.rules.specs.Simple.{simple_link_verdict, simple_slot_verdict, simple_verdict, simple_walk_of, under, second, simple_committed_slot, committed_slot_of, has_committed}
-use Rattle.rules.specs.laws.Simple.{second_held}
+use Rattle.rules.proofs.laws.Simple.{second_held}
 use Rattle.rules.specs.laws.Families.{link_verdict_in, verdict_in}
 
 -- ---- verdicts

@@ -14,14 +14,16 @@ use Rattle.record.specs.declared.Slot.TheVariants.{Holds}
 use Rattle.record.specs.Slot.{slot_in, slot_at, holds}
 use Rattle.record.specs.SlotLaws.{sound_facts}
 use Rattle.table.specs.Table.{table_sound, has_record, of_version, lowest_slot, has_version, highest}
-use Rattle.table.specs.TableLaws.{sound_at, highest_is, highest_held}
-use Rattle.table.specs.HighestSlot.{highest_slot, named, highest_read, highest_slot_exists, beyond_blank}
+use Rattle.table.proofs.TableLaws.{sound_at, highest_is, highest_held}
+use Rattle.table.specs.HighestSlot.{highest_slot, named}
+use Rattle.table.proofs.HighestSlot.{highest_read, highest_slot_exists, beyond_blank}
 use Rattle.chain.specs.declared.Key.TheVariants.{Straddler}
 use Rattle.chain.specs.Chain.{Chained}
 use Rattle.follow.specs.declared.Walk.{Walk}
 use Rattle.follow.specs.Follow.{follow, is_astray, StaysInside}
-use Rattle.follow.specs.Links.{links_most}
-use Rattle.follow.specs.Codes.{code_of, coded, coded_back, follow_same}
+use Rattle.follow.proofs.Links.{links_most}
+use Rattle.follow.specs.Codes.{code_of, coded}
+use Rattle.follow.proofs.Codes.{coded_back, follow_same}
 use Rattle.follow.specs.Walks.{Followed}
 use Rattle.rules.specs.laws.Families.{verdict_in}
 use Rattle.links.specs.Committed.{slot_verdict_in, verdict_by_slot, verdict_in_inside, walk_in, committed_by_in, committed_in}

@@ -26,8 +26,9 @@ use Rattle.bits.specs.Bits.{count_outcome}
 use Rattle.table.specs.Table.{has_version}
 use Rattle.rules.specs.Volume.{Volume, volume_fits}
 use Rattle.rules.specs.Read.{read_slot_in, read_slot, read_answer, read_outcome_in}
-use Rattle.rules.specs.laws.Volume.{fits_facts}
-use Rattle.rules.specs.laws.Chains.{judged, judged_passed, read_own, read_chain}
+use Rattle.rules.proofs.laws.Volume.{fits_facts}
+use Rattle.rules.specs.laws.Chains.{judged, read_own}
+use Rattle.rules.proofs.laws.Chains.{judged_passed, read_chain}
 use Rattle.listing.specs.Listing.{answer_text, page_read, drawn_of, page_text, first_refusal, list_answer, list_text}
 
 -- the first of some answers that is not 0

@@ -1,4 +1,6 @@
 // How a call answers (specs/): its number back and its second number, in one.
+#![tactic(auto)]
+
 ghost use Rattle.std.specs.Prelude.{◌≡◌, ◌^◌, ◌/◌, ◌%◌};
 ghost use Rattle.outcome.specs.Reply.{Replies};
 

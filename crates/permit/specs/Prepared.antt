@@ -10,11 +10,11 @@ use Rattle.record.specs.declared.Slot.TheVariants.{Holds}
 use Rattle.record.specs.Slot.{holds, slot_in, slot_at}
 use Rattle.state.specs.State.{state_at}
 use Rattle.table.specs.Table.{table_sound}
-use Rattle.table.specs.HighestSlot.{page_below}
+use Rattle.table.proofs.HighestSlot.{page_below}
 use Rattle.rules.specs.Permission.{is_exposed}
 use Rattle.rules.specs.Found.{exposed_slots}
 use Rattle.rules.specs.laws.Chains.{SpansIn}
-use Rattle.rules.specs.laws.Found.{found_below}
+use Rattle.rules.proofs.laws.Found.{found_below}
 use Rattle.chain.specs.declared.Key.TheVariants.{Pointer}
 use Rattle.chain.specs.Chain.{Linkable, Chained}
 

@@ -7,7 +7,7 @@ use Rattle.record.specs.declared.Record.{Record}
 use Rattle.record.specs.declared.Slot.TheVariants.{Holds}
 use Rattle.record.specs.Slot.{slot_in}
 use Rattle.table.specs.Table.{table_sound}
-use Rattle.table.specs.HighestSlot.{page_below}
+use Rattle.table.proofs.HighestSlot.{page_below}
 use Rattle.rules.specs.laws.Chains.{SpansIn}
 
 pub record Readable (P S : ℕ) (words state : List ℕ) : Type 0 where

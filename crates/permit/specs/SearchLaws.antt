@@ -12,10 +12,10 @@ use Rattle.record.specs.declared.Slot.TheVariants.{Blank, Holds}
 use Rattle.record.specs.Slot.{holds, some_record, straddles}
 use Rattle.state.specs.declared.PageState.{PageState}
 use Rattle.record.specs.SlotLaws.{holds_exactly}
-use Rattle.table.specs.TableLaws.{holds_of}
+use Rattle.table.proofs.TableLaws.{holds_of}
 use Rattle.rules.specs.Permission.{is_obsolete, is_exposed, is_current, untwinned, outdone_by, is_needed, may_erase_record}
 use Rattle.rules.specs.Found.{by_found}
-use Rattle.rules.specs.laws.Permission.{by_kind}
+use Rattle.rules.proofs.laws.Permission.{by_kind}
 use Rattle.chain.specs.declared.Key.TheVariants.{Pointer}
 use Rattle.chain.specs.Chain.{chain_of, in_chain}
 

@@ -1,5 +1,7 @@
 // The permission to erase one slot: the exposed records are found once, and the slot is judged by what was found. The definitions are in crate rules.
 
+#![tactic(auto)]
+
 pub mod simple; // simple.rt: records without a back pointer
 
 ghost use Rattle.std.specs.Prelude.{◌≡◌, true, ℕ, ◌+◌, ◌*◌, ◌≤◌, ◌<◌, length, take};

@@ -13,9 +13,10 @@ use Rattle.sizes.specs.Blocks.{NamedBlock, starts_ok, block_ok}
 use Rattle.chain.specs.Chain.{Linkable}
 use Rattle.rules.specs.Volume.{Volume, volume}
 use Rattle.upkeep.specs.Pick.{looked_at, frees, most_freed, picked_block, unseen_lead, pick_of, four_words, pick_answer}
-use Rattle.rules.specs.laws.Chains.{block_judged, block_judged_passed, volume_spans}
-use Rattle.upkeep.specs.laws.Tests.{pick_own, pick_chain}
-use Rattle.upkeep.specs.laws.Pick.{unseen_by_place, pick_passes}
+use Rattle.rules.specs.laws.Chains.{block_judged}
+use Rattle.rules.proofs.laws.Chains.{block_judged_passed, volume_spans}
+use Rattle.upkeep.proofs.laws.Tests.{pick_own, pick_chain}
+use Rattle.upkeep.proofs.laws.Pick.{unseen_by_place, pick_passes}
 use Rattle.judge.specs.Judgeable.{sound_flash}
 use Rattle.pick.specs.declared.Freed.{Freed}
 use Rattle.pick.specs.Picking.{best_by, unseen_by}

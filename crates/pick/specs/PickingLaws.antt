@@ -13,7 +13,8 @@ use Rattle.bounded.specs.Noted.{list_goes_on}
 use Rattle.sizes.specs.declared.Block.{Block}
 use Rattle.sizes.specs.declared.Sizes.{Sizes}
 use Rattle.sizes.specs.Blocks.{NamedBlock, named, starts_ok, block_ok, block_at, in_block}
-use Rattle.sizes.specs.BlocksLaws.{BlockIn, inside_block, before_block, behind_block, named_inside}
+use Rattle.sizes.specs.BlocksLaws.{BlockIn}
+use Rattle.sizes.proofs.BlocksLaws.{inside_block, before_block, behind_block, named_inside}
 use Rattle.record.specs.Slot.{slot_at}
 use Rattle.state.specs.State.{state_at}
 use Rattle.twins.specs.Twins.{twins}
@@ -22,8 +23,8 @@ use Rattle.rules.specs.Permission.{Scene, may_erase_alone}
 use Rattle.rules.specs.Found.{exposed_slots}
 use Rattle.rules.specs.Suggest.{suggestible}
 use Rattle.upkeep.specs.Pick.{seen_at, block_size, frees}
-use Rattle.rules.specs.laws.Found.{found_scene}
-use Rattle.upkeep.specs.laws.Pick.{seen_below}
+use Rattle.rules.proofs.laws.Found.{found_scene}
+use Rattle.upkeep.proofs.laws.Pick.{seen_below}
 use Rattle.pick.specs.declared.Freed.{Freed}
 use Rattle.pick.specs.Picking.{alone_by, frees_by, best_by, unseen_by}
 

@@ -1,6 +1,8 @@
 // A block is picked while the organist waits, document 02, wish 9: of some blocks, going round from one, that which frees most. The definitions are in crate upkeep;
 // what may be erased is judged in crate judge.
 
+#![tactic(auto)]
+
 mod look; // look.rt: what the blocks that are looked at free
 mod round; // round.rt: the table of blocks, gone round
 
@@ -17,7 +19,7 @@ use sizes::Sizes;
 const WORDS: usize = 4;
 
 // A block, and what it frees.
-#[derive(Drop)]
+#[derive(Clone, Copy)]
 pub struct Freed {
     pub block: u32,
     pub frees: u32,

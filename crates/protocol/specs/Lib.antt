@@ -1,17 +1,6 @@
 pub mod View
 pub mod Shared
 pub mod BackPointer
-pub mod Highest
-pub mod Walks
-pub mod Recovers
-pub mod RecoverAnswers
-pub mod ReadsKept
 pub mod SameSet
 pub mod Permitted
-pub mod Fewer
-pub mod Stored
-pub mod OneMore
-pub mod Completed
-pub mod CompletedCore
-pub mod WriteSteps
 pub mod simple

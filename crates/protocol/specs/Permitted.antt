@@ -9,6 +9,7 @@ use Rattle.state.specs.declared.PageState.{PageState}
 use Rattle.state.specs.State.{in_flight}
 use Rattle.rules.specs.Permission.{may_erase, scene}
 use Rattle.rules.specs.laws.Permission as slots
+use Rattle.rules.proofs.laws.Permission as slot_laws
 use Rattle.protocol.specs.View.{View, record_view, InSlots, Exposed, Obsolete}
 use Rattle.protocol.specs.Shared.{comm_of}
 
@@ -50,7 +51,7 @@ pub may_erase_permitted :
     → t k ≡ Holds r
     → Permitted (InSlots S t bytes) st r
 may_erase_permitted S t bytes st twin k r e h =
-    let w = (slots.may_erase_exactly S t st twin k).0 e in
+    let w = (slot_laws.may_erase_exactly S t st twin k).0 e in
     let same : w.0 ≡ r = cc w.1 in
     subst (Permitted (InSlots S t bytes) st) same (over w.0 w.2)
   where

@@ -1,6 +1,2 @@
 -- Records without a back pointer (Simple Cyclic Commit): their clauses of the invariant, and what keeps them.
 pub mod Core
-pub mod SameSet
-pub mod Write
-pub mod Erase
-pub mod Recovers

@@ -1,6 +1,8 @@
 // The reader: the slot words by reference and the page count, and what is read through it. The borrow checker covers no
 // function over such a struct, so each is thin and is proved by a walk of its MIR; the work is in covered functions on
 // plain slices: `copy_five`, and `copy_page` for either layout.
+#![tactic(auto)]
+
 ghost use Rattle.std.specs.Prelude.{◌≡◌, ◌+◌, ◌*◌, ◌≤◌, length};
 ghost use Rattle.bounded.specs.Limits.{two_widths};
 ghost use Rattle.outcome.specs.Outcome.{returned};
@@ -13,7 +15,7 @@ ghost use Rattle.rules.specs.Read.{read_outcome_in, read_outcome};
 
 use sizes::{Layout, Sizes};
 
-#[derive(Drop)]
+#[derive(Clone, Copy)]
 pub struct Reader<'a> {
     pub words: &'a [u32],
     pub pages: u32,

@@ -109,7 +109,7 @@ pub record SameSlot (layout : Layout) (w : ℕ) (f g : Flash) (i : ℕ) : Type 0
 
 -- the members of a list are its entries by index
 pub members_below : (S : ℕ) (l : List ℕ) → ((i : ℕ) → i < length l → get_or l i 0 < S) → (k : ℕ) → Memᴰ k l → k < S
-members_below S [] h k m = absurd (Memᴰ.not_nil m)
+members_below S [] h k m = absurd (Memᴰ.not-nil m)
 members_below S (x ∷ l) h k m =
     ⊎_elim
     (λ e. let b : x < S = h 0 (omega arith) in omega arith)
@@ -154,7 +154,7 @@ module _ (layout : Layout) (w S : ℕ) where
   -- a listed slot is blank with bytes 255
   pub blanks_listed : (slots : List ℕ) (f : Flash) (i : ℕ) → SizedIn layout w S f → ((k : ℕ) → Memᴰ k slots → k < S) → Memᴰ i slots → Blanked layout w (apply_all_in layout w f (map Step.Blank slots)) i
   unfolding apply_all_in
-  blanks_listed [] f i size inside m = absurd (Memᴰ.not_nil m)
+  blanks_listed [] f i size inside m = absurd (Memᴰ.not-nil m)
   blanks_listed (k ∷ slots) f i size inside m =
       let h = inside k (Memᴰ.head refl) in
       let size' = blank_sized layout w S f size k h in

@@ -1,5 +1,7 @@
 // Records and slots: the words of a slot, five or four, and what stands in one. The definitions are in specs/.
 
+#![tactic(auto)]
+
 pub mod copy; // copy.rt: words copied
 pub mod flash; // flash.rt: the one function that alters a slot
 
@@ -13,7 +15,7 @@ use sizes::Layout;
 
 // "The five words are the page p, its version v, its back pointer c (the page's last committed version at launch), the
 // next page np and its version nv."
-#[derive(Drop)]
+#[derive(Clone, Copy)]
 pub struct Record {
     pub p: u32,
     pub v: u32,
@@ -23,7 +25,7 @@ pub struct Record {
 }
 
 // What a slot holds. "Any other slot is a record."
-#[derive(Drop)]
+#[derive(Clone, Copy)]
 pub enum Slot {
     Blank,
     Holds(Record),

@@ -7,7 +7,7 @@ use Rattle.bounded.specs.Limits.{two_widths}
 use Rattle.bounded.specs.Fronts.{equal_lent}
 use Rattle.sizes.specs.declared.Layout.TheVariants.{FiveWords}
 use Rattle.sizes.specs.declared.Sizes.{Sizes}
-use Rattle.sizes.specs.SizesLaws.{width_most}
+use Rattle.sizes.proofs.SizesLaws.{width_most}
 use Rattle.record.specs.Flash.{Flash, flash}
 use Rattle.rules.specs.Volume.{Volume}
 use Rattle.rules.specs.laws.Volume.{FitsIn}

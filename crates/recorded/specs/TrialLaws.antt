@@ -19,7 +19,8 @@ use Rattle.twins.specs.Twins.{twins}
 use Rattle.rules.specs.Volume.{Volume, volume_fits}
 use Rattle.rules.specs.Permission.{may_erase_all, scene_of}
 use Rattle.rules.specs.Erase.{erase_answer, erase_steps, erase_outcome}
-use Rattle.rules.specs.laws.Volume.{Fits, fits_facts}
+use Rattle.rules.specs.laws.Volume.{Fits}
+use Rattle.rules.proofs.laws.Volume.{fits_facts}
 use Rattle.collect.specs.EraseLaws.{ListedIn, listed_in}
 use Rattle.atomicity.specs.Run.{done_of}
 use Rattle.everywhere.specs.Cuts.{up_to, answer_by, erase_outcome_by}

@@ -1,5 +1,7 @@
 // One line of a recorded script carried out, with a cut at every point of it.
 
+#![tactic(auto)]
+
 pub mod erase; // erase.rt: an erase, our own or the trial one, with all its cuts
 
 ghost use Rattle.std.specs.Prelude.{◌≡◌, ◌+◌, ◌*◌, ◌≤◌, length};

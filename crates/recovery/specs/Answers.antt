@@ -13,21 +13,21 @@ use Rattle.sizes.specs.declared.Layout.{Layout}
 use Rattle.sizes.specs.declared.Layout.TheVariants.{FiveWords, FourWords}
 use Rattle.sizes.specs.declared.Sizes.{Sizes}
 use Rattle.sizes.specs.Sizes.{sizes_ok, stride_of, words_fit_in, state_fits}
-use Rattle.sizes.specs.SizesLaws.{sizes_facts, words_fit_in_lem, state_fits_exactly}
+use Rattle.sizes.proofs.SizesLaws.{sizes_facts, words_fit_in_lem, state_fits_exactly}
 use Rattle.record.specs.declared.Slot.{Slot}
 use Rattle.record.specs.Slot.{slot_in, slot_at}
 use Rattle.state.specs.State.{state_words}
 use Rattle.state.specs.StateLaws.{state_words_cong}
 use Rattle.state.specs.Change.{at_rest}
 use Rattle.table.specs.Table.{table_sound, some_clash, has_record, has_version, used_of}
-use Rattle.table.specs.TableLaws.{highest_exists}
+use Rattle.table.proofs.TableLaws.{highest_exists}
 use Rattle.twins.specs.Twins.{twins, some_conflict}
 use Rattle.follow.specs.Follow.{is_astray}
 use Rattle.rules.specs.Volume.{Volume, volume_fits}
 use Rattle.rules.specs.Recover.{walk_of, committed_of, links_of, recovered, recover_answer, recover_outcome}
 use Rattle.rules.specs.Simple.{simple_walk_of, has_committed, simple_recovered}
 use Rattle.rules.specs.SimpleCalls.{simple_recover_answer, simple_links_of, simple_recover_outcome}
-use Rattle.rules.specs.laws.Volume.{fits_facts}
+use Rattle.rules.proofs.laws.Volume.{fits_facts}
 use Rattle.rules.specs.laws.Families.{recovered_in}
 use Rattle.links.specs.Answer.{links_answer}
 use Rattle.links.specs.Committed.{walk_in, links_in, committed_in, committed_five, committed_four, four_there, four_version}

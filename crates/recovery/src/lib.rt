@@ -1,5 +1,7 @@
 // Recovery: the answer by records and links, the state filled in, recover. The definitions are in crate rules.
 
+#![tactic(auto)]
+
 mod fill; // fill.rt: the state filled in
 pub mod simple; // simple.rt: recover of records without a back pointer
 

@@ -1,4 +1,6 @@
 // Where a script's run stands, and what is said of a line whose call is made.
+#![tactic(auto)]
+
 ghost use Rattle.std.specs.Prelude.{ℕ, ◌^◌, ◌/◌, ◌%◌, ◌≡◌, List, true};
 ghost use Rattle.bounded.specs.Limits.{two_widths};
 ghost use Rattle.text.specs.Print.{shown, added};
@@ -13,7 +15,7 @@ use text::print;
 
 // Where a run stands: the volume's sizes, all 0 before a format has answered 0; the place in the buffer for output; the bytes
 // held of a line that has not ended; and whether the run has ended.
-#[derive(Drop)]
+#[derive(Clone, Copy)]
 pub struct Run {
     pub sizes: Sizes,
     pub at: usize,

@@ -1,14 +1,7 @@
 -- What the definitions say, as facts.
 pub mod Volume
-pub mod Outcomes
-pub mod Accepted
 pub mod Families
 pub mod Chains
 pub mod Permission
 pub mod Found
-pub mod Recover
-pub mod Links
 pub mod Simple
-pub mod SimpleAccepted
-pub mod Meanings
-pub mod Answers

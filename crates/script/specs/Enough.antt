@@ -8,12 +8,12 @@ use Rattle.bounded.specs.Choice.{same_test}
 use Rattle.outcome.specs.Outcome.{◌⇒◌otherwise◌}
 use Rattle.sizes.specs.declared.Sizes.{Sizes}
 use Rattle.sizes.specs.Sizes.{sizes_of, sizes_ok}
-use Rattle.sizes.specs.SizesLaws.{sizes_facts, sizes_test}
+use Rattle.sizes.proofs.SizesLaws.{sizes_facts, sizes_test}
 use Rattle.line.specs.Line.{Said, line_means}
-use Rattle.line.specs.Says.{line_says}
+use Rattle.line.proofs.Says.{line_says}
 use Rattle.rules.specs.Volume.{Volume, volume_fits}
 use Rattle.rules.specs.Format.{format_answer_in, format_answer}
-use Rattle.rules.specs.laws.Volume.{fits_facts, fits_test}
+use Rattle.rules.proofs.laws.Volume.{fits_facts, fits_test}
 use Rattle.script.specs.Memory.{in_use}
 
 -- room for 1,024 slots of 32 bytes or, where document 02 stops, 512 of 64, and for 256 pages

@@ -13,7 +13,7 @@ use Rattle.text.specs.PrintLaws.{field_room}
 use Rattle.line.specs.Line.{Said, on_format}
 use Rattle.rules.specs.Volume.{Volume, volume_fits}
 use Rattle.rules.specs.Format.{formatted as formatted_volume, format_answer_in, format_answer, format_outcome_in, format_outcome}
-use Rattle.rules.specs.laws.Volume.{fits_facts}
+use Rattle.rules.proofs.laws.Volume.{fits_facts}
 use Rattle.listing.specs.Listing.{answer_text, state_text, fields_text, page_text, list_answer, list_text}
 use Rattle.dispatch.specs.Dispatch.{line_outcome}
 use Rattle.report.specs.Report.{Standing, Turn, with_memory, printing, idle_turn, refused_turn, done_text, formatted, told}

@@ -12,7 +12,7 @@ use Rattle.line.specs.Line.{Said, on_format}
 use Rattle.rules.specs.Volume.{Volume, volume}
 use Rattle.rules.specs.Format.{format_answer}
 use Rattle.sizes.specs.declared.Layout.TheVariants.{FiveWords}
-use Rattle.rules.specs.laws.Outcomes.{format_refused as volume_refused}
+use Rattle.rules.proofs.laws.Outcomes.{format_refused as volume_refused}
 use Rattle.dispatch.specs.Dispatch.{accepted, line_outcome}
 use Rattle.report.specs.declared.Run.{Run}
 use Rattle.report.specs.Report.{Standing, standing, with_memory, idle_turn, refused_turn, formatted, told}

@@ -1,4 +1,6 @@
 // One line of a script carried out on a volume, and what it prints.
+#![tactic(auto)]
+
 ghost use Rattle.std.specs.Prelude.{ℕ, ◌≡◌, List};
 ghost use Rattle.bounded.specs.Limits.{two_widths};
 ghost use Rattle.text.specs.Print.{shown, added};

@@ -1,5 +1,7 @@
 // The sizes of a volume, the lengths of its buffers, and lists of pages or slots, as every call checks them. The definitions are in specs/.
 
+#![tactic(auto)]
+
 pub mod blocks; // blocks.rt: the lent table of blocks
 
 ghost use Rattle.std.specs.Prelude.{◌≡◌, ◌&&◌, ◌≤◌};
@@ -16,7 +18,7 @@ pub const NO_NUMBER: u32 = 4294967295;
 pub const HIGHEST_VERSION: u32 = 4294967294;
 
 // "P pages (pistons) …. S slots …"; the width is the bytes of contents that a slot has.
-#[derive(Drop)]
+#[derive(Clone, Copy)]
 pub struct Sizes {
     pub pages: u32,
     pub slots: u32,
@@ -24,14 +26,14 @@ pub struct Sizes {
 }
 
 // The slots that a flash chip erases together: those from `first` to before `end`.
-#[derive(Drop)]
+#[derive(Clone, Copy)]
 pub struct Block {
     pub first: u32,
     pub end: u32,
 }
 
 // How a slot's words lie: the five of a record, or four where it has no back pointer.
-#[derive(Drop)]
+#[derive(Clone, Copy)]
 pub enum Layout {
     FiveWords,
     FourWords,

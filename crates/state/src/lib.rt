@@ -1,5 +1,7 @@
 // The volatile state ("the sheet"): per page four words, lost in a crash. Mentions no record. The definitions are in specs/.
 
+#![tactic(auto)]
+
 pub mod cycle; // cycle.rt: the cycle through a page, and what ends it
 pub mod launch; // launch.rt: what launches one
 
@@ -12,7 +14,7 @@ ghost use Rattle.state.specs.Walk.{ended_page};
 
 // One page's words: "the last committed version, the last used version, the next page in its current ring
 // (4,294,967,295: not in flight), and written (0 or 1)".
-#[derive(Drop)]
+#[derive(Clone, Copy)]
 pub struct PageState {
     pub committed: u32,
     pub used: u32,

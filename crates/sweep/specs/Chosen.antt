@@ -6,7 +6,7 @@ use Rattle.bounded.specs.Below.{some_below}
 use Rattle.bounded.specs.BelowLaws.{some_none, some_cong}
 use Rattle.bounded.specs.Noted.{Noted}
 use Rattle.sizes.specs.Blocks.{in_block}
-use Rattle.sizes.specs.BlocksLaws.{inside_block}
+use Rattle.sizes.proofs.BlocksLaws.{inside_block}
 use Rattle.record.specs.declared.Record.{Record}
 use Rattle.record.specs.declared.Slot.{Slot}
 use Rattle.record.specs.declared.Slot.TheVariants.{Blank, Holds}
@@ -18,9 +18,9 @@ use Rattle.twins.specs.Twins.{twins}
 use Rattle.rules.specs.Permission.{is_obsolete, is_exposed, is_current, may_erase, scene, untwinned, Scene, no_twins}
 use Rattle.rules.specs.Found.{exposed_slots, by_found}
 use Rattle.upkeep.specs.Sweep.{is_spare_exposed, is_obsolete_at, is_erasable_obsolete, is_higher_twin}
-use Rattle.rules.specs.laws.Permission.{twins_apart}
-use Rattle.rules.specs.laws.Found.{found_scene}
-use Rattle.upkeep.specs.laws.Sweep.{erasable_obsolete}
+use Rattle.rules.proofs.laws.Permission.{twins_apart}
+use Rattle.rules.proofs.laws.Found.{found_scene}
+use Rattle.upkeep.proofs.laws.Sweep.{erasable_obsolete}
 use Rattle.permit.specs.SearchLaws.{holds_none, holds_record}
 use Rattle.judge.specs.JudgeLaws.{blank_no_twin}
 

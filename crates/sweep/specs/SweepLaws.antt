@@ -19,7 +19,7 @@ use Rattle.rules.specs.Volume.{Volume, volume, volume_fits}
 use Rattle.rules.specs.Erase.{erase_steps}
 use Rattle.upkeep.specs.Sweep.{is_spare_exposed, is_erasable_obsolete, is_higher_twin, swept_exposed, without_exposed, swept_obsolete, without_obsolete, swept_twins, sweep_answer}
 use Rattle.rules.specs.laws.Chains.{judged_in, judged}
-use Rattle.upkeep.specs.laws.Sweep.{without_sized, without_sound}
+use Rattle.upkeep.proofs.laws.Sweep.{without_sized, without_sound}
 use Rattle.judge.specs.Judgeable.{SoundFlash}
 use Rattle.collect.specs.EraseLaws.{ListedIn, listed_in}
 

@@ -1,6 +1,8 @@
 // A full sweep, document 02, wish 7: three erasures in a row, each finished before the next begins. The definitions are in crate upkeep; what may be erased is
 // judged in crates permit and judge.
 
+#![tactic(auto)]
+
 mod choice; // choice.rt: the slots that each of the three erases
 
 ghost use Rattle.std.specs.Prelude.{◌≡◌, ◌*◌, ◌≤◌, length};

@@ -1,5 +1,7 @@
 // The slot table: soundness, the lowest slot of a version, each page's highest record and used version.
 // The definitions are in specs/.
+#![tactic(auto)]
+
 pub mod used; // used.rt: the used versions of all pages
 
 ghost use Rattle.std.specs.Prelude.{◌≡◌, ◌+◌, ◌*◌, ◌≤◌, ◌<◌, length, true, false};

@@ -3,14 +3,14 @@ ghost use Rattle.std.specs.Prelude.{ℕ, ◌+◌, ◌*◌, ◌-◌, ◌≡◌, L
 ghost use Rattle.text.specs.Scan.{max_number, is_digit, behind, end_number, number, rest_at, number_at};
 
 // The place after a text, where the text stands.
-#[derive(Drop)]
+#[derive(Clone, Copy)]
 pub enum Place {
     At(usize),
     Nowhere,
 }
 
 // A decimal number and the place after its digits.
-#[derive(Drop)]
+#[derive(Clone, Copy)]
 pub enum Number {
     Is { value: u32, end: usize },
     Not,

@@ -23,12 +23,13 @@ use Rattle.state.specs.State.{state_at, state_words, in_flight}
 use Rattle.state.specs.Change.{completes, after_write}
 use Rattle.state.specs.Walk.{pages_in, Walkable}
 use Rattle.state.specs.WalkLaws.{pages_in_lem, walkable_in}
-use Rattle.table.specs.Inside.{slot_inside}
+use Rattle.table.proofs.Inside.{slot_inside}
 use Rattle.rules.specs.Volume.{Volume, volume, volume_fits_in}
 use Rattle.rules.specs.Write.{plan_of, write_step, done_of_write, write_change, write_outcome}
 use Rattle.rules.specs.SimpleCalls.{simple_plan_of, simple_write_change, simple_write_outcome}
 use Rattle.rules.specs.laws.Families.{plan_in, write_answer_in, write_change_in, write_outcome_in}
-use Rattle.rules.specs.laws.Chains.{judged_in, judged_passed, slice_whole, page_answer, write_own, write_chain}
+use Rattle.rules.specs.laws.Chains.{judged_in, page_answer, write_own}
+use Rattle.rules.proofs.laws.Chains.{judged_passed, slice_whole, write_chain}
 
 -- ---- the planned record, from the states of the page and of its next page
 

@@ -1,4 +1,6 @@
 // Twins: records in two slots, equal in all words and bytes. The definitions are in specs/, and those of records of equal page and version that are none.
+#![tactic(auto)]
+
 ghost use Rattle.std.specs.Prelude.{◌≡◌, ◌+◌, ◌*◌, ◌≤◌, length};
 ghost use Rattle.record.specs.Slot.{bytes_at};
 ghost use Rattle.record.specs.Flash.{flash};

@@ -10,8 +10,9 @@ use Rattle.fleet.specs.declared.Entry.{Entry}
 use Rattle.fleet.specs.declared.Entry.TheVariants.{Refused}
 use Rattle.fleet.specs.Figures.{entry_of}
 use Rattle.fleet.specs.Input.{sizes_at, volume_length, flash_at, is_whole, entries_of}
-use Rattle.fleet.specs.InputLaws.{whole_facts, entries_whole, entries_broken, reading_shown}
-use Rattle.fleet.specs.PageLaws.{SmallEntry, entry_small}
+use Rattle.fleet.proofs.InputLaws.{whole_facts, entries_whole, entries_broken, reading_shown}
+use Rattle.fleet.specs.PageLaws.{SmallEntry}
+use Rattle.fleet.proofs.PageLaws.{entry_small}
 use Rattle.van.specs.declared.input.First.{First}
 
 -- what it comes to, and how far to go on: to the end of the input, where it "ends the reading"

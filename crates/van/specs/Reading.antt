@@ -10,7 +10,8 @@ use Rattle.bounded.specs.Tabulate.{tabulate, tabulated}
 use Rattle.sizes.specs.declared.Sizes.{Sizes}
 use Rattle.record.specs.Flash.{flash}
 use Rattle.fleet.specs.Input.{word_of, word_at, sizes_at, table_end, volume_length, flash_at, sizes_taken, is_whole}
-use Rattle.fleet.specs.InputLaws.{broken_sizes, longest_volume, volume_most, announced_right, announced_wrong}
+use Rattle.fleet.specs.InputLaws.{longest_volume}
+use Rattle.fleet.proofs.InputLaws.{broken_sizes, volume_most, announced_right, announced_wrong}
 use Rattle.fleet.specs.Shown.{announced_by}
 
 -- ---- words

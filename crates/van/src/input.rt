@@ -130,7 +130,7 @@ fn entry_at(input: &[u8]) -> Entry
 }
 
 // What the first volume of some input comes to, and how far to go on.
-#[derive(Drop)]
+#[derive(Clone, Copy)]
 pub struct First {
     pub entry: Entry,
     pub length: usize,

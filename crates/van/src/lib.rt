@@ -1,5 +1,7 @@
 // One page for the service van: from the bytes of the volumes to the page that is printed of them.
 
+#![tactic(auto)]
+
 pub mod input; // input.rt: the volumes in the input
 pub mod lines; // lines.rt: the lines of the page
 pub mod tally; // tally.rt: what is added up

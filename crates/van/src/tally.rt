@@ -7,7 +7,7 @@ ghost use Rattle.van.specs.Tally.{together, none_yet, tallied_with, TallyFew};
 use fleet::{Entry, Figures};
 
 // The totals, and how many volumes they are of.
-#[derive(Drop)]
+#[derive(Clone, Copy)]
 pub struct Tally {
     pub totals: Figures,
     pub volumes: u32,

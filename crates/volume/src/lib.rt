@@ -1,5 +1,7 @@
 // The volume: its sizes, lengths and soundness as the calls on it check them, and format. The definitions are in crate rules.
 
+#![tactic(auto)]
+
 pub mod blocks; // blocks.rt: a block of it, by the lent table
 
 ghost use Rattle.std.specs.Prelude.{◌≡◌, true, ◌&&◌, ◌+◌, ◌*◌, ◌≤◌, eqb, length};

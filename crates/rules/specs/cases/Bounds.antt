@@ -1,11 +1,10 @@
 -- The line under document 01's cases: the bounds of P and S, through format's whole outcome.
-use Rattle.std.specs.Prelude.{ℕ, ◌*◌, refl, List, [], ◌∷◌, replicate}
+use Rattle.std.specs.Prelude.{ℕ, ◌*◌, List, [], ◌∷◌, replicate}
 use Rattle.bounded.specs.Limits.{two_widths}
-use Rattle.outcome.specs.Row.{Row, row, RowsHold}
+use Rattle.outcome.specs.Row.{Row, row}
 use Rattle.sizes.specs.Sizes.{sizes_of}
 use Rattle.rules.specs.Volume.{Volume}
 use Rattle.rules.specs.Format.{format_outcome}
-use Rattle.rules.specs.cases.Computing.{computing}
 
 -- buffers of the lengths that P and S ask for
 unfoldable pub buffers : (P S : ℕ) → Volume
@@ -24,7 +23,3 @@ bound_rows =
     ∷ row 0 (format_on 4 3) (1 ∷ [])
     ∷ row 0 (format_on 256 1024) (0 ∷ [])
     ∷ []
-
-pub bound_rows_lem : RowsHold bound_rows
-unfolding bound_rows format_on buffers computing
-bound_rows_lem = refl

@@ -1,9 +1,9 @@
 -- Document 01's cases 6 to 8: which slots of one volume may be erased, and of two straddlers of one link, through erase's whole outcome.
-use Rattle.std.specs.Prelude.{ℕ, zero, suc, refl, List, [], ◌∷◌, ◌++◌, cond, eqb, replicate}
+use Rattle.std.specs.Prelude.{ℕ, zero, suc, List, [], ◌∷◌, ◌++◌, cond, eqb, replicate}
 use Rattle.bounded.specs.Parts.{join_parts}
 use Rattle.bounded.specs.Limits.{two_widths}
 use Rattle.outcome.specs.Outcome.{Outcome}
-use Rattle.outcome.specs.Row.{Row, row, RowsHold}
+use Rattle.outcome.specs.Row.{Row, row}
 use Rattle.sizes.specs.Sizes.{sizes_of}
 use Rattle.record.specs.Flash.{Flash}
 use Rattle.state.specs.State.{state_words}
@@ -12,7 +12,6 @@ use Rattle.state.specs.Change.{at_rest}
 use Rattle.table.specs.Given.{given, formatted_records, table_of}
 use Rattle.rules.specs.Volume.{Volume}
 use Rattle.rules.specs.Erase.{erase_outcome}
-use Rattle.rules.specs.cases.Computing.{computing}
 
 -- erase these slots of a volume of 3 pages and 8 slots
 unfoldable pub erase_on : Volume → List ℕ → Outcome Flash
@@ -49,10 +48,6 @@ volume6 =
     page (suc zero) = at_rest 3 3
     page (suc (suc p)) = at_rest 1 1
 
-pub erase_rows_lem : RowsHold (erase_rows volume6)
-unfolding erase_rows erase_on erased_in_turn volume6 computing
-erase_rows_lem = refl
-
 -- The exposed (0,1,0,1,1) in slot 3; its link is straddled by (1,2,0,1,2) in slot 4 and (1,3,0,1,3) in slot 5, both obsolete, as page 1 is committed at 4.
 unfoldable pub two_straddlers : Volume
 two_straddlers = record { flash = record { words = table_of 8 (formatted_records 3 ++ given 0 1 0 1 1 ∷ given 1 2 0 1 2 ∷ given 1 3 0 1 3 ∷ given 1 4 3 1 4 ∷ []); contents = replicate 256 0 }; state = state_words 3 page }
@@ -65,7 +60,3 @@ two_straddlers = record { flash = record { words = table_of 8 (formatted_records
 -- "if no record has the same page and c with a higher v": of the two the one of the higher version is needed, and the other may go; both in one call may not.
 unfoldable pub outdone_rows : List Row
 outdone_rows = row 6 ((erase_on two_straddlers (4 ∷ [])).answer ∷ (erase_on two_straddlers (5 ∷ [])).answer ∷ (erase_on two_straddlers (4 ∷ 5 ∷ [])).answer ∷ []) (0 ∷ 12 ∷ 12 ∷ []) ∷ []
-
-pub outdone_rows_lem : RowsHold outdone_rows
-unfolding outdone_rows erase_on two_straddlers computing
-outdone_rows_lem = refl

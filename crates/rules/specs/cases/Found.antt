@@ -1,7 +1,6 @@
 -- What is found on case 6's volume with one exposed record more, (0,2,0,0,2) in slot 7: both of page 0's, and judging by them.
-use Rattle.std.specs.Prelude.{ℕ, zero, suc, refl, List, [], ◌∷◌, ◌++◌, cond}
-use Rattle.bounded.specs.Below.{list_below}
-use Rattle.outcome.specs.Row.{Row, row, RowsHold}
+use Rattle.std.specs.Prelude.{ℕ, zero, suc, List, [], ◌∷◌, ◌++◌, cond}
+use Rattle.outcome.specs.Row.{Row, row}
 use Rattle.record.specs.declared.Slot.{Slot}
 use Rattle.record.specs.Slot.{slot_at}
 use Rattle.state.specs.declared.PageState.{PageState}
@@ -9,7 +8,6 @@ use Rattle.state.specs.Change.{at_rest}
 use Rattle.table.specs.Given.{given, formatted_records, table_of}
 use Rattle.rules.specs.Permission.{untwinned, may_erase_all}
 use Rattle.rules.specs.Found.{exposed_slots, by_found}
-use Rattle.rules.specs.cases.Computing.{computing}
 
 -- slots 0 to 2 hold the formatted records, 3 (0,1,0,1,1), 4 (1,2,0,2,1), 5 (2,1,0,1,2), 6 (1,3,2,1,3) and 7 (0,2,0,0,2)
 unfoldable pub slots7 : ℕ → Slot
@@ -31,7 +29,3 @@ found_rows =
     row 6 (exposed_slots 8 slots7 pages7) (3 ∷ 7 ∷ [])
     ∷ row 6 (judged7 (3 ∷ 7 ∷ []) (4 ∷ []) ∷ judged7 (3 ∷ 7 ∷ []) (1 ∷ 3 ∷ 7 ∷ []) ∷ judged7 (7 ∷ []) (4 ∷ []) ∷ []) (0 ∷ 1 ∷ 1 ∷ [])
     ∷ []
-
-pub found_rows_lem : RowsHold found_rows
-unfolding found_rows slots7 pages7 judged7 exposed_slots by_found list_below computing
-found_rows_lem = refl

@@ -1,16 +1,14 @@
 -- Document 02, wish 6: the links that recover returns on the tables of document 01's cases, on others and on the one-ring table, through its outcome.
-use Rattle.std.specs.Prelude.{ℕ, ◌*◌, refl, List, [], ◌∷◌, ◌++◌, replicate}
+use Rattle.std.specs.Prelude.{ℕ, ◌*◌, List, [], ◌∷◌, ◌++◌, replicate}
 use Rattle.bounded.specs.Limits.{no_number, two_widths}
-use Rattle.outcome.specs.Row.{Row, row, RowsHold}
+use Rattle.outcome.specs.Row.{Row, row}
 use Rattle.sizes.specs.declared.Layout.TheVariants.{FiveWords}
 use Rattle.sizes.specs.Sizes.{sizes_of}
 use Rattle.record.specs.declared.Record.{Record}
 use Rattle.table.specs.Given.{given, formatted_records}
-use Rattle.follow.specs.Steps.{next_in_ring}
 use Rattle.rules.specs.Recover.{recover_outcome}
-use Rattle.rules.specs.Links.{ring_record, one_ring}
+use Rattle.rules.specs.Links.{one_ring}
 use Rattle.rules.specs.Volume.{volume}
-use Rattle.rules.specs.cases.Computing.{computing}
 use Rattle.rules.specs.cases.Recover.{recover_on, committed_in, table2, table4}
 
 -- the answer and the links of recover, on 8 slots that hold these records; and the committed versions too
@@ -53,7 +51,3 @@ link_rows =
     ∷ row 6 (one_ring FiveWords 3 4) (0 ∷ 1 ∷ 0 ∷ 1 ∷ 1 ∷ 1 ∷ 1 ∷ 0 ∷ 2 ∷ 1 ∷ 2 ∷ 1 ∷ 0 ∷ 0 ∷ 1 ∷ replicate 5 no_number)
     ∷ row 6 (links_on_ring 1 1 ++ (links_on_ring 2 2 ++ (links_on_ring 3 4 ++ links_on_ring 5 8))) (0 ∷ 1 ∷ 0 ∷ 4 ∷ 0 ∷ 9 ∷ 0 ∷ 25 ∷ [])
     ∷ []
-
-pub link_rows_lem : RowsHold link_rows
-unfolding link_rows links_on links_and_versions committed_in links_on_ring recover_on table2 table4 ring_record one_ring next_in_ring computing
-link_rows_lem = refl

@@ -1,16 +1,15 @@
 -- Document 01's cases 1 to 5 and 9 to 11: tables that recover, through recover's whole outcome.
-use Rattle.std.specs.Prelude.{ℕ, ◌*◌, refl, List, [], ◌∷◌, ◌++◌, replicate}
+use Rattle.std.specs.Prelude.{ℕ, ◌*◌, List, [], ◌∷◌, ◌++◌, replicate}
 use Rattle.bounded.specs.Limits.{two_widths}
 use Rattle.bounded.specs.Parts.{join_parts}
 use Rattle.outcome.specs.Outcome.{Outcome}
-use Rattle.outcome.specs.Row.{Row, row, RowsHold}
+use Rattle.outcome.specs.Row.{Row, row}
 use Rattle.sizes.specs.Sizes.{sizes_of}
 use Rattle.record.specs.declared.Record.{Record}
 use Rattle.state.specs.State.{state_at}
 use Rattle.table.specs.Given.{given, formatted_records, table_of}
 use Rattle.rules.specs.Volume.{volume}
 use Rattle.rules.specs.Recover.{recover_outcome}
-use Rattle.rules.specs.cases.Computing.{computing}
 
 -- Recover on 8 slots that hold these records, with zero bytes; the old state holds anything, here 7 in every word.
 unfoldable pub recover_on : ℕ → List Record → Outcome (List ℕ)
@@ -49,7 +48,3 @@ recovery_rows =
     ∷ row 10 ((recover_on 2 (given 0 2 1 1 5 ∷ given 1 0 0 1 0 ∷ [])).answer ∷ []) (14 ∷ [])
     ∷ row 11 (both_found 2 (table2 ++ given 1 1 0 0 2 ∷ [])) (0 ∷ 0 ∷ 0 ∷ 2 ∷ 1 ∷ [])
     ∷ []
-
-pub recovery_rows_lem : RowsHold recovery_rows
-unfolding recovery_rows recover_on committed_in used_in committed_found both_found table2 table4 computing
-recovery_rows_lem = refl

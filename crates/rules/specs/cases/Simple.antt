@@ -1,10 +1,9 @@
 -- Document 02, wish 5: the calls of records without a back pointer on small volumes, each through its whole outcome. (Crate cases has a ring of three, and all rows as one table.)
-use Rattle.std.specs.Prelude.{ℕ, ◌*◌, ◌≡◌, refl, List, [], ◌∷◌, ◌++◌, replicate, get_or}
-use Rattle.std.proofs.Common.{ap}
+use Rattle.std.specs.Prelude.{ℕ, ◌*◌, List, [], ◌∷◌, ◌++◌, replicate, get_or}
 use Rattle.bounded.specs.Limits.{no_number, two_widths}
 use Rattle.bounded.specs.Parts.{join_parts, part}
 use Rattle.outcome.specs.Outcome.{Outcome}
-use Rattle.outcome.specs.Row.{Row, row, RowsHold}
+use Rattle.outcome.specs.Row.{Row, row}
 use Rattle.sizes.specs.Sizes.{sizes_of}
 use Rattle.sizes.specs.declared.Layout.TheVariants.{FourWords}
 use Rattle.record.specs.declared.Record.{Record}
@@ -18,7 +17,6 @@ use Rattle.rules.specs.Withdraw.{withdraw_outcome}
 use Rattle.rules.specs.Erase.{erase_outcome}
 use Rattle.rules.specs.Recover.{recover_outcome}
 use Rattle.rules.specs.SimpleCalls.{simple_write_outcome, simple_erase_outcome, simple_recover_outcome}
-use Rattle.rules.specs.cases.Computing.{computing}
 
 -- ---- volumes of four-word records
 
@@ -67,10 +65,6 @@ simple_format_rows =
     ∷ row 5 (whole_of (simple_recover_outcome two_widths (sizes_of 2 3 32) formatted23.left.flash.words (replicate 8 7))) (0 ∷ 2 ∷ rest 0 0 ++ rest 0 0)
     ∷ []
 
-pub simple_format_rows_lem : RowsHold simple_format_rows
-unfolding simple_format_rows formatted23 whole_of rest computing
-simple_format_rows_lem = refl
-
 -- ---- recover
 
 -- page 0 links to page 1 at 1, and page 1's highest record, at 2, says by its back pointer 0 that version 1 was never committed
@@ -106,10 +100,6 @@ simple_recover_rows =
     -- 4 is tried before 14: the same beside page 3, whose highest is uncommitted without a second version
     ∷ row 5 (recover_four 4 4 (astray ++ four 3 2 0 5 ∷ [])) (4 ∷ 0 ∷ replicate 16 7)
     ∷ []
-
-pub simple_recover_rows_lem : RowsHold simple_recover_rows
-unfolding simple_recover_rows four whole_of four_table recover_four recover_five straddled astray rest computing
-simple_recover_rows_lem = refl
 
 -- ---- a ring of two
 
@@ -151,29 +141,9 @@ ring_of_two_rows launched first last =
     ∷ row 5 (whole_of (read_outcome_in FourWords two_widths (sizes_of 2 4 32) last.left 1 (replicate 32 9))) (0 ∷ 0 ∷ replicate 32 5)
     ∷ []
 
--- the outcomes, one from the other
-launched_two_is : launched_two ≡ record { answer = 0; second = 0; left = still_in_flight 0 }
-unfolding launched_two still_in_flight computing
-launched_two_is = refl
-
 unfoldable pub volume_two : (bytes2 bytes3 : ℕ) → List Record → List ℕ → Volume
 volume_two bytes2 bytes3 records state =
     record { flash = record { words = four_table 4 records; contents = replicate 64 0 ++ (replicate 32 bytes2 ++ replicate 32 bytes3) }; state = state }
-
-first_of_two_is : first_of_two ≡ record { answer = 0; second = 0; left = volume_two 3 255 half_ring (still_in_flight 1) }
-unfolding first_of_two still_in_flight volume_two half_ring four four_table computing
-first_of_two_is =
-    ap
-    (λ (o : Outcome (List ℕ)). simple_write_outcome two_widths (sizes_of 2 4 32) (record { flash = (formatted_in FourWords (sizes_of 2 4 32)).flash; state = o.left }) 0 2 (replicate 32 3))
-    launched_two_is
-
-second_of_two_is : second_of_two ≡ record { answer = 0; second = 1; left = volume_two 3 5 (half_ring ++ four 1 1 0 1 ∷ []) (rest 1 1 ++ rest 1 1) }
-unfolding second_of_two still_in_flight volume_two half_ring four four_table rest computing
-second_of_two_is = ap (λ (o : Outcome Volume). simple_write_outcome two_widths (sizes_of 2 4 32) o.left 1 3 (replicate 32 5)) first_of_two_is
-
-pub ring_of_two_rows_lem : RowsHold (ring_of_two_rows launched_two first_of_two second_of_two)
-unfolding ring_of_two_rows still_in_flight volume_two half_ring four four_table whole_of written_into rest computing
-ring_of_two_rows_lem = rw (launched_two_is, first_of_two_is, second_of_two_is) refl
 
 -- ---- writes that would bury, and erasing
 
@@ -217,10 +187,6 @@ bury_rows =
     ∷ row 5 (erase_half then_none 0 ++ erase_half then_none 3) (12 ∷ 12 ∷ [])
     ∷ []
 
-pub bury_rows_lem : RowsHold bury_rows
-unfolding bury_rows four four_table four_volume half_ring write_half write_beside erase_half still_in_flight then_none then_page rest computing
-bury_rows_lem = refl
-
 -- page 1 went on from 0 to 2 and to 3, so that (1,2,0,1,2) is obsolete and, by its back pointer, straddles the link of the exposed (0,1,0,1,1)
 unfoldable pub straddler_needed : List Record
 unfolding given
@@ -237,7 +203,3 @@ simple_erase_rows =
     ((erase_outcome two_widths (sizes_of 2 4 32) (record { flash = record { words = table_of 4 straddler_needed; contents = replicate 128 0 }; state = rest 0 1 ++ rest 3 3 }) (2 ∷ [])).answer ∷ [])
     (12 ∷ [])
     ∷ []
-
-pub simple_erase_rows_lem : RowsHold simple_erase_rows
-unfolding simple_erase_rows four_table four_volume straddler_needed rest computing
-simple_erase_rows_lem = refl

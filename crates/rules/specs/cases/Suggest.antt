@@ -1,14 +1,13 @@
 -- The slot that suggest names, through its whole outcome, on volumes of document 01's cases.
-use Rattle.std.specs.Prelude.{ℕ, refl, List, [], ◌∷◌}
+use Rattle.std.specs.Prelude.{ℕ, List, [], ◌∷◌}
 use Rattle.bounded.specs.Limits.{no_number, two_widths}
-use Rattle.outcome.specs.Row.{Row, row, RowsHold}
+use Rattle.outcome.specs.Row.{Row, row}
 use Rattle.sizes.specs.declared.Sizes.{Sizes}
 use Rattle.sizes.specs.Sizes.{sizes_of}
 use Rattle.rules.specs.Volume.{Volume}
 use Rattle.rules.specs.Suggest.{suggest_outcome}
-use Rattle.rules.specs.cases.Computing.{computing}
 use Rattle.rules.specs.cases.Erase.{volume6}
-use Rattle.rules.specs.cases.Write.{launched2, first2, second2}
+use Rattle.rules.specs.cases.Write.{first2, second2}
 
 -- suggest's answer and slot
 unfoldable pub suggest_on : Sizes → Volume → List ℕ
@@ -21,7 +20,3 @@ suggest_rows =
     ∷ row 3 (suggest_on (sizes_of 2 4 32) second2.left) (0 ∷ 0 ∷ [])
     ∷ row 6 (suggest_on (sizes_of 3 8 32) volume6) (0 ∷ 1 ∷ [])
     ∷ []
-
-pub suggest_rows_lem : RowsHold suggest_rows
-unfolding suggest_rows suggest_on launched2 first2 second2 volume6 computing
-suggest_rows_lem = refl

@@ -1,8 +1,8 @@
 -- Document 02, wish 1, computed: twins in recover, erase and suggest, on volumes of 1 byte a slot.
-use Rattle.std.specs.Prelude.{ℕ, refl, List, [], ◌∷◌, ◌++◌, eqb, get_or}
+use Rattle.std.specs.Prelude.{ℕ, List, [], ◌∷◌, ◌++◌, eqb, get_or}
 use Rattle.bounded.specs.Limits.{no_number, Widths}
 use Rattle.bounded.specs.Parts.{join_parts}
-use Rattle.outcome.specs.Row.{Row, row, RowsHold}
+use Rattle.outcome.specs.Row.{Row, row}
 use Rattle.sizes.specs.declared.Sizes.{Sizes}
 use Rattle.sizes.specs.Sizes.{sizes_of}
 use Rattle.record.specs.declared.Record.{Record}
@@ -14,7 +14,6 @@ use Rattle.rules.specs.Volume.{Volume, volume}
 use Rattle.rules.specs.Erase.{erase_outcome}
 use Rattle.rules.specs.Suggest.{suggest_outcome}
 use Rattle.rules.specs.Recover.{recover_outcome}
-use Rattle.rules.specs.cases.Computing.{computing}
 
 -- slots of 1 byte
 unfoldable pub byte_wide : Widths
@@ -68,7 +67,3 @@ twin_rows =
     -- suggest names the lower twin, and without one nothing
     ∷ row 1 (suggested twin0 ++ suggested (with_third (given 0 0 0 0 0) 7)) (0 ∷ 0 ∷ 13 ∷ no_number ∷ [])
     ∷ []
-
-pub twin_rows_lem : RowsHold twin_rows
-unfolding twin_rows recover_answers erase_answers suggested with_third twin0 volume8 fresh byte_wide computing
-twin_rows_lem = refl

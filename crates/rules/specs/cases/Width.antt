@@ -1,11 +1,11 @@
 -- Document 02, wish 10: "A volume's contents are 32 or 64 bytes per slot … Other widths, or contents of another length, are 1", by the calls' outcome
 -- definitions, on a volume of 1 page and 2 slots.
-use Rattle.std.specs.Prelude.{ℕ, ◌*◌, refl, replicate}
+use Rattle.std.specs.Prelude.{ℕ, ◌*◌, replicate}
 use mathlib.Core.List.{List, [], ◌∷◌, ◌++◌, map, flatten}
 use Rattle.bounded.specs.Limits.{no_number, two_widths}
 use Rattle.bounded.specs.Parts.{join_parts}
 use Rattle.outcome.specs.Outcome.{Outcome}
-use Rattle.outcome.specs.Row.{Row, row, RowsHold}
+use Rattle.outcome.specs.Row.{Row, row}
 use Rattle.sizes.specs.Sizes.{sizes_of}
 use Rattle.rules.specs.Volume.{Volume}
 use Rattle.rules.specs.Format.{formatted, format_outcome}
@@ -17,7 +17,6 @@ use Rattle.rules.specs.CheckBlocks.{check_blocks_outcome}
 use Rattle.rules.specs.Suggest.{suggest_outcome}
 use Rattle.rules.specs.Recover.{recover_outcome}
 use Rattle.rules.specs.Read.{read_outcome}
-use Rattle.rules.specs.cases.Computing.{computing}
 
 -- w different bytes
 unfoldable pub bytes_of : ℕ → List ℕ
@@ -104,7 +103,3 @@ width_rows =
     ∷ row 10 (flatten (contents_at 32)) (flatten (contents_stated 32))
     ∷ row 10 (flatten (contents_at 64)) (flatten (contents_stated 64))
     ∷ []
-
-pub width_rows_lem : RowsHold width_rows
-unfolding width_rows bytes_of format_at fresh1 written1 answers_at slice_answers contents_at contents_stated computing
-width_rows_lem = refl

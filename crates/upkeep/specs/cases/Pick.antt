@@ -1,14 +1,13 @@
 -- Document 02, wish 9, computed: the four words of a pick, and its refusals.
-use Rattle.std.specs.Prelude.{ℕ, refl, List, [], ◌∷◌, replicate}
+use Rattle.std.specs.Prelude.{ℕ, List, [], ◌∷◌, replicate}
 use Rattle.bounded.specs.Limits.{no_number}
-use Rattle.outcome.specs.Row.{Row, row, RowsHold}
+use Rattle.outcome.specs.Row.{Row, row}
 use Rattle.sizes.specs.Sizes.{sizes_of}
 use Rattle.sizes.specs.Blocks.{named}
 use Rattle.table.specs.Given.{formatted_records}
 use Rattle.rules.specs.Volume.{Volume}
 use Rattle.upkeep.specs.Pick.{pick_outcome}
-use Rattle.upkeep.specs.cases.Computing.{computing}
-use Rattle.rules.specs.cases.Twins.{byte_wide, sizes8, volume8, fresh, with_third}
+use Rattle.rules.specs.cases.Twins.{byte_wide, sizes8, volume8, fresh}
 use Rattle.upkeep.specs.cases.Clean.{pair, straddled}
 use Rattle.upkeep.specs.cases.Blocks.{slot_unsound, state_unsound}
 
@@ -54,7 +53,3 @@ pick_rows =
     ∷ row 9 ((pick_outcome byte_wide (sizes_of 2 7 1) pair (named [] 0) 0 (replicate 4 7)).answer ∷ pick_answers pair [] 0 0 3 ∷ pick_answers pair [] 0 0 5 ∷ []) (replicate 3 1)
     ∷ row 9 (pick_answers slot_unsound [] 0 0 4 ∷ pick_answers both_unsound (0 ∷ []) 1 0 4 ∷ pick_answers state_unsound (0 ∷ []) 1 0 4 ∷ []) (17 ∷ 2 ∷ 5 ∷ [])
     ∷ []
-
-pub pick_rows_lem : RowsHold pick_rows
-unfolding pick_rows pick_on pick_answers four both_unsound byte_wide volume8 fresh with_third pair straddled slot_unsound state_unsound computing
-pick_rows_lem = refl

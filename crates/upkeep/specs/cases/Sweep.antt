@@ -1,7 +1,7 @@
 -- Document 02, wish 7, computed: the three erasures of a sweep, what it leaves, and its refusals.
-use Rattle.std.specs.Prelude.{ℕ, zero, suc, refl, length, replicate}
+use Rattle.std.specs.Prelude.{ℕ, zero, suc, length, replicate}
 use mathlib.Core.List.{List, [], ◌∷◌, ◌++◌, map, flatten}
-use Rattle.outcome.specs.Row.{Row, row, RowsHold}
+use Rattle.outcome.specs.Row.{Row, row}
 use Rattle.sizes.specs.Sizes.{sizes_of}
 use Rattle.record.specs.Slot.{blank_record}
 use Rattle.state.specs.declared.PageState.{PageState}
@@ -10,8 +10,7 @@ use Rattle.table.specs.Given.{given, formatted_records, table_of}
 use Rattle.rules.specs.Volume.{Volume}
 use Rattle.rules.specs.Suggest.{suggest_outcome}
 use Rattle.upkeep.specs.Sweep.{sweep_stages, sweep_outcome}
-use Rattle.upkeep.specs.cases.Computing.{computing}
-use Rattle.rules.specs.cases.Twins.{byte_wide, sizes8, volume8, fresh, with_third}
+use Rattle.rules.specs.cases.Twins.{byte_wide, sizes8, volume8, fresh}
 use Rattle.upkeep.specs.cases.Clean.{pair, straddled, step_slots}
 use Rattle.upkeep.specs.cases.Blocks.{slot_unsound, state_unsound}
 
@@ -62,7 +61,3 @@ sweep_rows =
     -- "It refuses by 1, 2 and 5 as erase does."
     ∷ row 7 ((sweep_outcome byte_wide (sizes_of 2 7 1) pair).answer ∷ (sweep_outcome byte_wide sizes8 slot_unsound).answer ∷ (sweep_outcome byte_wide sizes8 state_unsound).answer ∷ []) (1 ∷ 2 ∷ 5 ∷ [])
     ∷ []
-
-pub sweep_rows_lem : RowsHold sweep_rows
-unfolding sweep_rows sweep_lists sweep_on suggest_after flying still_needed step_slots byte_wide volume8 fresh with_third pair straddled slot_unsound state_unsound computing
-sweep_rows_lem = refl

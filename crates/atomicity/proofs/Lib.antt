@@ -1,0 +1,5 @@
+pub mod BackPointer
+pub mod Simple
+pub mod rings
+pub mod steps
+pub mod theorems

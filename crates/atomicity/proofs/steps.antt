@@ -1,0 +1,20 @@
+-- The invariant of a run, and that the start has it and every event keeps it.
+pub mod Sparing
+pub mod Theory
+pub mod Write
+pub mod Cleaning
+pub mod StateWords
+pub mod Storing
+pub mod Withdraw
+pub mod Invariant
+pub mod Launch
+pub mod StillErasable
+pub mod Format
+pub mod Stages
+pub mod Recover
+pub mod Spared
+pub mod Crash
+pub mod AnyCrash
+pub mod Event
+pub mod Calls
+pub mod CutCleaning

@@ -1,0 +1,6 @@
+use mathlib.Core.Path.{ap₂}
+use Rattle.record.specs.Flash.{flash}
+use Rattle.cutpoint.proofs.copy.copy_flash.Goals as goal
+
+pub returns : goal.returns
+returns c = ap₂ flash c.copy_words.ensures c.copy_contents.ensures

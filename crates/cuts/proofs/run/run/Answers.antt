@@ -1,0 +1,117 @@
+use Prim.Native.Nat.{◌-◌}
+use native.Mathlib.Omega.{arith}
+use mathlib.Core.Path.{refl, sym, ◌∙◌}
+use Rattle.rules.specs.Volume.{volume}
+use Rattle.recorded.specs.Desk.{desk}
+use Rattle.cuts.specs.Lines.{end_within}
+use Rattle.cuts.specs.Ran.{ran_as, AtMost}
+use Rattle.cuts.specs.RunLaws.{at_most, still_ready, from_here, here_ends, here_many, here_refused, here_counted}
+use Rattle.cuts.proofs.run.run.Goals as goal
+
+pub loop-at-init : goal.loop-at-init
+loop-at-init c = (c.requires.from_in_bounds, (omega arith, omega arith), omega arith, record { words = refl; contents = refl; state = refl; entered = refl; kept = refl }, refl)
+
+pub shape_of-words-then-lines_done-ge256 : goal.shape_of-words-then-lines_done-ge256
+shape_of-words-then-lines_done-ge256 c = c.loop-at.invariant.3.words
+
+pub shape_of-contents-then-lines_done-ge256 : goal.shape_of-contents-then-lines_done-ge256
+shape_of-contents-then-lines_done-ge256 c = c.loop-at.invariant.3.contents
+
+pub shape_of-state-then-lines_done-ge256 : goal.shape_of-state-then-lines_done-ge256
+shape_of-state-then-lines_done-ge256 c = c.loop-at.invariant.3.state
+
+pub shape_of-entered-then-lines_done-ge256 : goal.shape_of-entered-then-lines_done-ge256
+shape_of-entered-then-lines_done-ge256 c = c.loop-at.invariant.3.entered
+
+pub shape_of-kept-then-lines_done-ge256 : goal.shape_of-kept-then-lines_done-ge256
+shape_of-kept-then-lines_done-ge256 c = c.loop-at.invariant.3.kept
+
+pub returns-then-lines_done-ge256 : goal.returns-then-lines_done-ge256
+unfolding from_here ran_as AtMost
+returns-then-lines_done-ge256 c = let a = c.args in
+    let l = c.loop-at in
+    record { finds = sym (here_many a.sizes a.trial a.text.now l.tally (desk (volume l.words l.contents l.state) l.entered l.kept) l.lines_done l.at c.loop-at-test.true refl refl c.if-lines_done-ge256.true) ∙ l.invariant.4; few = tt }
+
+pub slice_bounds-turn-count : goal.slice_bounds-turn-count
+slice_bounds-turn-count c = omega (arith, c.line_end-end.ensures)
+
+pub slice_bounds-turn-start : goal.slice_bounds-turn-start
+slice_bounds-turn-start c = omega (arith, c.line_end-end.ensures)
+
+pub slice_bounds-turn-end : goal.slice_bounds-turn-end
+slice_bounds-turn-end c = (end_within c.args.text.now _ _ _ c.line_end-end.ensures refl c.loop-at.invariant.0).1
+
+pub turn-requires : goal.turn-requires
+turn-requires c = let l = c.loop-at in
+    let h = c.if-lines_done-ge256.false in
+    record { ready = still_ready _ _ _ c.requires.ready l.invariant.3; differ_bound = omega (arith, l.invariant.2) }
+
+pub shape_of-words-in_default : goal.shape_of-words-in_default
+shape_of-words-in_default c = c.turn.auto.words ∙ c.loop-at.invariant.3.words
+
+pub shape_of-contents-in_default : goal.shape_of-contents-in_default
+shape_of-contents-in_default c = c.turn.auto.contents ∙ c.loop-at.invariant.3.contents
+
+pub shape_of-state-in_default : goal.shape_of-state-in_default
+shape_of-state-in_default c = c.turn.auto.state ∙ c.loop-at.invariant.3.state
+
+pub shape_of-entered-in_default : goal.shape_of-entered-in_default
+shape_of-entered-in_default c = c.turn.auto.entered ∙ c.loop-at.invariant.3.entered
+
+pub shape_of-kept-in_default : goal.shape_of-kept-in_default
+shape_of-kept-in_default c = c.turn.auto.kept ∙ c.loop-at.invariant.3.kept
+
+pub returns-in_default : goal.returns-in_default
+unfolding from_here ran_as AtMost
+returns-in_default c = let a = c.args in
+    let l = c.loop-at in
+    let t = c.turn in
+    record { finds = sym (here_refused a.sizes a.trial a.text.now l.tally (desk (volume l.words l.contents l.state) l.entered l.kept) l.lines_done l.at c.loop-at-test.true c.line_end-end.ensures refl c.if-lines_done-ge256.false t.result t.ensures.counts c.in_default.is) ∙ l.invariant.4; few = tt }
+
+pub next_line-at-requires : goal.next_line-at-requires
+next_line-at-requires c = (end_within c.args.text.now _ _ _ c.line_end-end.ensures refl c.loop-at.invariant.0).1
+
+pub loop-at-smaller : goal.loop-at-smaller
+loop-at-smaller c = let e = c.line_end-end.ensures in
+    omega (arith, c.next_line-at.ensures, c.loop-at-test.true)
+
+pub loop-at-preserved : goal.loop-at-preserved
+loop-at-preserved c = let a = c.args in
+    let l = c.loop-at in
+    let t = c.turn in
+    let is = c.in-Counted.is in
+    let few = c.if-lines_done-ge256.false in
+    let most = at_most _ t.result _ t.ensures.few is in (
+      omega (arith, c.next_line-at.ensures),
+      (omega arith, omega arith),
+      omega (arith, most, l.invariant.2),
+      record {
+        words = t.auto.words ∙ l.invariant.3.words;
+        contents = t.auto.contents ∙ l.invariant.3.contents;
+        state = t.auto.state ∙ l.invariant.3.state;
+        entered = t.auto.entered ∙ l.invariant.3.entered;
+        kept = t.auto.kept ∙ l.invariant.3.kept;
+      },
+      sym (here_counted a.sizes a.trial a.text.now l.tally (desk (volume l.words l.contents l.state) l.entered l.kept) l.lines_done l.at c.loop-at-test.true c.line_end-end.ensures c.next_line-at.ensures few t.result t.ensures.counts _ is _ t.ensures.leaves) ∙ l.invariant.4,
+    )
+
+pub shape_of-words : goal.shape_of-words
+shape_of-words c = c.loop-at.invariant.3.words
+
+pub shape_of-contents : goal.shape_of-contents
+shape_of-contents c = c.loop-at.invariant.3.contents
+
+pub shape_of-state : goal.shape_of-state
+shape_of-state c = c.loop-at.invariant.3.state
+
+pub shape_of-entered : goal.shape_of-entered
+shape_of-entered c = c.loop-at.invariant.3.entered
+
+pub shape_of-kept : goal.shape_of-kept
+shape_of-kept c = c.loop-at.invariant.3.kept
+
+pub returns : goal.returns
+unfolding from_here ran_as AtMost
+returns c = let a = c.args in
+    let l = c.loop-at in
+    record { finds = sym (here_ends a.sizes a.trial a.text.now l.tally (desk (volume l.words l.contents l.state) l.entered l.kept) l.lines_done l.at c.loop-at-test.false) ∙ l.invariant.4; few = omega (arith, l.invariant.2, l.invariant.1) }

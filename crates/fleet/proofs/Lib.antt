@@ -1,0 +1,5 @@
+pub mod FiguresLaws
+pub mod InputLaws
+pub mod PageLaws
+pub mod CellLaws
+pub mod Cases

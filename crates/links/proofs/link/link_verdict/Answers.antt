@@ -1,0 +1,20 @@
+use mathlib.Core.Path.{ap, ◌∙◌}
+use Rattle.record.specs.Slot.{slot_in}
+use Rattle.table.specs.Table.{version_in, highest_version_of}
+use Rattle.links.specs.Committed.{link_passed, link_beyond, link_equal}
+use Rattle.links.proofs.link.link_verdict.Goals as goal
+
+pub returns-then-link-hv : goal.returns-then-link-hv
+unfolding highest_version_of
+returns-then-link-hv c = let a = c.args in
+    c.passed_verdict.ensures ∙ link_passed a.layout a.sizes.slots (slot_in a.layout a.words.now) a.link _ (c.version_in-hv.ensures ∙ ap version_in c.highest_of.ensures) c.if-link-hv.true
+
+pub returns-then-hv-link : goal.returns-then-hv-link
+unfolding highest_version_of
+returns-then-hv-link c = let a = c.args in
+    link_beyond a.layout a.sizes.slots (slot_in a.layout a.words.now) a.link _ (c.version_in-hv.ensures ∙ ap version_in c.highest_of.ensures) c.if-hv-link.true
+
+pub returns : goal.returns
+unfolding highest_version_of
+returns c = let a = c.args in
+    link_equal a.layout a.sizes.slots (slot_in a.layout a.words.now) a.link _ (c.version_in-hv.ensures ∙ ap version_in c.highest_of.ensures) c.if-link-hv.false c.if-hv-link.false

@@ -1,0 +1,13 @@
+pub mod Highest
+pub mod Walks
+pub mod Recovers
+pub mod RecoverAnswers
+pub mod WriteSteps
+pub mod ReadsKept
+pub mod Stored
+pub mod Fewer
+pub mod FewerCore
+pub mod OneMore
+pub mod Completed
+pub mod CompletedCore
+pub mod simple

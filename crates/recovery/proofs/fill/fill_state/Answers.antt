@@ -1,0 +1,8 @@
+use mathlib.Core.Path.{◌∙◌}
+use Rattle.recovery.specs.Answers.{recovered_by_tables}
+use Rattle.recovery.proofs.fill.fill_state.Goals as goal
+
+pub returns : goal.returns
+returns c = let pre = c.requires in
+    c.store_pages.ensures
+    ∙ recovered_by_tables _ _ _ _ _ _ pre.pages_bound pre.words_value pre.words_value_2 pre.committed_value c.used_versions.ensures

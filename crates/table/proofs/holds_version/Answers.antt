@@ -1,0 +1,16 @@
+use borrow.Author.Tests.{ne_eqb, eq-eqb}
+use Rattle.record.specs.Slot.{holds}
+use Rattle.table.specs.Table.{of_version}
+use Rattle.table.proofs.holds_version.Goals as goal
+
+pub returns-in_default : goal.returns-in_default
+unfolding holds
+returns-in_default c = rw c.in_default.is
+
+pub returns-then-record-page : goal.returns-then-record-page
+unfolding holds of_version
+returns-then-record-page c = rw (c.in-Holds.is, holds, ne_eqb _ _ c.if-record-page.true)
+
+pub returns : goal.returns
+unfolding holds of_version
+returns c = rw (c.in-Holds.is, holds, eq-eqb _ _ c.if-record-page.false)
