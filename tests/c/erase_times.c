@@ -7,7 +7,7 @@
  *
  *     objcopy --prefix-symbols=before_ OTHER.a before.a
  *     objcopy --redefine-sym before_memset=memset --redefine-sym before_memcpy=memcpy before.a
- *     gcc -O2 -DBESIDE -Iinclude tests/c/erase_times.c target/staticlib/libbpcc.a before.a
+ *     gcc -O2 -DBESIDE -Iinclude tests/c/erase_times.c crates/bpcc/out/libbpcc.a before.a
  */
 #define _POSIX_C_SOURCE 200809L
 
