@@ -13,6 +13,7 @@ ghost use Rattle.chain.specs.declared.Key.TheVariants.{Version};
 ghost use Rattle.chain.specs.Chain.{Chained};
 
 use chain::Key;
+use record::Slot;
 use sizes::{Layout, Sizes};
 
 // "two records with equal page and version": two slots of the table hold such.
@@ -59,6 +60,10 @@ pub fn some_conflict(sizes: Sizes, words: &[u32], contents: &[u8], chains: &mut 
     *chains = [0; 2048];
     let mut k = 0;
     while k < sizes.slots {
+        let Slot::Holds(_) = record::slot_at(words, k) else {
+            k += 1;
+            continue;
+        };
         if conflicts_below(sizes.width, words, contents, chains, k) {
             return true;
         }

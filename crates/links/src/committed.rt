@@ -117,7 +117,37 @@ fn committed_versions(
     links
 }
 
-// Each page has a record with the version in the table: the search goes along the page's chain.
+// The page has a record of the version: it stands in the last slot of the page's chain, or a search along the chain finds it.
+fn version_present(
+    layout: Layout,
+    slots: u32,
+    words: &[u32],
+    chains: &[u16; 2048],
+    page: u32,
+    version: u32,
+) -> bool
+    requires slots_in_bounds { stride_of layout * slots ≤ length words.now }
+    requires slots_bound { slots ≤ 1024 }
+    requires chained { Chained Page slots (slot_in layout words.now) chains.now }
+    ensures { result ≡ has_version slots (slot_in layout words.now) page version }
+{
+    let end = chain::page_end(chains, page);
+    if end > 0 {
+        if table::holds_version(record::slot_in(layout, words, end - 1), page, version) {
+            return true;
+        }
+    }
+    let sought = Record {
+        p: page,
+        v: version,
+        c: 0,
+        np: page,
+        nv: 0,
+    };
+    chain::version::find_version(layout, Key::Page, slots, words, chains, sought) > 0
+}
+
+// Each page has a record with the version in the table.
 fn versions_present(
     layout: Layout,
     sizes: Sizes,
@@ -133,14 +163,8 @@ fn versions_present(
 {
     let mut page: u32 = 0;
     while page < sizes.pages {
-        let sought = Record {
-            p: page,
-            v: versions[page as usize],
-            c: 0,
-            np: page,
-            nv: 0,
-        };
-        if chain::version::find_version(layout, Key::Page, sizes.slots, words, chains, sought) < 1 {
+        let version = versions[page as usize];
+        if !version_present(layout, sizes.slots, words, chains, page, version) {
             return false;
         }
         page += 1;

@@ -4,6 +4,7 @@ use Rattle.std.proofs.Common.{arith, add-one, sym, ap, ◌∙◌, subst, lt-ltb,
 use Rattle.std.specs.Prelude.{◌≡◌, ◌⊎◌, List, Bool, true, false, ltb, get_or, set}
 use Rattle.std.proofs.Math.Path.{refl}
 use Rattle.std.proofs.Math.Logic.{inl, inr}
+use Rattle.bounded.specs.Limits.{no_number}
 use Rattle.bounded.specs.Choice.{on_lt, on_eq, on_test, same_test}
 use Rattle.bounded.specs.Tabulate.{tabulate, tabulate_at, tabulate_cong, set_tabulate}
 use Rattle.record.specs.declared.Record.{Record}
@@ -92,6 +93,17 @@ beyond_blank P S t sound p h = by (highest S t p) refl
         let k = highest_held t p S (highest_is t p S) e in
         let f = page_below P S t k.0 r sound k.1 k.2 in
         let q = highest_page t p S (highest_is t p S) e in
+        absurd (omega arith)
+
+-- A slot whose record would have no page is blank.
+pub no_page_blank : (P S : ℕ) (t : ℕ → Slot) (k : ℕ) → table_sound P S t ≡ true → k < S → P ≤ 256 → ((r : Record) → t k ≡ Holds r → r.p ≡ no_number) → t k ≡ Blank
+no_page_blank P S t k sound h m f = by (t k) refl
+  where
+    by : (s : Slot) → t k ≡ s → t k ≡ Blank
+    by Blank e = e
+    by (Holds r) e =
+        let l = page_below P S t k r sound h e in
+        let n = f r e in
         absurd (omega arith)
 
 -- ---- the table of all pages' highest slots, one slot more

@@ -11,8 +11,11 @@ use Rattle.bounded.specs.PartsLaws.{part_inside, part_at, element_there}
 use Rattle.sizes.specs.declared.Layout.{Layout}
 use Rattle.sizes.specs.declared.Layout.TheVariants.{FiveWords, FourWords}
 use Rattle.sizes.specs.Sizes.{stride_of}
+use Rattle.record.specs.declared.Record.{Record}
+use Rattle.record.specs.declared.Slot.TheVariants.{Holds}
 use Rattle.record.specs.Slot.{decoded, blank_in, slot_from, slot_in, holds}
 use Rattle.table.specs.Table.{of_version}
+use Rattle.table.proofs.TableLaws.{holds_of, of_version_lem}
 
 pub slot_inside : (layout : Layout) (S k : ℕ) (words : List ℕ) → stride_of layout * S ≤ length words → k < S → stride_of layout * k + stride_of layout ≤ length words
 slot_inside layout S k words fit h = let i = part_inside (stride_of layout) S k h in omega arith
@@ -50,3 +53,7 @@ module _ (layout : Layout) (words : List ℕ) (k p v : ℕ) (inside : stride_of 
 
   pub other_version : ¬ (get_or words (stride_of layout * k + 1) 0 ≡ v) → holds (of_version p v) (slot_in layout words k) ≡ false
   other_version d = on_test (holds (of_version p v) (slot_in layout words k)) (λ e. absurd (d (held_words e).1)) (λ e. e)
+
+-- a record's first word is its page
+pub first_word : (layout : Layout) (words : List ℕ) (k : ℕ) (r : Record) → stride_of layout * k + stride_of layout ≤ length words → slot_in layout words k ≡ Holds r → get_or words (stride_of layout * k) 0 ≡ r.p
+first_word layout words k r inside e = (held_words layout words k r.p r.v inside (holds_of (of_version r.p r.v) e ((of_version_lem r.p r.v r).1 (refl, refl)))).0

@@ -5,6 +5,9 @@
 pub mod used; // used.rt: the used versions of all pages
 
 ghost use Rattle.std.specs.Prelude.{◌≡◌, ◌+◌, ◌*◌, ◌≤◌, ◌<◌, length, true, false};
+ghost use Rattle.bounded.specs.Limits.{no_number};
+ghost use Rattle.record.specs.declared.Record.{Record};
+ghost use Rattle.record.specs.declared.Slot.TheVariants.{Holds};
 ghost use Rattle.record.specs.Slot.{slot_in, holds};
 ghost use Rattle.sizes.specs.Sizes.{stride_of};
 ghost use Rattle.bounded.specs.Tabulate.{tabulate};
@@ -95,6 +98,15 @@ pub fn is_above(best: Slot, record: Record) -> bool
     held.v < record.v
 }
 
+// The slot's first word is the page: where it names none, the slot holds no sound record.
+fn names_no_page(layout: Layout, words: &[u32], slot: u32) -> bool
+    requires { stride_of layout * slot + stride_of layout ≤ length words.now }
+    ensures { result ≡ true → (r : Record) → slot_in layout words.now slot ≡ Holds r → r.p ≡ no_number }
+{
+    let at = layout.stride() * (slot as usize);
+    words[at] == sizes::NO_NUMBER
+}
+
 // Slot k's record, where it is above its page's highest so far, becomes its page's highest.
 fn raise_highest(layout: Layout, sizes: Sizes, words: &[u32], k: u32, top: &mut [u32; 256])
     requires slots_in_bounds { stride_of layout * sizes.slots ≤ length words.now }
@@ -104,6 +116,9 @@ fn raise_highest(layout: Layout, sizes: Sizes, words: &[u32], k: u32, top: &mut 
     requires top_value { top.old ≡ tabulate 256 (highest_slot sizes.slots k (slot_in layout words.now)) }
     ensures { top.new ≡ tabulate 256 (highest_slot sizes.slots (k + 1) (slot_in layout words.now)) }
 {
+    if names_no_page(layout, words, k) {
+        return;
+    }
     let Slot::Holds(record) = record::slot_in(layout, words, k) else {
         return;
     };

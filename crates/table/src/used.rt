@@ -29,6 +29,9 @@ fn raise_mentioned(layout: Layout, sizes: Sizes, words: &[u32], k: u32, used: &m
     requires used_value { used.old ≡ tabulate 256 (used_of k (slot_in layout words.now)) }
     ensures { used.new ≡ tabulate 256 (used_of (k + 1) (slot_in layout words.now)) }
 {
+    if super::names_no_page(layout, words, k) {
+        return;
+    }
     let Slot::Holds(record) = record::slot_in(layout, words, k) else {
         return;
     };

@@ -1,11 +1,12 @@
-use Prim.Native.Nat.{◌-◌}
 use native.Mathlib.Omega.{arith}
 use mathlib.Core.Path.{◌≡◌, refl, sym, ◌∙◌}
-use mathlib.Core.Bool.{false}
+use borrow.Author.Tests.{le-ltb}
 use Rattle.bounded.specs.BelowLaws.{some_zero, some_more, some_of}
 use Rattle.bounded.specs.PartsLaws.{part_inside}
+use Rattle.record.specs.Flash.{flash}
 use Rattle.twins.specs.Twins.{some_conflict}
-use Rattle.chain.proofs.ChainLaws.{chained_none}
+use Rattle.twins.proofs.TwinsLaws.{none_clashes}
+use Rattle.chain.proofs.ChainLaws.{chained_none, chained_blank, blank_clashes_none}
 use Rattle.conflict.proofs.some_conflict.Goals as goal
 
 pub loop-k-init : goal.loop-k-init
@@ -31,6 +32,15 @@ pub loop-k-preserved : goal.loop-k-preserved
 unfolding some_conflict
 loop-k-preserved c = let l = c.loop-k in
     (omega arith, some_more _ _ l.invariant.1 (sym c.conflicts_below.ensures ∙ c.if-conflicts_below.false), c.link_slot.ensures)
+
+-- a blank slot conflicts with none, and is in no chain
+pub loop-k-preserved-in_default : goal.loop-k-preserved-in_default
+unfolding some_conflict
+loop-k-preserved-in_default c = let a = c.args in
+    let l = c.loop-k in
+    let blank = sym c.slot_at.ensures ∙ c.in_default.is in
+    let none = (blank_clashes_none _ _ blank).tells ∙ le-ltb 0 0 (omega arith) in
+    (omega arith, some_more _ _ l.invariant.1 (none_clashes a.sizes.width (flash a.words.now a.contents.now) l.k none), chained_blank _ _ _ _ l.invariant.2 blank)
 
 pub returns : goal.returns
 returns c = let l = c.loop-k in

@@ -6,9 +6,17 @@ use lib.ListN.{set}
 use Rattle.record.specs.declared.Slot.{Slot}
 use Rattle.record.specs.Slot.{slot_in}
 use Rattle.table.specs.Table.{above}
-use Rattle.table.proofs.HighestSlot.{page_below, highest_read, highest_blank, highest_kept, highest_raised}
+use Rattle.table.proofs.HighestSlot.{page_below, no_page_blank, highest_read, highest_blank, highest_kept, highest_raised}
 use Rattle.table.proofs.Inside.{slot_inside}
 use Rattle.table.proofs.raise_highest.Goals as goal
+
+pub names_no_page-requires : goal.names_no_page-requires
+names_no_page-requires c = slot_inside c.args.layout c.args.sizes.slots c.args.k c.args.words.now c.requires.slots_in_bounds c.requires.k_lt_slots
+
+pub returns-then-names_no_page : goal.returns-then-names_no_page
+returns-then-names_no_page c = let pre = c.requires in
+    pre.top_value
+    ∙ highest_blank _ _ _ _ (no_page_blank _ _ _ _ pre.words_value pre.k_lt_slots pre.pages_bound (λ r e. c.names_no_page.ensures c.if-names_no_page.true r e))
 
 pub slot_in-requires : goal.slot_in-requires
 slot_in-requires c = slot_inside c.args.layout c.args.sizes.slots c.args.k c.args.words.now c.requires.slots_in_bounds c.requires.k_lt_slots

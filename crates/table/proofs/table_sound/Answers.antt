@@ -1,10 +1,8 @@
-use Prim.Native.Nat.{◌-◌}
 use native.Mathlib.Omega.{arith}
 use mathlib.Core.Path.{◌≡◌, sym, ap, ◌∙◌}
-use mathlib.Core.Bool.{true}
 use Rattle.bounded.specs.BelowLaws.{all_zero, all_more, all_fails}
 use Rattle.bounded.specs.Choice.{told}
-use Rattle.record.specs.Slot.{slot_in, slot_sound}
+use Rattle.record.specs.Slot.{slot_sound}
 use Rattle.table.specs.Table.{table_sound}
 use Rattle.table.proofs.Inside.{slot_inside}
 use Rattle.table.proofs.table_sound.Goals as goal

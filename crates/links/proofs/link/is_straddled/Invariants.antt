@@ -1,5 +1,5 @@
 -- The search goes along the chain of the link's next page: what is left of it is below `end`.
-use Prim.Native.Nat.{◌-◌, ◌%◌, ◌≤◌}
+use Prim.Native.Nat.{◌%◌, ◌≤◌}
 use Rattle.record.specs.Slot.{slot_at, holds, straddles}
 use Rattle.chain.specs.declared.Key.TheVariants.{Straddler}
 use Rattle.chain.proofs.ChainLaws.{Left}

@@ -1,10 +1,8 @@
 use native.Mathlib.Omega.{arith}
-use Prim.Native.Nat.{◌-◌}
 use mathlib.Core.Path.{◌≡◌, sym, ap, ◌∙◌}
-use mathlib.Core.Bool.{false}
 use Rattle.bounded.specs.BelowLaws.{some_zero, some_more, some_of}
 use Rattle.record.specs.declared.Record.{Record}
-use Rattle.record.specs.Slot.{slot_at, holds, straddles, some_record}
+use Rattle.record.specs.Slot.{holds, straddles, some_record}
 use Rattle.rules.specs.Verdict.{is_straddled}
 use Rattle.links.proofs.link.scan_straddled.Goals as goal
 

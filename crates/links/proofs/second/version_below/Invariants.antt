@@ -1,5 +1,5 @@
 -- The walk goes down the page's chain: the highest is the best so far, or below `end`.
-use Prim.Native.Nat.{◌-◌, ◌%◌}
+use Prim.Native.Nat.{◌%◌}
 use Rattle.sizes.specs.declared.Layout.TheVariants.{FourWords}
 use Rattle.record.specs.Slot.{slot_in}
 use Rattle.chain.specs.declared.Key.TheVariants.{Page}

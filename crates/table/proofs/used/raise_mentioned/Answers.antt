@@ -5,9 +5,18 @@ use mathlib.Core.List.{List}
 use lib.ListN.{set, get_or}
 use Rattle.record.specs.SlotLaws.{sound_facts}
 use Rattle.table.proofs.TableLaws.{sound_at}
+use Rattle.table.proofs.HighestSlot.{no_page_blank}
 use Rattle.table.proofs.UsedLaws.{used_blank, used_raised}
 use Rattle.table.proofs.Inside.{slot_inside}
 use Rattle.table.proofs.used.raise_mentioned.Goals as goal
+
+pub names_no_page-requires : goal.names_no_page-requires
+names_no_page-requires c = slot_inside c.args.layout c.args.sizes.slots c.args.k c.args.words.now c.requires.slots_in_bounds c.requires.k_lt_slots
+
+pub returns-then-names_no_page : goal.returns-then-names_no_page
+returns-then-names_no_page c = let pre = c.requires in
+    pre.used_value
+    ∙ used_blank _ _ _ (no_page_blank _ _ _ _ pre.words_value pre.k_lt_slots pre.pages_bound (λ r e. c.names_no_page.ensures c.if-names_no_page.true r e))
 
 pub slot_in-requires : goal.slot_in-requires
 slot_in-requires c = slot_inside c.args.layout c.args.sizes.slots c.args.k c.args.words.now c.requires.slots_in_bounds c.requires.k_lt_slots

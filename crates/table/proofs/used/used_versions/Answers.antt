@@ -1,5 +1,4 @@
 use native.Mathlib.Omega.{arith}
-use Prim.Native.Nat.{◌-◌}
 use mathlib.Core.Path.{◌≡◌, refl}
 use Rattle.bounded.specs.Below.{max_below}
 use Rattle.bounded.specs.Tabulate.{tabulate_same}
