@@ -1,4 +1,4 @@
-// Records of equal page and version: whether the table has two, and two that are no twins. Each slot is looked up among those before it, which are
+// Records of equal page and version: whether the table has two, and two that are no twins. Each record is looked up among those before it, which are
 // chained by page and version in lent tables. The definitions are in crates table and twins.
 #![tactic(auto)]
 

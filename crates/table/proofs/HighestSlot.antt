@@ -95,7 +95,7 @@ beyond_blank P S t sound p h = by (highest S t p) refl
         let q = highest_page t p S (highest_is t p S) e in
         absurd (omega arith)
 
--- A slot whose record would have no page is blank.
+-- A slot of a sound table whose record would have no page is blank.
 pub no_page_blank : (P S : ℕ) (t : ℕ → Slot) (k : ℕ) → table_sound P S t ≡ true → k < S → P ≤ 256 → ((r : Record) → t k ≡ Holds r → r.p ≡ no_number) → t k ≡ Blank
 no_page_blank P S t k sound h m f = by (t k) refl
   where
