@@ -6,14 +6,17 @@ use crate::interface::{Arguments, Calls, Family, Name, Reply};
 use crate::volume::{Call, Layout, Volume};
 use std::fmt;
 use std::hint::black_box;
-use std::time::Instant;
+use std::thread::sleep;
+use std::time::{Duration, Instant};
 
 /// A time is the median of so many rounds; each takes as many calls as the clock needs, in microseconds, to tell them.
 const ROUNDS: usize = 101;
 const LEAST: f64 = 20.0;
 
-/// How often a table is measured before it is said to be above its limit.
+/// How often a table is measured before it is said to be above its limit, and how long is waited between, so that not all tries fall into
+/// what else the machine does.
 const TRIES: usize = 3;
+const PAUSE: Duration = Duration::from_secs(5);
 
 /// The time of a recovery by the library and by the simple one, in microseconds.
 #[derive(Clone, Copy)]
@@ -45,6 +48,7 @@ fn lowest(volume: &Volume, tested: &dyn Calls, limit: f64) -> Times {
         if best.ratio() <= limit {
             break;
         }
+        sleep(PAUSE);
         let again = medians(volume, tested);
         best = if again.ratio() < best.ratio() { again } else { best };
     }
