@@ -4,13 +4,14 @@
 
 pub mod version; // version.rt: the slots of one page and version
 
-ghost use Rattle.std.specs.Prelude.{◌≡◌, cond, ◌+◌, ◌*◌, ◌-◌, ◌%◌, ◌≤◌, ◌<◌, length, get_or};
+ghost use Rattle.std.specs.Prelude.{◌≡◌, true, cond, ◌+◌, ◌*◌, ◌-◌, ◌%◌, ◌≤◌, ◌<◌, length, get_or};
 ghost use Rattle.sizes.specs.Sizes.{stride_of};
 ghost use Rattle.record.specs.Slot.{slot_in};
+ghost use Rattle.table.specs.Table.{table_sound};
 ghost use Rattle.chain.specs.Chain.{may_straddle, chain_of, Chained};
 
 use record::{Record, Slot};
-use sizes::Layout;
+use sizes::{Layout, Sizes};
 
 // What the records of one chain share.
 #[derive(Clone, Copy)]
@@ -106,6 +107,30 @@ pub fn link_slots(layout: Layout, key: Key, slots: u32, words: &[u32], chains: &
     let mut k = 0;
     while k < slots {
         link_slot(layout, key, words, k, chains);
+        k += 1;
+    }
+}
+
+// The same of a sound table, where a blank slot is told by its first word.
+pub fn link_sound_slots(
+    layout: Layout,
+    key: Key,
+    sizes: Sizes,
+    words: &[u32],
+    chains: &mut [u16; 2048],
+)
+    requires slots_in_bounds { stride_of layout * sizes.slots ≤ length words.now }
+    requires pages_bound { sizes.pages ≤ 256 }
+    requires slots_bound { sizes.slots ≤ 1024 }
+    requires words_value { table_sound sizes.pages sizes.slots (slot_in layout words.now) ≡ true }
+    ensures { Chained key sizes.slots (slot_in layout words.now) chains.new }
+{
+    *chains = [0; 2048];
+    let mut k = 0;
+    while k < sizes.slots {
+        if !table::names_no_page(layout, words, k) {
+            link_slot(layout, key, words, k, chains);
+        }
         k += 1;
     }
 }

@@ -185,14 +185,14 @@ pub fn links_answer(
     ensures settles { Settles result (links_answer layout sizes.pages sizes.slots (slot_in layout words.now)) 0 (links_in layout sizes.pages sizes.slots (slot_in layout words.now)) }
     ensures committed_after { result % 2 ^ 32 ≡ 0 → committed.new ≡ tabulate 256 (committed_in layout sizes.pages sizes.slots (slot_in layout words.now)) }
 {
-    link_straddlers(layout, sizes.slots, words, chains);
+    link_straddlers(layout, sizes, words, chains);
     let mut codes = [0; 256];
     verdict_codes(layout, sizes, words, top, chains, &mut codes);
     let mut walks = [0; 256];
     if follow::follow_all(&codes, sizes.pages, &mut walks) {
         return outcome::reply(4, 0);
     }
-    chain::link_slots(layout, Key::Page, sizes.slots, words, chains);
+    chain::link_sound_slots(layout, Key::Page, sizes, words, chains);
     let links = committed_versions(layout, sizes, words, top, chains, &walks, committed);
     if !versions_present(layout, sizes, words, chains, committed) {
         return outcome::reply(14, 0);

@@ -1,9 +1,9 @@
 // One link's verdict: the highest record of a page, the search for a straddler, and the table of verdicts.
 
-ghost use Rattle.std.specs.Prelude.{◌≡◌, ◌*◌, ◌≤◌, ◌<◌, length};
+ghost use Rattle.std.specs.Prelude.{◌≡◌, true, ◌*◌, ◌≤◌, ◌<◌, length};
 ghost use Rattle.sizes.specs.Sizes.{stride_of};
 ghost use Rattle.record.specs.Slot.{slot_in, slot_at, holds, straddles};
-ghost use Rattle.table.specs.Table.{highest, version_in};
+ghost use Rattle.table.specs.Table.{table_sound, highest, version_in};
 ghost use Rattle.chain.specs.declared.Key.TheVariants.{Straddler};
 ghost use Rattle.chain.specs.Chain.{Chained};
 ghost use Rattle.rules.specs.Verdict.{is_straddled};
@@ -87,14 +87,16 @@ pub fn highest_of(layout: Layout, sizes: Sizes, words: &[u32], top: &[u32; 256],
 }
 
 // The records that may straddle a link, chained, where records have a back pointer.
-pub fn link_straddlers(layout: Layout, slots: u32, words: &[u32], chains: &mut [u16; 2048])
-    requires slots_in_bounds { stride_of layout * slots ≤ length words.now }
-    requires slots_bound { slots ≤ 1024 }
-    ensures { StraddlersChained layout slots words.now chains.new }
+pub fn link_straddlers(layout: Layout, sizes: Sizes, words: &[u32], chains: &mut [u16; 2048])
+    requires slots_in_bounds { stride_of layout * sizes.slots ≤ length words.now }
+    requires pages_bound { sizes.pages ≤ 256 }
+    requires slots_bound { sizes.slots ≤ 1024 }
+    requires words_value { table_sound sizes.pages sizes.slots (slot_in layout words.now) ≡ true }
+    ensures { StraddlersChained layout sizes.slots words.now chains.new }
 {
     match layout {
         Layout::FiveWords => {
-            chain::link_slots(Layout::FiveWords, Key::Straddler, slots, words, chains)
+            chain::link_sound_slots(layout, Key::Straddler, sizes, words, chains)
         }
         Layout::FourWords => {}
     }

@@ -99,7 +99,7 @@ pub fn is_above(best: Slot, record: Record) -> bool
 }
 
 // The slot's first word, where a record has its page, is that of a blank slot: then it holds no sound record.
-fn names_no_page(layout: Layout, words: &[u32], slot: u32) -> bool
+pub fn names_no_page(layout: Layout, words: &[u32], slot: u32) -> bool
     requires { stride_of layout * slot + stride_of layout ≤ length words.now }
     ensures { result ≡ true → (r : Record) → slot_in layout words.now slot ≡ Holds r → r.p ≡ no_number }
 {

@@ -1,7 +1,6 @@
 use Prim.Native.Nat.{◌-◌}
 use native.Mathlib.Omega.{arith}
 use mathlib.Core.Path.{sym, ap, ◌∙◌}
-use mathlib.Core.Bool.{true}
 use Rattle.record.specs.Slot.{slot_in, holds}
 use Rattle.table.specs.Table.{of_version}
 use Rattle.table.proofs.Inside.{slot_inside}

@@ -1,5 +1,5 @@
 -- The search goes along the chain of the record's page and version: what is left of it is below `end`.
-use Prim.Native.Nat.{ℕ, ◌-◌, ◌≤◌}
+use Prim.Native.Nat.{ℕ, ◌≤◌}
 use mathlib.Core.Path.{◌≡◌}
 use mathlib.Core.Bool.{Bool, true}
 use Rattle.record.specs.declared.Record.{Record}

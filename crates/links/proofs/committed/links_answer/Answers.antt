@@ -6,6 +6,9 @@ use Rattle.links.specs.Tables.{codes_inside, codes_astray, codes_followed, versi
 use Rattle.links.specs.Answer.{links_astray, version_missing, versions_there}
 use Rattle.links.proofs.committed.links_answer.Goals as goal
 
+pub link_straddlers-requires : goal.link_straddlers-requires
+link_straddlers-requires c = let p = c.requires in record { slots_in_bounds = p.sized; pages_bound = p.pages_most; slots_bound = p.slots_most; words_value = p.sound }
+
 pub verdict_codes-requires : goal.verdict_codes-requires
 verdict_codes-requires c = record { surveyed = c.requires; straddlers_chained = c.link_straddlers.ensures }
 
@@ -21,16 +24,16 @@ returns-then-follow_all c = let p = c.requires in record {
   committed_after = λ z. absurd (let n = reply_answer _ _ _ c.reply.ensures in omega arith);
 }
 
-pub link_slots-requires : goal.link_slots-requires
-link_slots-requires c = let p = c.requires in record { slots_in_bounds = p.sized; slots_bound = p.slots_most }
+pub link_sound_slots-requires : goal.link_sound_slots-requires
+link_sound_slots-requires c = let p = c.requires in record { slots_in_bounds = p.sized; pages_bound = p.pages_most; slots_bound = p.slots_most; words_value = p.sound }
 
 pub committed_versions-links-requires : goal.committed_versions-links-requires
 committed_versions-links-requires c = let p = c.requires in
-    record { surveyed = p; chained = c.link_slots.ensures; followed = codes_followed _ _ _ _ _ p _ c.verdict_codes.ensures _ (c.follow_all.ensures.followed c.if-follow_all.false) }
+    record { surveyed = p; chained = c.link_sound_slots.ensures; followed = codes_followed _ _ _ _ _ p _ c.verdict_codes.ensures _ (c.follow_all.ensures.followed c.if-follow_all.false) }
 
 pub versions_present-requires : goal.versions_present-requires
 versions_present-requires c = let p = c.requires in
-    record { slots_in_bounds = p.sized; slots_bound = p.slots_most; pages_bound = p.pages_most; chained = c.link_slots.ensures }
+    record { slots_in_bounds = p.sized; slots_bound = p.slots_most; pages_bound = p.pages_most; chained = c.link_sound_slots.ensures }
 
 pub returns-then-not-versions_present : goal.returns-then-not-versions_present
 returns-then-not-versions_present c = let p = c.requires in
