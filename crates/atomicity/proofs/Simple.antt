@@ -14,8 +14,8 @@ use Rattle.sizes.specs.declared.Sizes.{Sizes}
 use Rattle.sizes.proofs.SizesLaws.{sizes_test, words_fit_in_lem, state_fits_exactly}
 use Rattle.sizes.specs.Lists.{list_facts}
 use Rattle.record.specs.declared.Record.{Record}
-use Rattle.record.specs.declared.Slot.{Slot}
-use Rattle.record.specs.declared.Slot.TheVariants.{Holds}
+use Rattle.record.specs.Slot.{Slot}
+use Rattle.std.specs.Prelude.{Some}
 use Rattle.record.specs.Slot.{slot_in}
 use Rattle.record.specs.SlotLaws.{sound_facts, holds_one}
 use Rattle.record.specs.Flash.{Step, apply_all_in}
@@ -56,20 +56,20 @@ pub erased_of : {R R' : Pairs} {st : ℕ → _} → ErasedBy (λ R st r. SimpleP
 erased_of e = record { fewer = e.fewer; finds_before = e.finds_before; finds = e.finds; stays_or_permitted = e.stays_or_permitted }
 
 -- a record more, of another page or version than each
-pub stored_apart : (S : ℕ) (t : ℕ → Slot) (k : ℕ) (r : Record) → ((j : ℕ) (x : Record) → j < S → t j ≡ Holds x → x.p ≡ r.p → x.v ≡ r.v → ⊥) → NoTwins S t → NoTwins S (update t k (Holds r))
+pub stored_apart : (S : ℕ) (t : ℕ → Slot) (k : ℕ) (r : Record) → ((j : ℕ) (x : Record) → j < S → t j ≡ Some x → x.p ≡ r.p → x.v ≡ r.v → ⊥) → NoTwins S t → NoTwins S (update t k (Some r))
 stored_apart S t k r new apart i j a b li lj ea eb p v =
     on_eq i k
     (λ qi. on_eq j k
     (λ qj. qi ∙ sym qj)
     (λ dj. let ar : a ≡ r = is_new i a qi ea in
-    absurd (new j b lj (sym (update_other t k (Holds r) j dj) ∙ eb) (sym p ∙ ap (λ (x : Record). x.p) ar) (sym v ∙ ap (λ (x : Record). x.v) ar))))
+    absurd (new j b lj (sym (update_other t k (Some r) j dj) ∙ eb) (sym p ∙ ap (λ (x : Record). x.p) ar) (sym v ∙ ap (λ (x : Record). x.v) ar))))
     (λ di. on_eq j k
     (λ qj. let br : b ≡ r = is_new j b qj eb in
-    absurd (new i a li (sym (update_other t k (Holds r) i di) ∙ ea) (p ∙ ap (λ (x : Record). x.p) br) (v ∙ ap (λ (x : Record). x.v) br)))
-    (λ dj. apart i j a b li lj (sym (update_other t k (Holds r) i di) ∙ ea) (sym (update_other t k (Holds r) j dj) ∙ eb) p v))
+    absurd (new i a li (sym (update_other t k (Some r) i di) ∙ ea) (p ∙ ap (λ (x : Record). x.p) br) (v ∙ ap (λ (x : Record). x.v) br)))
+    (λ dj. apart i j a b li lj (sym (update_other t k (Some r) i di) ∙ ea) (sym (update_other t k (Some r) j dj) ∙ eb) p v))
   where
-    is_new : (j : ℕ) (x : Record) → j ≡ k → update t k (Holds r) j ≡ Holds x → x ≡ r
-    is_new j x q e = holds_one (ap (update t k (Holds r)) (sym q) ∙ e) (update_same t k (Holds r))
+    is_new : (j : ℕ) (x : Record) → j ≡ k → update t k (Some r) j ≡ Some x → x ≡ r
+    is_new j x q e = holds_one (ap (update t k (Some r)) (sym q) ∙ e) (update_same t k (Some r))
 
 -- an erasure
 pub simple_erase_spares :

@@ -6,8 +6,8 @@ use Rattle.bounded.specs.Limits.{Widths}
 use Rattle.bounded.specs.Below.{list_below}
 use Rattle.sizes.specs.declared.Sizes.{Sizes}
 use Rattle.sizes.specs.Blocks.{NamedBlock}
-use Rattle.record.specs.declared.Slot.{Slot}
-use Rattle.record.specs.declared.Slot.TheVariants.{Holds}
+use Rattle.record.specs.Slot.{Slot}
+use Rattle.std.specs.Prelude.{Some}
 use Rattle.record.specs.Slot.{slot_at, is_blank}
 use Rattle.record.specs.Flash.{Step, apply_all_in}
 use Rattle.state.specs.declared.PageState.{PageState}
@@ -30,7 +30,7 @@ pub record Agrees (F : Family) (P S : ℕ) (v : Volume) : Type 0 where
   pub used_covers : (p : ℕ) → p < P → used_of S (slots_in F.layout v) p ≤ (pages_of v p).used
   -- … nor does the record planned for a page q in flight mention one above them
   pub planned_covers :
-      (q : ℕ) → q < P → in_flight (pages_of v q) ≡ true → (p : ℕ) → p < P → mentioned p (Holds (F.plan (pages_of v) q)) ≤ (pages_of v p).used
+      (q : ℕ) → q < P → in_flight (pages_of v q) ≡ true → (p : ℕ) → p < P → mentioned p (Some (F.plan (pages_of v) q)) ≤ (pages_of v p).used
 
 -- after every list under the premises that leaves the state known
 abbrev pub StatesAgree : Family → Type 0

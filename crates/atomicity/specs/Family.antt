@@ -8,7 +8,7 @@ use Rattle.sizes.specs.declared.Layout.TheVariants.{FiveWords, FourWords}
 use Rattle.sizes.specs.declared.Sizes.{Sizes}
 use Rattle.sizes.specs.Blocks.{NamedBlock, block_at}
 use Rattle.record.specs.declared.Record.{Record}
-use Rattle.record.specs.declared.Slot.{Slot}
+use Rattle.record.specs.Slot.{Slot}
 use Rattle.record.specs.Flash.{Flash, Step}
 use Rattle.state.specs.declared.PageState.{PageState}
 use Rattle.table.specs.Table.{version_in}

@@ -3,8 +3,10 @@
 
 ghost use Rattle.std.specs.Prelude.{◌≡◌, ◌*◌, ◌≤◌, ◌<◌, length};
 ghost use Rattle.bounded.specs.Limits.{two_widths};
-ghost use Rattle.outcome.specs.Outcome.{returned};
+ghost use Rattle.outcome.specs.Result.{outcome_by};
 ghost use Rattle.bits.specs.Bits.{bit_at, set_bits, count_outcome};
+
+use outcome::Refusal;
 
 // "Stop s … is bit s mod 8 of byte s div 8, lowest bit first; 1 means drawn."
 pub fn bit(bytes: &[u8], s: u32) -> u32
@@ -22,21 +24,18 @@ pub fn count_bits(bytes: &[u8]) -> u32
 {
     let bits = 8 * (bytes.len() as u32);
     let mut set: u32 = 0;
-    let mut s: u32 = 0;
-    while s < bits {
+    for s in 0..bits {
         set += bit(bytes, s);
-        s += 1;
     }
     set
 }
 
 // "Count 32 bytes: how many stops are drawn"; "a slice of 32 or 64 bytes". Any other length answers 1.
-pub fn count(bytes: &[u8]) -> u64
-    ensures { returned result tt ≡ count_outcome two_widths bytes.now }
+pub fn count(bytes: &[u8]) -> Result<u32, Refusal>
+    ensures { outcome_by 0 result tt ≡ count_outcome two_widths bytes.now }
 {
     if !sizes::width_ok(bytes.len()) {
-        return outcome::reply(1, 0);
+        return Err(Refusal::WrongSize);
     }
-    let set = count_bits(bytes);
-    outcome::reply(0, set)
+    Ok(count_bits(bytes))
 }

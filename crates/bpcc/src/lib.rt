@@ -1,6 +1,7 @@
 // The C interface: every call, exported. The functions `star_cases`, `refusals`, `meanings`, `exposed_found`, `promise_3`, `cleaning`, `sweeping`, `picking`, `doubting`, `two_widths` and `slowest_start` pin theorems in their contracts.
+// Kept: three numbers for the sizes, a slice for each buffer, and a function for each name of both families, as the C interface has them.
 
-#![tactic(auto)]
+#![tactic(auto, using(outcome::specs::Result::ended, outcome::specs::Result::gives))]
 
 pub mod scc; // scc.rt: the second family
 
@@ -58,6 +59,17 @@ ghost use Rattle.atomicity.specs.Runs.{RunsComputed};
 
 use sizes::{Layout, Sizes};
 
+// The sizes that a call is given.
+fn sizes_of(pages: u32, slots: u32, width: u32) -> Sizes
+    ensures { result ≡ sizes_of pages slots width }
+{
+    Sizes {
+        pages,
+        slots,
+        width,
+    }
+}
+
 // Format a volume.
 #[unsafe(no_mangle)]
 pub extern "C" fn bpcc_format(
@@ -71,17 +83,13 @@ pub extern "C" fn bpcc_format(
     ensures { returned result (volume words.new contents.new state.new)
         ≡ format_outcome two_widths (sizes_of pages slots width) (volume words.old contents.old state.old) }
 {
-    volume::format(
+    outcome::reply_done(volume::format(
         Layout::FiveWords,
-        Sizes {
-            pages,
-            slots,
-            width,
-        },
+        sizes_of(pages, slots, width),
         words,
         contents,
         state,
-    )
+    ))
 }
 
 // Launch a list of pages as one transaction.
@@ -95,15 +103,7 @@ pub extern "C" fn bpcc_launch(
 ) -> u64
     ensures { returned result state.new ≡ launch_outcome two_widths (sizes_of pages slots width) state.old list.now }
 {
-    flight::launch(
-        Sizes {
-            pages,
-            slots,
-            width,
-        },
-        state,
-        list,
-    )
+    outcome::reply_done(flight::launch(sizes_of(pages, slots, width), state, list))
 }
 
 // Write a page of a launched transaction into a blank slot.
@@ -122,19 +122,18 @@ pub extern "C" fn bpcc_write(
     ensures { returned result (volume words.new contents.new state.new)
         ≡ write_outcome two_widths (sizes_of pages slots width) (volume words.old contents.old state.old) page slot bytes.now }
 {
-    transact::write(
-        Layout::FiveWords,
-        Sizes {
-            pages,
-            slots,
-            width,
-        },
-        words,
-        contents,
-        state,
-        page,
-        slot,
-        bytes,
+    outcome::reply_of(
+        transact::write(
+            Layout::FiveWords,
+            sizes_of(pages, slots, width),
+            words,
+            contents,
+            state,
+            page,
+            slot,
+            bytes,
+        ),
+        0,
     )
 }
 
@@ -149,15 +148,7 @@ pub extern "C" fn bpcc_withdraw(
 ) -> u64
     ensures { returned result state.new ≡ withdraw_outcome two_widths (sizes_of pages slots width) state.old page }
 {
-    flight::withdraw(
-        Sizes {
-            pages,
-            slots,
-            width,
-        },
-        state,
-        page,
-    )
+    outcome::reply_done(flight::withdraw(sizes_of(pages, slots, width), state, page))
 }
 
 // Erase a list of slots.
@@ -174,18 +165,14 @@ pub extern "C" fn bpcc_erase(
     ensures { returned result (flash words.new contents.new)
         ≡ erase_outcome two_widths (sizes_of pages slots width) (volume words.old contents.old state.now) list.now }
 {
-    collect::erase(
+    outcome::reply_done(collect::erase(
         Layout::FiveWords,
-        Sizes {
-            pages,
-            slots,
-            width,
-        },
+        sizes_of(pages, slots, width),
         words,
         contents,
         state,
         list,
-    )
+    ))
 }
 
 // Suggest the lowest slot that may be erased.
@@ -201,15 +188,9 @@ pub extern "C" fn bpcc_suggest(
     ensures { returned result tt
         ≡ suggest_outcome two_widths (sizes_of pages slots width) (volume words.now contents.now state.now) }
 {
-    collect::suggest(
-        Sizes {
-            pages,
-            slots,
-            width,
-        },
-        words,
-        contents,
-        state,
+    outcome::reply_of(
+        collect::suggest(sizes_of(pages, slots, width), words, contents, state),
+        sizes::NO_NUMBER,
     )
 }
 
@@ -218,14 +199,7 @@ pub extern "C" fn bpcc_suggest(
 pub extern "C" fn bpcc_check_blocks(pages: u32, slots: u32, width: u32, starts: &[u32]) -> u64
     ensures { returned result tt ≡ check_blocks_outcome two_widths (sizes_of pages slots width) starts.now }
 {
-    volume::blocks::check(
-        Sizes {
-            pages,
-            slots,
-            width,
-        },
-        starts,
-    )
+    outcome::reply_done(volume::blocks::check(sizes_of(pages, slots, width), starts))
 }
 
 // Clean one flash block, by a table of blocks.
@@ -243,18 +217,14 @@ pub extern "C" fn bpcc_clean(
     ensures { returned result (flash words.new contents.new)
         ≡ clean_outcome two_widths (sizes_of pages slots width) (volume words.old contents.old state.now) (named starts.now block) }
 {
-    clean::clean(
-        Sizes {
-            pages,
-            slots,
-            width,
-        },
+    outcome::reply_done(clean::clean(
+        sizes_of(pages, slots, width),
         words,
         contents,
         state,
         starts,
         block,
-    )
+    ))
 }
 
 // Pick a block to clean, by a table of blocks.
@@ -274,12 +244,8 @@ pub extern "C" fn bpcc_pick(
     ensures { returned result out.new
         ≡ pick_outcome two_widths (sizes_of pages slots width) (volume words.now contents.now state.now) (named starts.now block) n out.old }
 {
-    pick::pick(
-        Sizes {
-            pages,
-            slots,
-            width,
-        },
+    outcome::reply_done(pick::pick(
+        sizes_of(pages, slots, width),
         words,
         contents,
         state,
@@ -287,7 +253,7 @@ pub extern "C" fn bpcc_pick(
         block,
         n,
         out,
-    )
+    ))
 }
 
 // A full sweep.
@@ -303,16 +269,7 @@ pub extern "C" fn bpcc_sweep(
     ensures { returned result (flash words.new contents.new)
         ≡ sweep_outcome two_widths (sizes_of pages slots width) (volume words.old contents.old state.now) }
 {
-    sweep::sweep(
-        Sizes {
-            pages,
-            slots,
-            width,
-        },
-        words,
-        contents,
-        state,
-    )
+    outcome::reply_done(sweep::sweep(sizes_of(pages, slots, width), words, contents, state))
 }
 
 // Recover the state from the slot table, with the contents to tell twins, and count the links followed.
@@ -328,15 +285,9 @@ pub extern "C" fn bpcc_recover(
     ensures { returned result state.new
         ≡ recover_outcome two_widths (sizes_of pages slots width) (volume words.now contents.now state.old) }
 {
-    recovery::recover(
-        Sizes {
-            pages,
-            slots,
-            width,
-        },
-        words,
-        contents,
-        state,
+    outcome::reply_of(
+        recovery::recover(sizes_of(pages, slots, width), words, contents, state),
+        0,
     )
 }
 
@@ -354,16 +305,9 @@ pub extern "C" fn bpcc_doubtful(
     ensures { returned result out.new
         ≡ doubtful_outcome two_widths (sizes_of pages slots width) (flash words.now contents.now) list.now out.old }
 {
-    doubtful::doubtful(
-        Sizes {
-            pages,
-            slots,
-            width,
-        },
-        words,
-        contents,
-        list,
-        out,
+    outcome::reply_of(
+        doubtful::doubtful(sizes_of(pages, slots, width), words, contents, list, out),
+        0,
     )
 }
 
@@ -372,7 +316,7 @@ pub extern "C" fn bpcc_doubtful(
 pub extern "C" fn bpcc_count(bytes: &[u8]) -> u64
     ensures { returned result tt ≡ count_outcome two_widths bytes.now }
 {
-    bits::count(bytes)
+    outcome::reply_of(bits::count(bytes), 0)
 }
 
 // Read a page's committed contents.
@@ -390,7 +334,7 @@ pub extern "C" fn bpcc_read(
     ensures { returned result out.new
         ≡ read_outcome two_widths (sizes_of pages slots width) (volume words.now contents.now state.now) page out.old }
 {
-    reader::read(pages, slots, width, words, contents, state, page, out)
+    outcome::reply_done(reader::read(pages, slots, width, words, contents, state, page, out))
 }
 
 // Document 01's ★ cases hold of the definitions that the calls' contracts cite, and so do the bounds of P and S, the records that a ring of two

@@ -21,7 +21,8 @@ ghost use Rattle.atomicity.specs.Companions.{StatesAgree, PremisesMet, StagesInO
 ghost use Rattle.atomicity.specs.Runs.{SimpleRunsComputed};
 ghost use Rattle.atomicity.specs.Burial.{Unburied};
 
-use sizes::{Layout, Sizes};
+use super::sizes_of;
+use sizes::Layout;
 
 // Format a volume.
 #[unsafe(no_mangle)]
@@ -36,17 +37,13 @@ pub extern "C" fn scc_format(
     ensures { returned result (volume words.new contents.new state.new)
         ≡ format_outcome_in FourWords two_widths (sizes_of pages slots width) (volume words.old contents.old state.old) }
 {
-    volume::format(
+    outcome::reply_done(volume::format(
         Layout::FourWords,
-        Sizes {
-            pages,
-            slots,
-            width,
-        },
+        sizes_of(pages, slots, width),
         words,
         contents,
         state,
-    )
+    ))
 }
 
 // Launch a list of pages as one transaction.
@@ -60,15 +57,7 @@ pub extern "C" fn scc_launch(
 ) -> u64
     ensures { returned result state.new ≡ launch_outcome two_widths (sizes_of pages slots width) state.old list.now }
 {
-    flight::launch(
-        Sizes {
-            pages,
-            slots,
-            width,
-        },
-        state,
-        list,
-    )
+    outcome::reply_done(flight::launch(sizes_of(pages, slots, width), state, list))
 }
 
 // Write a page of a launched transaction into a blank slot, where that buries no record.
@@ -87,19 +76,18 @@ pub extern "C" fn scc_write(
     ensures { returned result (volume words.new contents.new state.new)
         ≡ simple_write_outcome two_widths (sizes_of pages slots width) (volume words.old contents.old state.old) page slot bytes.now }
 {
-    transact::write(
-        Layout::FourWords,
-        Sizes {
-            pages,
-            slots,
-            width,
-        },
-        words,
-        contents,
-        state,
-        page,
-        slot,
-        bytes,
+    outcome::reply_of(
+        transact::write(
+            Layout::FourWords,
+            sizes_of(pages, slots, width),
+            words,
+            contents,
+            state,
+            page,
+            slot,
+            bytes,
+        ),
+        0,
     )
 }
 
@@ -114,15 +102,7 @@ pub extern "C" fn scc_withdraw(
 ) -> u64
     ensures { returned result state.new ≡ withdraw_outcome two_widths (sizes_of pages slots width) state.old page }
 {
-    flight::withdraw(
-        Sizes {
-            pages,
-            slots,
-            width,
-        },
-        state,
-        page,
-    )
+    outcome::reply_done(flight::withdraw(sizes_of(pages, slots, width), state, page))
 }
 
 // Erase a list of slots.
@@ -139,18 +119,14 @@ pub extern "C" fn scc_erase(
     ensures { returned result (flash words.new contents.new)
         ≡ simple_erase_outcome two_widths (sizes_of pages slots width) (volume words.old contents.old state.now) list.now }
 {
-    collect::erase(
+    outcome::reply_done(collect::erase(
         Layout::FourWords,
-        Sizes {
-            pages,
-            slots,
-            width,
-        },
+        sizes_of(pages, slots, width),
         words,
         contents,
         state,
         list,
-    )
+    ))
 }
 
 // Recover the state from the slot table, and count the links followed.
@@ -164,14 +140,9 @@ pub extern "C" fn scc_recover(
 ) -> u64
     ensures { returned result state.new ≡ simple_recover_outcome two_widths (sizes_of pages slots width) words.now state.old }
 {
-    recovery::simple::recover(
-        Sizes {
-            pages,
-            slots,
-            width,
-        },
-        words,
-        state,
+    outcome::reply_of(
+        recovery::simple::recover(sizes_of(pages, slots, width), words, state),
+        0,
     )
 }
 
@@ -190,19 +161,15 @@ pub extern "C" fn scc_read(
     ensures { returned result out.new
         ≡ read_outcome_in FourWords two_widths (sizes_of pages slots width) (volume words.now contents.now state.now) page out.old }
 {
-    reader::copy_page(
+    outcome::reply_done(reader::copy_page(
         Layout::FourWords,
-        Sizes {
-            pages,
-            slots,
-            width,
-        },
+        sizes_of(pages, slots, width),
         words,
         contents,
         state,
         page,
         out,
-    )
+    ))
 }
 
 // Promise 3 of this family, whole: one theorem over all lists of calls and crashes, for any widths, and at the two that the calls take; that it holds of the volume's

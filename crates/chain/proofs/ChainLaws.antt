@@ -1,45 +1,46 @@
 -- How the chains grow by a slot; and that a search over all slots, for a test that only slots of one chain pass, is the search along it.
 use Prim.Native.Nat.{ℕ, ◌+◌, ◌-◌, ◌%◌, ◌≤◌, ◌<◌, max}
 use native.Mathlib.Omega.{arith}
-use Rattle.std.specs.Prelude.{◌≡◌, refl, List, Bool, true, false, cond, ◌&&◌, ltb, get_or, set, replicate}
+use Rattle.std.specs.Prelude.{◌≡◌, refl, List, Bool, true, false, cond, ◌&&◌, ltb, get_or, set, replicate, Option, None, Some, is_some}
 use Rattle.std.proofs.Math.Path.{sym, ap}
 use Rattle.std.proofs.Common.{ap₂, ◌∙◌, length-set, get_or-set_same, get_or-set_other}
 use Rattle.std.proofs.lemmas.Bool.{false≢true}
 use Rattle.std.proofs.Math.Dec.{eqb}
 use Rattle.std.proofs.lemmas.List.{length-replicate, get_or-replicate}
 use borrow.Author.Tests.{eq-eqb, ne_eqb, eqb-true, lt-ltb, le-ltb, ltb-true}
-use Rattle.bounded.specs.Limits.{max_slots}
+use Rattle.bounded.specs.Limits.{max_slots, no_number}
 use Rattle.bounded.specs.Choice.{on_eq, on_lt, never, both_left, both_right}
 use Rattle.bounded.specs.Below.{some_below, max_below, first_below, end_below}
 use Rattle.bounded.specs.BelowLaws.{some_zero, some_of, some_none, first_passes, first_tells}
 use Rattle.bounded.specs.Passing.{end_le, end_here, end_stays, end_passes, some_from_end, some_go_on, max_from_end, max_go_on}
 use Rattle.record.specs.declared.Record.{Record}
-use Rattle.record.specs.declared.Slot.{Slot}
-use Rattle.record.specs.declared.Slot.TheVariants.{Blank, Holds}
+use Rattle.record.specs.Slot.{Slot}
+use Rattle.std.specs.Prelude.{None, Some}
 use Rattle.record.specs.Slot.{holds, straddles}
 use Rattle.record.specs.SlotLaws.{holds_exactly}
-use Rattle.table.specs.Table.{of_version, clash, lowest_slot}
+use Rattle.table.specs.Table.{table_sound, of_version, clash, lowest_slot}
 use Rattle.table.proofs.TableLaws.{blank_holds, holds_of}
+use Rattle.table.proofs.HighestSlot.{page_below}
 use Rattle.chain.specs.declared.Key.{Key}
 use Rattle.chain.specs.declared.Key.TheVariants.{Page, Straddler, Pointer, Version}
-use Rattle.chain.specs.Chain.{may_straddle, chain_of, by_version, max_chains, in_chain, Chained, Found}
+use Rattle.chain.specs.Chain.{may_straddle, chain_of, by_version, max_chains, in_chain, end_of, Chained, Found}
 
 -- ---- what a slot holds
 
 module _ (key : Key) (t : ℕ → Slot) (k : ℕ) where
-  blank_in_none : (a : ℕ) → t k ≡ Blank → in_chain key t a k ≡ false
+  blank_in_none : (a : ℕ) → t k ≡ None → in_chain key t a k ≡ false
   unfolding in_chain holds
   blank_in_none a e = rw e
 
-  record_in_chain : (r : Record) → t k ≡ Holds r → in_chain key t (chain_of key r) k ≡ true
+  record_in_chain : (r : Record) → t k ≡ Some r → in_chain key t (chain_of key r) k ≡ true
   unfolding in_chain holds
   record_in_chain r e = rw e (eq-eqb (chain_of key r) (chain_of key r) refl)
 
-  record_in_no_other : (a : ℕ) (r : Record) → t k ≡ Holds r → ¬ (a ≡ chain_of key r) → in_chain key t a k ≡ false
+  record_in_no_other : (a : ℕ) (r : Record) → t k ≡ Some r → ¬ (a ≡ chain_of key r) → in_chain key t a k ≡ false
   unfolding in_chain holds
   record_in_no_other a r e d = rw e (ne_eqb (chain_of key r) a (λ q. d (sym q)))
 
-  chain_held : (a : ℕ) → in_chain key t a k ≡ true → (r : Record) × (t k ≡ Holds r) × (chain_of key r ≡ a)
+  chain_held : (a : ℕ) → in_chain key t a k ≡ true → (r : Record) × (t k ≡ Some r) × (chain_of key r ≡ a)
   unfolding in_chain
   chain_held a e = let h = (holds_exactly (λ r. eqb (chain_of key r) a) (t k)).0 e in (h.0, h.1, eqb-true _ _ h.2)
 
@@ -55,7 +56,7 @@ chain_below Straddler r = either (may_straddle r)
 chain_below Pointer r = omega arith
 chain_below Version r = omega arith
 
-holds_same : {r s : Record} → ◌≡◌ {A = Slot} (Holds r) (Holds s) → r ≡ s
+holds_same : {r s : Record} → ◌≡◌ {A = Slot} (Some r) (Some s) → r ≡ s
 holds_same e = cc
 
 -- ---- one slot more
@@ -68,9 +69,17 @@ chained_none key t N h = record {
   slot_entry = λ k r b e. absurd (omega arith);
 }
 
+-- of a sound table: whose record would have no page holds none
+pub no_page_blank : (P S : ℕ) (t : ℕ → Slot) (k : ℕ) → table_sound P S t ≡ true → k < S → P ≤ no_number → ((r : Record) → t k ≡ Some r → r.p ≡ no_number) → t k ≡ None
+no_page_blank P S t k sound h m f = by (t k) refl
+  where
+    by : (s : Slot) → t k ≡ s → t k ≡ None
+    by None e = e
+    by (Some r) e = let l = page_below P S t k r sound h e in let n = f r e in absurd (omega arith)
+
 module _ (key : Key) (t : ℕ → Slot) (n : ℕ) (chains : List ℕ) (c : Chained key n t chains) where
   -- it holds no record
-  pub chained_blank : t n ≡ Blank → Chained key (n + 1) t chains
+  pub chained_blank : t n ≡ None → Chained key (n + 1) t chains
   chained_blank e = record {
     sized = c.sized;
     chain_entry = λ a h. c.chain_entry a h ∙ sym (end_stays (in_chain key t a) n (blank_in_none key t n a e));
@@ -78,7 +87,7 @@ module _ (key : Key) (t : ℕ → Slot) (n : ℕ) (chains : List ℕ) (c : Chain
   }
 
   -- it holds a record: its chain's entry so far becomes the slot's, and the slot's end the chain's
-  pub chained_record : (r : Record) → t n ≡ Holds r → n < max_slots → Chained key (n + 1) t (set (set chains (max_chains + n) (get_or chains (chain_of key r) 0)) (chain_of key r) (n + 1))
+  pub chained_record : (r : Record) → t n ≡ Some r → n < max_slots → Chained key (n + 1) t (set (set chains (max_chains + n) (get_or chains (chain_of key r) 0)) (chain_of key r) (n + 1))
   chained_record r e l = record {
     sized = length-set moved (chain_of key r) (n + 1) ∙ length-set chains (max_chains + n) (get_or chains (chain_of key r) 0) ∙ c.sized;
     chain_entry = λ a b. on_eq a (chain_of key r)
@@ -108,6 +117,15 @@ module _ (key : Key) (t : ℕ → Slot) (n : ℕ) (chains : List ℕ) (c : Chain
       stored = set moved (chain_of key r) (n + 1)
 
 -- ---- the search
+
+-- an end is above 0 exactly where there is a slot in front of it
+pub end_some : (at : Option ℕ) → ltb 0 (end_of at) ≡ is_some at
+end_some None = refl
+end_some (Some k) = lt-ltb 0 (k + 1) (omega arith)
+
+pub end_none : (at : Option ℕ) → is_some at ≡ false → end_of at ≡ 0
+end_none None e = refl
+end_none (Some k) e = absurd (never refl e)
 
 -- a search from the end over all S slots has come to an end of chain a's slots: what is left is below it
 pub record Left (key : Key) (S : ℕ) (t : ℕ → Slot) (a : ℕ) (q : ℕ → Bool) (end : ℕ) : Type 0 where
@@ -162,7 +180,7 @@ module _ {key : Key} (S : ℕ) (t : ℕ → Slot) (chains : List ℕ) (c : Chain
   }
 
 -- a record of a page is in the page's chain
-pub page_in_chain : (t : ℕ → Slot) (p k : ℕ) (r : Record) → t k ≡ Holds r → r.p ≡ p → in_chain Page t (p % 256) k ≡ true
+pub page_in_chain : (t : ℕ → Slot) (p k : ℕ) (r : Record) → t k ≡ Some r → r.p ≡ p → in_chain Page t (p % 256) k ≡ true
 unfolding in_chain chain_of
 page_in_chain t p k r e q = holds_of (λ s. eqb (s.p % 256) (p % 256)) e (eq-eqb (r.p % 256) (p % 256) (rw q))
 
@@ -258,7 +276,7 @@ module _ (n : ℕ) (t : ℕ → Slot) (p v : ℕ) where
   }
 
 -- a blank slot is "of equal page and version" with none
-pub blank_clashes_none : (t : ℕ → Slot) (k : ℕ) → t k ≡ Blank → Found k (λ j. clash (t j) (t k)) 0
+pub blank_clashes_none : (t : ℕ → Slot) (k : ℕ) → t k ≡ None → Found k (λ j. clash (t j) (t k)) 0
 unfolding clash
 blank_clashes_none t k e = record {
   tells = some_none (λ j. clash (t j) (t k)) k (λ j h. rw e) ∙ sym (le-ltb 0 0 (omega arith));
@@ -266,6 +284,6 @@ blank_clashes_none t k e = record {
 }
 
 -- and those of a record's page and version are so with it
-pub found_clash : (t : ℕ → Slot) (k : ℕ) {r : Record} {end : ℕ} → t k ≡ Holds r → Found k (λ j. holds (of_version r.p r.v) (t j)) end → Found k (λ j. clash (t j) (t k)) end
+pub found_clash : (t : ℕ → Slot) (k : ℕ) {r : Record} {end : ℕ} → t k ≡ Some r → Found k (λ j. holds (of_version r.p r.v) (t j)) end → Found k (λ j. clash (t j) (t k)) end
 unfolding clash
 found_clash t k e f = rw e f

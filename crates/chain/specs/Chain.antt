@@ -1,10 +1,10 @@
 -- The slots as chains, each from its last slot down: a table of an entry for each chain and then one for each slot.
-use Rattle.std.specs.Prelude.{ℕ, ◌+◌, ◌*◌, ◌-◌, ◌%◌, ◌≤◌, ◌<◌, ◌≡◌, List, Bool, true, false, cond, ltb, eqb, length, get_or}
+use Rattle.std.specs.Prelude.{ℕ, ◌+◌, ◌*◌, ◌-◌, ◌%◌, ◌≤◌, ◌<◌, ◌≡◌, List, Bool, true, false, cond, ltb, eqb, length, get_or, Option, None, Some}
 use Rattle.bounded.specs.Limits.{max_slots}
 use Rattle.bounded.specs.Below.{some_below, end_below}
 use Rattle.record.specs.declared.Record.{Record}
-use Rattle.record.specs.declared.Slot.{Slot}
-use Rattle.record.specs.declared.Slot.TheVariants.{Holds}
+use Rattle.record.specs.Slot.{Slot}
+use Rattle.std.specs.Prelude.{Some}
 use Rattle.record.specs.Slot.{holds, slot_at}
 use Rattle.table.specs.Table.{table_sound}
 use Rattle.chain.specs.declared.Key.{Key}
@@ -36,11 +36,23 @@ max_chains = 1024
 unfoldable pub in_chain : Key → (ℕ → Slot) → (a k : ℕ) → Bool
 in_chain key t a k = holds (λ r. eqb (chain_of key r) a) (t k)
 
+-- the end that a slot, or none, stands for: 1 more than the slot, 0 where there is none
+abbrev pub end_of : Option ℕ → ℕ
+end_of None = 0
+end_of (Some k) = k + 1
+
 -- the chains of the slots below n: a chain's entry is where its slots end, a slot's where those of its chain before it do
 pub record Chained (key : Key) (n : ℕ) (t : ℕ → Slot) (chains : List ℕ) : Type 0 where
   pub sized : length chains ≡ max_chains + max_slots
   pub chain_entry : (a : ℕ) → a < max_chains → get_or chains a 0 ≡ end_below n (in_chain key t a)
-  pub slot_entry : (k : ℕ) (r : Record) → k < n → t k ≡ Holds r → get_or chains (max_chains + k) 0 ≡ end_below k (in_chain key t (chain_of key r))
+  pub slot_entry : (k : ℕ) (r : Record) → k < n → t k ≡ Some r → get_or chains (max_chains + k) 0 ≡ end_below k (in_chain key t (chain_of key r))
+
+-- the slots below n are chained so that those of page p's version v are in one chain, and that chain's last slot is `last`
+pub record ChainedTo (n : ℕ) (t : ℕ → Slot) (chains : List ℕ) (last p v : ℕ) : Type 0 where
+  pub key : Key
+  pub versions_together : by_version key ≡ true
+  pub chained : Chained key n t chains
+  pub last_is : last + 1 ≡ get_or chains (chain_of key (record { p = p; v = v; c = 0; np = 0; nv = 0 })) 0
 
 -- what a search over the slots below n gives: where a slot that passes ends, 0 where there is none
 pub record Found (n : ℕ) (q : ℕ → Bool) (end : ℕ) : Type 0 where

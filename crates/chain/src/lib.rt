@@ -4,13 +4,13 @@
 
 pub mod version; // version.rt: the slots of one page and version
 
-ghost use Rattle.std.specs.Prelude.{◌≡◌, true, cond, ◌+◌, ◌*◌, ◌-◌, ◌%◌, ◌≤◌, ◌<◌, length, get_or};
+ghost use Rattle.std.specs.Prelude.{None, ℕ, ◌≡◌, true, cond, ◌+◌, ◌*◌, ◌-◌, ◌%◌, ◌≤◌, ◌<◌, length, get_or};
 ghost use Rattle.sizes.specs.Sizes.{stride_of};
 ghost use Rattle.record.specs.Slot.{slot_in};
 ghost use Rattle.table.specs.Table.{table_sound};
-ghost use Rattle.chain.specs.Chain.{may_straddle, chain_of, Chained};
+ghost use Rattle.chain.specs.Chain.{may_straddle, chain_of, end_of, Chained};
 
-use record::{Record, Slot};
+use record::Record;
 use sizes::{Layout, Sizes};
 
 // What the records of one chain share.
@@ -25,24 +25,22 @@ pub enum Key {
     Version,
 }
 
-// An entry as the number that it is.
-fn wide(entry: u16) -> u32
-    ensures { result ≡ entry }
+// The slot in front of an end, which the table keeps in place of it: 1 more than the slot, and 0 where there is none, so that an entry has 16 bits.
+fn slot_before(end: u16) -> Option<u32>
+    ensures { end_of result ≡ end }
 {
-    entry as u32
+    (end as u32).checked_sub(1)
 }
 
 // The page where the record may straddle a link; else a chain that is no page's.
 fn straddler_chain(page: u32, record: Record) -> u32
     ensures { result ≡ cond (may_straddle «record») page 256 }
 {
-    if record.v < record.c {
-        return 256;
+    if record.v.saturating_sub(record.c) > 1 {
+        page
+    } else {
+        256
     }
-    if record.v - record.c < 2 {
-        return 256;
-    }
-    page
 }
 
 // The record's chain.
@@ -58,27 +56,27 @@ fn chain_of(key: Key, record: Record) -> u32
     }
 }
 
-// Where the slots of the record's chain end: 1 more than the last of them, 0 where there is none.
-pub fn chain_end(chains: &[u16; 2048], key: Key, record: Record) -> u32
-    ensures { result ≡ get_or chains.now (chain_of key «record») 0 }
+// The last slot of the record's chain.
+pub fn last_of(chains: &[u16; 2048], key: Key, record: Record) -> Option<u32>
+    ensures { end_of result ≡ get_or chains.now (chain_of key «record») 0 }
 {
     let chain = chain_of(key, record);
-    wide(chains[chain as usize])
+    slot_before(chains[chain as usize])
 }
 
-// Where the slots of a page end, chained by page or, of those that may straddle a link, by straddler.
-pub fn page_end(chains: &[u16; 2048], page: u32) -> u32
-    ensures { result ≡ get_or chains.now (page % 256) 0 }
+// The last slot of a page, chained by page or, of those that may straddle a link, by straddler.
+pub fn last_of_page(chains: &[u16; 2048], page: u32) -> Option<u32>
+    ensures { end_of result ≡ get_or chains.now (page % 256) 0 }
 {
-    wide(chains[(page % 256) as usize])
+    slot_before(chains[(page % 256) as usize])
 }
 
-// Where the slots of its chain before this one end.
-pub fn end_before(chains: &[u16; 2048], slot: u32) -> u32
+// The slot before this one in its chain.
+pub fn before(chains: &[u16; 2048], slot: u32) -> Option<u32>
     requires { slot < 1024 }
-    ensures { result ≡ get_or chains.now (1024 + slot) 0 }
+    ensures { end_of result ≡ get_or chains.now (1024 + slot) 0 }
 {
-    wide(chains[1024 + slot as usize])
+    slot_before(chains[1024 + slot as usize])
 }
 
 // Slot k's record becomes the last of its chain.
@@ -88,7 +86,7 @@ pub fn link_slot(layout: Layout, key: Key, words: &[u32], k: u32, chains: &mut [
     requires chained { Chained key k (slot_in layout words.now) chains.old }
     ensures { Chained key (k + 1) (slot_in layout words.now) chains.new }
 {
-    let Slot::Holds(record) = record::slot_in(layout, words, k) else {
+    let Some(record) = record::slot_in(layout, words, k) else {
         return;
     };
     let chain = chain_of(key, record) as usize;
@@ -97,21 +95,39 @@ pub fn link_slot(layout: Layout, key: Key, words: &[u32], k: u32, chains: &mut [
     chains[chain] = (k + 1) as u16;
 }
 
-// The chains of all slots, in one pass over them.
+// The chains of all slots but those passed by, which are blank, in one pass over them.
+fn link_all_but<F: Fn(u32) -> bool>(
+    layout: Layout,
+    key: Key,
+    slots: u32,
+    words: &[u32],
+    chains: &mut [u16; 2048],
+    passes: F,
+)
+    requires slots_in_bounds { stride_of layout * slots ≤ length words.now }
+    requires slots_bound { slots ≤ 1024 }
+    requires callable { (k : ℕ) → k < slots → F.pre passes k }
+    requires blank { (k : ℕ) → k < slots → F.post passes k true → slot_in layout words.now k ≡ None }
+    ensures { Chained key slots (slot_in layout words.now) chains.new }
+{
+    *chains = [0; 2048];
+    for k in 0..slots {
+        if !passes(k) {
+            link_slot(layout, key, words, k, chains);
+        }
+    }
+}
+
+// The chains of all slots.
 pub fn link_slots(layout: Layout, key: Key, slots: u32, words: &[u32], chains: &mut [u16; 2048])
     requires slots_in_bounds { stride_of layout * slots ≤ length words.now }
     requires slots_bound { slots ≤ 1024 }
     ensures { Chained key slots (slot_in layout words.now) chains.new }
 {
-    *chains = [0; 2048];
-    let mut k = 0;
-    while k < slots {
-        link_slot(layout, key, words, k, chains);
-        k += 1;
-    }
+    link_all_but(layout, key, slots, words, chains, |_| false);
 }
 
-// The same of a sound table, where a blank slot is told by its first word.
+// The chains of all slots of a sound table, where a blank slot is told by its first word.
 pub fn link_sound_slots(
     layout: Layout,
     key: Key,
@@ -120,17 +136,11 @@ pub fn link_sound_slots(
     chains: &mut [u16; 2048],
 )
     requires slots_in_bounds { stride_of layout * sizes.slots ≤ length words.now }
-    requires pages_bound { sizes.pages ≤ 256 }
     requires slots_bound { sizes.slots ≤ 1024 }
     requires words_value { table_sound sizes.pages sizes.slots (slot_in layout words.now) ≡ true }
     ensures { Chained key sizes.slots (slot_in layout words.now) chains.new }
 {
-    *chains = [0; 2048];
-    let mut k = 0;
-    while k < sizes.slots {
-        if !table::names_no_page(layout, words, k) {
-            link_slot(layout, key, words, k, chains);
-        }
-        k += 1;
-    }
+    link_all_but(layout, key, sizes.slots, words, chains, |k| {
+        table::names_no_page(layout, words, k)
+    });
 }

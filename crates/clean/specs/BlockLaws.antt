@@ -1,11 +1,11 @@
 -- A block's slots: their marks, and their blanking one by one.
-use Rattle.std.specs.Prelude.{ℕ, ◌+◌, ◌≤◌, ◌<◌, ◌≡◌, refl, Bool, true, ◌&&◌, ◌||◌, ltb, leb, eqb, length, set, replicate}
-use Rattle.std.proofs.Common.{arith, ◌∙◌, eq-eqb, ne_eqb, lt-ltb, le-ltb, le-leb}
+use Rattle.std.specs.Prelude.{ℕ, ◌+◌, ◌-◌, ◌≤◌, ◌<◌, ◌≡◌, true, length, get_or, replicate}
+use Rattle.std.proofs.Common.{rules, arith, ◌∙◌}
 use Rattle.std.proofs.Math.Path.{sym, ap, fun_ext}
 use mathlib.Core.List.{List, [], ◌∷◌, map-append}
-use Rattle.std.proofs.lemmas.Bool.{lt-leb}
-use Rattle.bounded.specs.Limits.{max_slots}
-use Rattle.bounded.specs.Choice.{on_lt, on_eq}
+use Rattle.std.proofs.lemmas.List.{places}
+use borrow.Rule.Slice.PartMut.{put_mid, mid_of}
+use Rattle.bounded.specs.Choice.{on_lt}
 use Rattle.bounded.specs.Below.{list_below}
 use Rattle.bounded.specs.Passing.{list_more}
 use Rattle.bounded.specs.Members.{list_none}
@@ -14,40 +14,43 @@ use Rattle.sizes.specs.declared.Block.{Block}
 use Rattle.sizes.specs.declared.Layout.TheVariants.{FiveWords}
 use Rattle.sizes.specs.Blocks.{in_block}
 use Rattle.sizes.specs.BlocksLaws.{BlockIn}
-use Rattle.sizes.proofs.BlocksLaws.{before_block, behind_block}
+use Rattle.sizes.proofs.BlocksLaws.{inside_block, before_block, behind_block}
 use Rattle.record.specs.Flash.{Flash, Step, apply, apply_all_in, apply_all}
 use Rattle.record.specs.FlashLaws.{apply_append}
 use Rattle.rules.specs.Erase.{erase_steps}
-use Rattle.judge.specs.Marked.{marked, no_marks, marked_more}
+use Rattle.judge.specs.Marked.{marked, mark_down, mark_up}
 
--- ---- marked one by one
+-- ---- the marks
 
--- those from `first` to before k
-abbrev pub slots_up_to : (first k j : ℕ) → Bool
-slots_up_to first k = in_block (record { first = first; end = k })
+-- zeros with ones written over them from a to before b: what stands at j
+module _ (a b n j : ℕ) (h : a ≤ b) (l : b ≤ n) where
+  abbrev filled : List ℕ
+  filled = put_mid a (b - a) (replicate n 0) (replicate (b - a) 1)
 
-pub block_unmarked : (first n : ℕ) → n ≡ max_slots → marked (replicate n 0) ≡ slots_up_to first first
-unfolding in_block
-block_unmarked first n e =
-    (no_marks n e).none
-    ∙ fun_ext (λ j. on_lt j first (λ l. rw (lt-leb first j l)) (λ l. rw (le-leb first j l, le-ltb j first l)))
+  one_inside : a ≤ j → j < b → get_or filled j 0 ≡ 1
+  one_inside p q = search (rules, places)
 
-pub block_more_marked : (marks : List ℕ) (first k : ℕ) → first ≤ k → k < length marks → marked marks ≡ slots_up_to first k → marked (set marks k 1) ≡ slots_up_to first (k + 1)
-unfolding in_block
-block_more_marked marks first k h l e = fun_ext (λ j. marked_more marks k l j ∙ ap (λ (f : ℕ → Bool). f j || eqb k j) e ∙ one_more_lem j)
-  where
-    one_more_lem : (j : ℕ) → ((leb first j && ltb j k) || eqb k j) ≡ (leb first j && ltb j (k + 1))
-    one_more_lem j =
-        on_lt j first
-        (λ a. rw (lt-leb first j a, ne_eqb k j (λ q. omega arith)))
-        (λ a. on_lt j k
-        (λ b. rw (le-leb first j a, lt-ltb j k b, lt-ltb j (k + 1) (omega arith)))
-        (λ b. on_eq k j
-        (λ q. rw (le-leb first j a, le-ltb j k b, eq-eqb k j q, lt-ltb j (k + 1) (omega arith)))
-        (λ d. rw (le-leb first j a, le-ltb j k b, ne_eqb k j d, le-ltb j (k + 1) (omega arith)))))
+  zero_before : j < a → get_or filled j 0 ≡ 0
+  zero_before p = search (rules, places)
 
-pub block_all_marked : (block : Block) → slots_up_to block.first block.end ≡ in_block block
-block_all_marked block = refl
+  zero_behind : b ≤ j → get_or filled j 0 ≡ 0
+  zero_behind p = search (rules, places)
+
+-- no mark, and those of the block's slots written over
+pub filled_marks :
+    (block : Block) (n : ℕ) {part : List ℕ}
+    → BlockIn n block
+    → part ≡ replicate (length {A = ℕ} (mid_of block.first (block.end - block.first) (replicate n 0))) 1
+    → marked (put_mid block.first (block.end - block.first) (replicate n 0) part) ≡ in_block block
+filled_marks block n b f = let h = b.ordered in
+    let l = b.inside in
+    let m : length {A = ℕ} (mid_of block.first (block.end - block.first) (replicate n 0)) ≡ block.end - block.first = search (rules, places) in
+    rw (f, m)
+    (fun_ext (λ j. on_lt j block.first
+    (λ p. mark_down _ j (zero_before block.first block.end n j h l p) ∙ sym (before_block block j p))
+    (λ p. on_lt j block.end
+    (λ q. mark_up _ j (λ z. let o = one_inside block.first block.end n j h l p q in omega arith) ∙ sym (inside_block block j p q))
+    (λ q. mark_down _ j (zero_behind block.first block.end n j h l q) ∙ sym (behind_block block j h q)))))
 
 -- ---- blanked one by one
 

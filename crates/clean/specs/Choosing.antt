@@ -6,7 +6,7 @@ use Rattle.sizes.specs.declared.Block.{Block}
 use Rattle.sizes.specs.declared.Sizes.{Sizes}
 use Rattle.sizes.specs.Blocks.{in_block}
 use Rattle.sizes.specs.BlocksLaws.{BlockIn}
-use Rattle.record.specs.declared.Slot.{Slot}
+use Rattle.record.specs.Slot.{Slot}
 use Rattle.record.specs.Slot.{slot_at, is_blank}
 use Rattle.record.specs.Flash.{flash}
 use Rattle.state.specs.declared.PageState.{PageState}

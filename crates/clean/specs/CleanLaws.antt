@@ -1,11 +1,12 @@
 -- What the tests of a cleaning say, what its two loops leave together, and its answer.
-use Rattle.std.specs.Prelude.{ℕ, ◌*◌, ◌≤◌, ◌<◌, ◌≡◌, refl, true, false, length}
+use Rattle.std.specs.Prelude.{ℕ, ◌*◌, ◌≤◌, ◌<◌, ◌≡◌, refl, length}
 use Rattle.std.proofs.Math.Path.{sym, ap, ap₂}
 use Rattle.std.proofs.Common.{◌∙◌, subst}
 use mathlib.Core.List.{List}
 use borrow.Author.Tests.{ltb-true}
 use Rattle.bounded.specs.Limits.{Widths, two_widths}
 use Rattle.bounded.specs.Below.{list_below}
+use Rattle.outcome.specs.Outcome.{◌⇒◌otherwise◌}
 use Rattle.outcome.specs.Chain.{first_refuses, first_passes}
 use Rattle.sizes.specs.declared.Block.{Block}
 use Rattle.sizes.specs.declared.Layout.TheVariants.{FiveWords}
@@ -40,7 +41,7 @@ module _ (sizes : Sizes) (words contents state : List ℕ) (block : Block) where
 
   module _ {from to : List ℕ} (is_from : from ≡ clean_from sizes v block) (is_to : to ≡ clean_to sizes v block) where
     -- the copies may be done
-    pub copies_begin : Cleanable → length from ≤ length to → Copying sizes.width sizes.slots (flash words contents) from to (flash words contents) 0
+    pub copies_begin : Cleanable → length from ≤ length to → Copying sizes.width sizes.slots (flash words contents) from to (flash words contents) from to
     copies_begin c room =
         copying_begins sizes.width sizes.slots (flash words contents) from to c.flash_sound.flash_sized
         (subst (λ (l : List ℕ). Ready' c l to) (sym is_from) (subst (Ready' c (clean_from sizes v block)) (sym is_to) (ready sizes v block c.flash_sound.flash_sized c.flash_sound.linkable.sound)))
@@ -64,37 +65,33 @@ module _ (sizes : Sizes) (words contents state : List ℕ) (block : Block) where
 
 -- ---- the answer
 
+-- "15, too few blank slots outside"
+unfoldable pub room_answer : Sizes → Volume → Block → ℕ
+room_answer sizes v block = too_few_blank sizes v block ⇒ 15 otherwise 0
+
 module _ (widths : Widths) (sizes : Sizes) (v : Volume) (block : NamedBlock) where
   pub judged_refuses : {n : ℕ} → n ≡ block_judged widths sizes v block → ¬ (n ≡ 0) → n ≡ clean_answer widths sizes v block
   judged_refuses {n} e h = first_refuses n _ e h ∙ sym (clean_chain widths sizes v block)
 
   -- where the conditions that the calls on a block share do not hold
-  module _ (none : block_judged widths sizes v block ≡ 0) where
+  module _ (none : 0 ≡ block_judged widths sizes v block) where
     pub named_below : block.number < length block.starts
     unfolding block_ok
-    named_below = ltb-true block.number (length block.starts) (block_judged_passed widths sizes v block none).named
+    named_below = ltb-true block.number (length block.starts) (block_judged_passed widths sizes v block (sym none)).named
 
-    last_is : {n : ℕ} → n ≡ clean_own sizes v block → n ≡ clean_answer widths sizes v block
-    last_is {n} e = first_passes 0 n (sym none) refl e ∙ sym (clean_chain widths sizes v block)
-
-    module _ {slots : Block} (is_Block : slots ≡ block_at sizes.slots block) where
-      -- "15, too few blank slots outside"
-      pub too_few : too_few_blank sizes v slots ≡ true → 15 ≡ clean_answer widths sizes v block
-      unfolding clean_own
-      too_few e = last_is (rw (subst (λ (b : Block). too_few_blank sizes v b ≡ true) is_Block e))
-
-      pub enough : too_few_blank sizes v slots ≡ false → 0 ≡ clean_answer widths sizes v block
-      unfolding clean_own
-      enough e = last_is (rw (subst (λ (b : Block). too_few_blank sizes v b ≡ false) is_Block e))
+    -- the room is all that is left to judge
+    pub room_is_answer : {slots : Block} → slots ≡ block_at sizes.slots block → room_answer sizes v slots ≡ clean_answer widths sizes v block
+    unfolding room_answer clean_own
+    room_is_answer e = ap (room_answer sizes v) e ∙ first_passes 0 _ none refl refl ∙ sym (clean_chain widths sizes v block)
 
 -- at the two widths there are, the block may be cleaned
 pub cleanable :
     (sizes : Sizes) (words contents state : List ℕ) (block : NamedBlock) {slots : Block}
-    → block_judged two_widths sizes (volume words contents state) block ≡ 0
+    → 0 ≡ block_judged two_widths sizes (volume words contents state) block
     → slots ≡ block_at sizes.slots block
     → Cleanable sizes words contents state slots
 cleanable sizes words contents state block none e =
-    let t = block_judged_passed two_widths sizes (volume words contents state) block none in
+    let t = block_judged_passed two_widths sizes (volume words contents state) block (sym none) in
     record {
       flash_sound = sound_flash sizes words contents state t.fitting t.table;
       pages_in_lem = (volume_spans FiveWords two_widths sizes (volume words contents state) t.fitting).pages_in_lem;

@@ -1,15 +1,13 @@
 -- The copies done one by one: what is copied is as it was before the first, so that the steps are those that were fixed then.
-use Prim.Native.Nat.{ℕ, suc, ◌+◌, ◌≤◌, ◌<◌}
-use Rattle.std.proofs.Common.{arith, add-one, sym, ◌∙◌, drop-cons}
-use Rattle.std.specs.Prelude.{◌≡◌, refl, length, get_or}
+use Prim.Native.Nat.{ℕ, suc, ◌≤◌, ◌<◌}
+use Rattle.std.proofs.Common.{arith, sym, ◌∙◌}
+use Rattle.std.specs.Prelude.{◌≡◌, refl, length}
 use Rattle.std.proofs.Math.Path.{ap, ap₂, subst}
-use mathlib.Core.List.{List, ◌∷◌, Memᴰ}
-use Rattle.std.proofs.Math.ListN.{drop}
-use Rattle.std.proofs.Math.Seq.{drop-length}
+use mathlib.Core.List.{List, [], ◌∷◌, Memᴰ}
 use Rattle.bounded.specs.Parts.{put_part}
 use Rattle.sizes.specs.declared.Layout.TheVariants.{FiveWords}
 use Rattle.record.specs.declared.Record.{Record}
-use Rattle.record.specs.declared.Slot.{Slot}
+use Rattle.record.specs.Slot.{Slot}
 use Rattle.record.specs.Slot.{encoded, slot_at, bytes_at}
 use Rattle.record.specs.Flash.{Flash, flash, Step, put_slot_in, apply_in, apply, apply_all_in, apply_all}
 use Rattle.record.specs.FlashLaws.{SizedIn}
@@ -32,59 +30,56 @@ copy_is w from to r buffer words contents words' contents' e n b d c =
     (d ∙ ap (λ (x : Record). put_part 5 to (encoded FiveWords x) words) e)
     (c ∙ ap₂ (λ (m : ℕ) (x : List ℕ). put_part m to x contents) n b)
 
--- the first i copies of f's records are done and have left g; those behind may be done
-pub record Copying (w S : ℕ) (f : Flash) (from to : List ℕ) (g : Flash) (i : ℕ) : Type 0 where
+-- some copies of f's records are done and have left g; those of the slots `from` to the slots `to` are left, and may be done
+pub record Copying (w S : ℕ) (f : Flash) (all_from all_to : List ℕ) (g : Flash) (from to : List ℕ) : Type 0 where
   pub sized : SizedIn FiveWords w S f
   pub lowest : ℕ
-  pub ready : Ready w S f sized g lowest (drop i from) (drop i to)
+  pub ready : Ready w S f sized g lowest from to
   pub room : length from ≤ length to
-  pub left : apply_all w g (copy_steps w f (drop i from) (drop i to)) ≡ apply_all w f (copy_steps w f from to)
+  pub left : apply_all w g (copy_steps w f from to) ≡ apply_all w f (copy_steps w f all_from all_to)
 
-pub copying_begins : (w S : ℕ) (f : Flash) (from to : List ℕ) (sized : SizedIn FiveWords w S f) → Ready w S f sized f 0 from to → length from ≤ length to → Copying w S f from to f 0
+pub copying_begins : (w S : ℕ) (f : Flash) (from to : List ℕ) (sized : SizedIn FiveWords w S f) → Ready w S f sized f 0 from to → length from ≤ length to → Copying w S f from to f from to
 copying_begins w S f from to sized ready room = record { sized = sized; lowest = 0; ready = ready; room = room; left = refl }
 
-module _ (w S : ℕ) (f : Flash) (from to : List ℕ) (g : Flash) (i : ℕ) (c : Copying w S f from to g i) where
+module _ (w S : ℕ) (f : Flash) (all_from all_to : List ℕ) (g : Flash) where
   -- none is left
-  pub copying_ends : i ≡ length from → g ≡ apply_all w f (copy_steps w f from to)
+  pub copying_ends : (from to : List ℕ) → Copying w S f all_from all_to g from to → length from ≡ 0 → g ≡ apply_all w f (copy_steps w f all_from all_to)
   unfolding copy_steps apply_all_in
-  copying_ends e = ap (λ (l : List ℕ). apply_all w g (copy_steps w f l (drop i to))) (sym (ap (λ (n : ℕ). drop n from) e ∙ drop-length from)) ∙ c.left
+  copying_ends [] to c e = c.left
+  copying_ends (k ∷ from) to c e = absurd (omega arith)
 
-  module _ (h : i < length from) where
-    abbrev source : ℕ
-    source = get_or from i 0
+  -- one more
+  module _
+      {from to rest_from rest_to : List ℕ}
+      (source target : ℕ)
+      (is_from : from ≡ source ∷ rest_from)
+      (is_to : to ≡ target ∷ rest_to)
+      (copying : Copying w S f all_from all_to g from to)
+    where
+      next : Copying w S f all_from all_to g (source ∷ rest_from) (target ∷ rest_to)
+      next = subst (λ (l : List ℕ). Copying w S f all_from all_to g l (target ∷ rest_to)) is_from (subst (Copying w S f all_from all_to g from) is_to copying)
 
-    abbrev target : ℕ
-    target = get_or to i 0
+      pub source_below : source < S
+      source_below = (first_source w S f next.sized g next.lowest source rest_from target rest_to next.ready).source_below
 
-    next : Ready w S f c.sized g c.lowest (source ∷ drop (suc i) from) (target ∷ drop (suc i) to)
-    next =
-        subst (λ (l : List ℕ). Ready w S f c.sized g c.lowest l (target ∷ drop (suc i) to)) (drop-cons from i 0 h)
-        (subst (λ (l : List ℕ). Ready w S f c.sized g c.lowest (drop i from) l) (drop-cons to i 0 (let r = c.room in omega arith)) c.ready)
+      pub target_below : target < S
+      target_below = first_below_lem w S f next.sized g next.lowest source rest_from target rest_to next.ready
 
-    pub source_below : source < S
-    source_below = (first_source w S f c.sized g c.lowest source (drop (suc i) from) target (drop (suc i) to) next).source_below
+      -- the step is the one fixed before
+      same_step : copy_step w g source target ≡ copy_step w f source target
+      unfolding copy_step
+      same_step =
+          let u = next.ready.unaltered source (Memᴰ.head refl) in
+          ap₂ {C = Step} (λ (s : Slot) (b : List ℕ). Step.Store target (record_in s) b) u.same_slot u.same_bytes
 
-    pub target_below : target < S
-    target_below = first_below_lem w S f c.sized g c.lowest source (drop (suc i) from) target (drop (suc i) to) next
-
-    -- the step is the one fixed before
-    same_step : copy_step w g source target ≡ copy_step w f source target
-    unfolding copy_step
-    same_step =
-        let u = c.ready.unaltered source (subst (λ (l : List ℕ). Memᴰ source l) (sym (drop-cons from i 0 h)) (Memᴰ.head refl)) in
-        ap₂ {C = Step} (λ (s : Slot) (b : List ℕ). Step.Store target (record_in s) b) u.same_slot u.same_bytes
-
-    pub copying_more : Copying w S f from to (apply w g (copy_step w g source target)) (i + 1)
-    unfolding copy_steps apply_all_in
-    copying_more =
-        subst (λ (s : Step). Copying w S f from to (apply w g s) (i + 1)) (sym same_step)
-        (subst (Copying w S f from to (apply w g (copy_step w f source target))) (sym (add-one i))
-        (record {
-          sized = c.sized;
-          lowest = suc target;
-          ready = ready_on w S f c.sized g c.lowest source (drop (suc i) from) target (drop (suc i) to) next;
-          room = c.room;
-          left =
-              ap₂ (λ (l m : List ℕ). apply_all w g (copy_steps w f l m)) (sym (drop-cons from i 0 h)) (sym (drop-cons to i 0 (let r = c.room in omega arith)))
-              ∙ c.left;
-        }))
+      pub copying_more : {h : Flash} → h ≡ apply w g (copy_step w g source target) → Copying w S f all_from all_to h rest_from rest_to
+      unfolding copy_steps apply_all_in
+      copying_more e =
+          subst (λ (x : Flash). Copying w S f all_from all_to x rest_from rest_to) (sym (e ∙ ap (apply w g) same_step))
+          (record {
+            sized = next.sized;
+            lowest = suc target;
+            ready = ready_on w S f next.sized g next.lowest source rest_from target rest_to next.ready;
+            room = let r = next.room in omega arith;
+            left = next.left;
+          })

@@ -11,10 +11,7 @@ use sizes::Block;
 pub fn in_block(block: Block, slot: u32) -> bool
     ensures { result ≡ in_block block slot }
 {
-    if slot < block.first {
-        return false;
-    }
-    slot < block.end
+    (block.first..block.end).contains(&slot)
 }
 
 // The block's slots marked, and no other.
@@ -23,9 +20,5 @@ pub fn mark_block(block: Block, marks: &mut [u8; 1024])
     ensures { marked marks.new ≡ in_block block }
 {
     *marks = [0; 1024];
-    let mut k = block.first;
-    while k < block.end {
-        marks[k as usize] = 1;
-        k += 1;
-    }
+    marks[block.first as usize..block.end as usize].fill(1);
 }

@@ -1,7 +1,7 @@
 // The choice, made on the table before the first step: the slots whose records are copied, and the blank slots to copy to.
 
 ghost use Rattle.std.specs.Prelude.{◌≡◌, true, false, not, ◌&&◌, ◌+◌, ◌*◌, ◌≤◌, ◌<◌, length, take};
-ghost use Rattle.bounded.specs.Noted.{Noted};
+ghost use Rattle.noted.specs.Noted.{noted};
 ghost use Rattle.sizes.specs.Blocks.{in_block};
 ghost use Rattle.record.specs.Slot.{slot_at, is_blank};
 ghost use Rattle.record.specs.Flash.{flash};
@@ -16,6 +16,7 @@ ghost use Rattle.clean.specs.CleanLaws.{Cleanable};
 use super::blocks;
 use chain::Key;
 use judge::choose;
+use noted::Slots;
 use sizes::{Block, Layout, Sizes};
 
 // "Every record there that may not be erased, the whole block being listed, is copied once (of twins within the block only the lowest)": the one in slot
@@ -32,20 +33,16 @@ fn is_copied(
     slot: u32,
 ) -> bool
     requires chosen { Chosen sizes words.now contents.now state.now chains.now found.now marks.now block }
-    requires slot_lt_slots { slot < sizes.slots }
-    requires slot_value { in_block block slot ≡ true }
+    requires block_first_le_slot { block.first ≤ slot }
+    requires slot_lt_block_end { slot < block.end }
     ensures { result ≡ is_copied (scene_of sizes (volume words.now contents.now state.now)) (in_block block) slot }
 {
-    if record::slot_at(words, slot).is_blank() {
-        return false;
-    }
-    if judge::may_erase_from(sizes, words, contents, state, chains, found, marks, slot) {
-        return false;
-    }
-    !choose::has_lower_twin(sizes, words, contents, chains, block, slot)
+    record::slot_at(words, slot).is_some()
+        && !judge::may_erase_from(sizes, words, contents, state, chains, found, marks, slot)
+        && !choose::has_lower_twin(sizes, words, contents, chains, block, slot)
 }
 
-// The block's slots whose records are copied, rising; says how many.
+// The block's slots whose records are copied, rising.
 fn note_copied(
     sizes: Sizes,
     words: &[u32],
@@ -55,47 +52,34 @@ fn note_copied(
     found: &[u16],
     marks: &[u8; 1024],
     block: Block,
-    from: &mut [u16; 1024],
-) -> usize
+    copied: &mut Slots,
+)
     requires { Chosen sizes words.now contents.now state.now chains.now found.now marks.now block }
-    ensures { Noted (is_copied (scene_of sizes (volume words.now contents.now state.now)) (in_block block)) sizes.slots from.new result }
+    ensures { noted copied.new ≡ clean_from sizes (volume words.now contents.now state.now) block }
 {
-    *from = [0; 1024];
-    let mut count = 0;
-    let mut k = block.first;
-    while k < block.end {
-        let copied = is_copied(
+    copied.note_passing(block.first, block.end, |k| {
+        is_copied(
             sizes, words, contents, state, chains, found, marks, block, k,
-        );
-        count = choose::note(copied, k, from, count);
-        k += 1;
-    }
-    count
+        )
+    });
 }
 
-// The slots to copy, rising, judged on the table as it is; says how many.
+// The slots to copy, rising, judged on the table as it is.
 pub fn find_copied(
     sizes: Sizes,
     words: &[u32],
     contents: &[u8],
     state: &[u32],
     block: Block,
-    from: &mut [u16; 1024],
-) -> usize
+    copied: &mut Slots,
+)
     requires { Cleanable sizes words.now contents.now state.now block }
-    ensures kept { Noted (is_copied (scene_of sizes (volume words.now contents.now state.now)) (in_block block)) sizes.slots from.new result }
-    ensures finds { take result from.new ≡ clean_from sizes (volume words.now contents.now state.now) block }
+    ensures { noted copied.new ≡ clean_from sizes (volume words.now contents.now state.now) block }
 {
     let mut chains = [0u16; 2048];
-    chain::link_slots(
-        Layout::FiveWords,
-        Key::Pointer,
-        sizes.slots,
-        words,
-        &mut chains,
-    );
-    let mut found = [0u16; 1024];
-    let count = permit::find_exposed(sizes.slots, words, state, &mut found);
+    chain::link_sound_slots(Layout::FiveWords, Key::Pointer, sizes, words, &mut chains);
+    let mut found = Slots::new();
+    permit::find_exposed(sizes.slots, words, state, &mut found);
     let mut marks = [0u8; 1024];
     blocks::mark_block(block, &mut marks);
     note_copied(
@@ -104,11 +88,11 @@ pub fn find_copied(
         contents,
         state,
         &chains,
-        &found[..count],
+        found.as_slice(),
         &marks,
         block,
-        from,
-    )
+        copied,
+    );
 }
 
 // The slot is blank, and not in the block.
@@ -116,25 +100,14 @@ fn is_free(words: &[u32], block: Block, slot: u32) -> bool
     requires { 5 * slot + 5 ≤ length words.now }
     ensures { result ≡ (is_blank (slot_at words.now slot) && not (in_block block slot)) }
 {
-    if !record::slot_at(words, slot).is_blank() {
-        return false;
-    }
-    !blocks::in_block(block, slot)
+    record::slot_at(words, slot).is_none() && !blocks::in_block(block, slot)
 }
 
-// The "blank slots outside", the lowest first; says how many.
-pub fn find_blank(slots: u32, words: &[u32], block: Block, to: &mut [u16; 1024]) -> usize
+// The "blank slots outside", the lowest first.
+pub fn find_blank(slots: u32, words: &[u32], block: Block, blank: &mut Slots)
     requires slots_bound { slots ≤ 1024 }
     requires slots_in_bounds { 5 * slots ≤ length words.now }
-    ensures kept { Noted (λ k. is_blank (slot_at words.now k) && not (in_block block k)) slots to.new result }
-    ensures finds { take result to.new ≡ blank_outside slots (slot_at words.now) (in_block block) }
+    ensures { noted blank.new ≡ blank_outside slots (slot_at words.now) (in_block block) }
 {
-    *to = [0; 1024];
-    let mut count = 0;
-    let mut k = 0;
-    while k < slots {
-        count = choose::note(is_free(words, block, k), k, to, count);
-        k += 1;
-    }
-    count
+    blank.note_passing(0, slots, |k| is_free(words, block, k));
 }

@@ -7,15 +7,18 @@ mod blocks; // blocks.rt: a block's slots
 mod choice; // choice.rt: what is copied, and where to
 mod steps; // steps.rt: the copies and the blankings
 
-ghost use Rattle.std.specs.Prelude.{◌≡◌, not, cond};
+ghost use Rattle.std.specs.Prelude.{◌≡◌};
 ghost use Rattle.bounded.specs.Limits.{two_widths};
-ghost use Rattle.outcome.specs.Outcome.{returned};
+ghost use Rattle.outcome.specs.Outcome.{settled};
+ghost use Rattle.outcome.specs.Result.{ends};
 ghost use Rattle.sizes.specs.Blocks.{named};
 ghost use Rattle.record.specs.Flash.{flash, apply_all};
 ghost use Rattle.rules.specs.Volume.{volume};
-ghost use Rattle.upkeep.specs.Clean.{too_few_blank, clean_steps, clean_outcome};
-ghost use Rattle.clean.specs.CleanLaws.{Cleanable};
+ghost use Rattle.upkeep.specs.Clean.{clean_steps, clean_outcome};
+ghost use Rattle.clean.specs.CleanLaws.{Cleanable, room_answer};
 
+use noted::Slots;
+use outcome::Refusal;
 use sizes::{Block, Sizes};
 
 // The block's records copied and its slots blanked, where the blank slots outside are enough; where they are not it says so and alters nothing.
@@ -25,23 +28,24 @@ fn clean_block(
     contents: &mut [u8],
     state: &[u32],
     block: Block,
-) -> bool
+) -> Result<(), Refusal>
     requires { Cleanable sizes words.old contents.old state.now block }
-    ensures value { result ≡ not (too_few_blank sizes (volume words.old contents.old state.now) block) }
-    ensures contents_after { flash words.new contents.new
-        ≡ cond result (apply_all sizes.width (flash words.old contents.old) (clean_steps sizes (volume words.old contents.old state.now) block))
-        (flash words.old contents.old) }
+    ensures { ends result (flash words.new contents.new)
+        ≡ settled (room_answer sizes (volume words.old contents.old state.now) block) 0 0 (flash words.old contents.old)
+        (apply_all sizes.width (flash words.old contents.old) (clean_steps sizes (volume words.old contents.old state.now) block)) }
 {
-    let mut from = [0u16; 1024];
-    let copied = choice::find_copied(sizes, words, contents, state, block, &mut from);
-    let mut to = [0u16; 1024];
-    let blank = choice::find_blank(sizes.slots, words, block, &mut to);
-    if blank < copied {
-        return false;
+    let mut copied = Slots::new();
+    choice::find_copied(sizes, words, contents, state, block, &mut copied);
+    let mut blank = Slots::new();
+    choice::find_blank(sizes.slots, words, block, &mut blank);
+    let from = copied.as_slice();
+    let to = blank.as_slice();
+    if to.len() < from.len() {
+        return Err(Refusal::TooFewBlank);
     }
-    steps::copy_slots(sizes, words, contents, &from[..copied], &to[..blank]);
+    steps::copy_slots(sizes, words, contents, from, to);
     steps::blank_block(sizes, words, contents, block);
-    true
+    Ok(())
 }
 
 // Clean one flash block.
@@ -52,17 +56,11 @@ pub fn clean(
     state: &[u32],
     starts: &[u32],
     block: u32,
-) -> u64
-    ensures { returned result (flash words.new contents.new)
+) -> Result<(), Refusal>
+    ensures { ends result (flash words.new contents.new)
         ≡ clean_outcome two_widths sizes (volume words.old contents.old state.now) (named starts.now block) }
 {
-    let first = volume::blocks::judged(sizes, words, contents, state, starts, block);
-    if first != 0 {
-        return outcome::reply(first, 0);
-    }
+    volume::blocks::judged(sizes, words, contents, state, starts, block)?;
     let slots = sizes::blocks::block_at(sizes.slots, starts, block);
-    if !clean_block(sizes, words, contents, state, slots) {
-        return outcome::reply(15, 0);
-    }
-    outcome::reply(0, 0)
+    clean_block(sizes, words, contents, state, slots)
 }

@@ -12,13 +12,14 @@ ghost use Rattle.clean.specs.Copying.{Copying};
 use record::{Record, Slot};
 use sizes::{Block, Layout, Sizes};
 
+// Kept: a match, which says what a blank slot gives; `unwrap_or` would say the same.
 // The record in a slot; the words of a blank one.
 fn record_in(slot: Slot) -> Record
     ensures { result ≡ record_in slot }
 {
     match slot {
-        Slot::Blank => Record::BLANK,
-        Slot::Holds(record) => record,
+        None => Record::BLANK,
+        Some(record) => record,
     }
 }
 
@@ -53,16 +54,20 @@ fn copy_slot(width: u32, words: &mut [u32], contents: &mut [u8], from: u32, to: 
 
 // "the copies in their order": the first slot to the first, and so on.
 pub fn copy_slots(sizes: Sizes, words: &mut [u32], contents: &mut [u8], from: &[u16], to: &[u16])
-    requires copying { Copying sizes.width sizes.slots (flash words.old contents.old) from.now to.now (flash words.old contents.old) 0 }
+    requires copying { Copying sizes.width sizes.slots (flash words.old contents.old) from.now to.now (flash words.old contents.old) from.now to.now }
     requires width_bound { sizes.width ≤ 64 }
     ensures { flash words.new contents.new
         ≡ apply_all sizes.width (flash words.old contents.old)
         (copy_steps sizes.width (flash words.old contents.old) from.now to.now) }
 {
-    let mut i = 0;
-    while i < from.len() {
-        copy_slot(sizes.width, words, contents, from[i] as u32, to[i] as u32);
-        i += 1;
+    for (&source, &target) in from.iter().zip(to) {
+        copy_slot(
+            sizes.width,
+            words,
+            contents,
+            u32::from(source),
+            u32::from(target),
+        );
     }
 }
 
@@ -75,9 +80,7 @@ pub fn blank_block(sizes: Sizes, words: &mut [u32], contents: &mut [u8], block: 
     ensures { flash words.new contents.new
         ≡ apply_all sizes.width (flash words.old contents.old) (erase_steps (list_below sizes.slots (in_block block))) }
 {
-    let mut k = block.first;
-    while k < block.end {
+    for k in block.first..block.end {
         collect::blank_slot(Layout::FiveWords, sizes.width, words, contents, k);
-        k += 1;
     }
 }

@@ -7,6 +7,7 @@ use Rattle.std.proofs.Math.Path.{refl}
 use mathlib.Core.List.{List, [], ◌∷◌}
 use Rattle.std.proofs.Math.ListN.{length}
 use Rattle.std.proofs.Math.Seq.{take-length}
+use Rattle.std.proofs.lemmas.List.{get_or_default}
 use Rattle.bounded.specs.Limits.{Widths}
 use Rattle.bounded.specs.PartsLaws.{part_inside}
 use Rattle.outcome.specs.Outcome.{settled}
@@ -44,6 +45,16 @@ listed_in layout w S f list size below = record {
   words_in = λ i h. let e = size.words_sized in slot_inside layout S (get_or list i 0) f.words (omega arith) (below i h);
   contents_in = λ i h. let e = size.contents_sized in let k = part_inside w S (get_or list i 0) (below i h) in omega arith;
 }
+
+-- ---- a list of any numbers, and the slots that they convert to
+
+pub record Converts {T : Type 0} (gives : T → ℕ → Type 0) (list : List T) (slots : List ℕ) : Type 0 where
+  pub as_many : length slots ≡ length list
+  pub each : (i : ℕ) (entry : T) (slot : ℕ) → i < length list → entry ≡ get_or list i entry → gives entry slot → slot ≡ get_or slots i 0
+
+-- numbers that convert to themselves
+pub converts_same : (list : List ℕ) → Converts (λ entry slot. slot ≡ entry) list list
+converts_same list = record { as_many = refl; each = λ i entry slot h e q. q ∙ e ∙ get_or_default list i entry 0 h }
 
 -- ---- the first i listed slots blanked
 

@@ -1,9 +1,9 @@
 // Garbage collection: erase and suggest. The definitions are in crate rules; what may go is judged in crate judge, and of records without a back pointer in crate permit.
 #![tactic(auto)]
 
-ghost use Rattle.std.specs.Prelude.{◌≡◌, ◌+◌, ◌*◌, ◌≤◌, length, true};
-ghost use Rattle.bounded.specs.Limits.{two_widths};
-ghost use Rattle.outcome.specs.Outcome.{returned};
+ghost use Rattle.std.specs.Prelude.{◌≡◌, ◌+◌, ◌*◌, ◌≤◌, ℕ, List, length, true};
+ghost use Rattle.bounded.specs.Limits.{two_widths, no_number};
+ghost use Rattle.outcome.specs.Result.{answer_of, outcome_by, ends};
 ghost use Rattle.sizes.specs.Lists.{Listed};
 ghost use Rattle.sizes.specs.Sizes.{stride_of};
 ghost use Rattle.record.specs.Slot.{slot_in};
@@ -17,8 +17,9 @@ ghost use Rattle.rules.specs.Erase.{erase_steps};
 ghost use Rattle.rules.specs.laws.Families.{may_erase_all_in, erase_answer_in, erase_outcome_in};
 ghost use Rattle.rules.specs.laws.Chains.{SpansIn};
 ghost use Rattle.rules.specs.Suggest.{suggest_outcome};
-ghost use Rattle.collect.specs.EraseLaws.{ListedIn};
+ghost use Rattle.collect.specs.EraseLaws.{ListedIn, Converts};
 
+use outcome::Refusal;
 use record::Record;
 use sizes::{Layout, Sizes};
 
@@ -32,16 +33,22 @@ pub fn blank_slot(layout: Layout, width: u32, words: &mut [u32], contents: &mut 
     record::flash::fill_slot(layout, width, words, contents, slot, Record::BLANK, 255);
 }
 
-// "Erase a list of slots: all become blank with bytes 255; nothing else changes."
-fn blank_listed(layout: Layout, width: u32, words: &mut [u32], contents: &mut [u8], list: &[u32])
-    requires listed_in { ListedIn layout width words.old contents.old list.now }
+// "Erase a list of slots: all become blank with bytes 255; nothing else changes." The slots are those that the list's entries convert to.
+pub fn blank_listed<T: Copy + Into<u32>>(
+    layout: Layout,
+    width: u32,
+    words: &mut [u32],
+    contents: &mut [u8],
+    list: &[T],
+)
+    requires listed_in { (slots : List ℕ) × Converts T.converts list.now slots × ListedIn layout width words.old contents.old slots }
     requires width_bound { width ≤ 64 }
-    ensures { flash words.new contents.new ≡ apply_all_in layout width (flash words.old contents.old) (erase_steps list.now) }
+    ensures { (slots : List ℕ)
+        → Converts T.converts list.now slots
+        → flash words.new contents.new ≡ apply_all_in layout width (flash words.old contents.old) (erase_steps slots) }
 {
-    let mut done = 0;
-    while done < list.len() {
-        blank_slot(layout, width, words, contents, list[done]);
-        done += 1;
+    for &slot in list {
+        blank_slot(layout, width, words, contents, slot.into());
     }
 }
 
@@ -66,29 +73,26 @@ fn may_erase_all(
     }
 }
 
-// The number back of an erase: the first refusal that holds, or 0.
-fn erase_answer(
+// An erase is refused by the first condition that holds.
+fn may_erase(
     layout: Layout,
     sizes: Sizes,
     words: &[u32],
     contents: &[u8],
     state: &[u32],
     list: &[u32],
-) -> u32
-    ensures { result ≡ erase_answer_in layout two_widths sizes (volume words.now contents.now state.now) list.now }
+) -> Result<(), Refusal>
+    ensures { answer_of result ≡ erase_answer_in layout two_widths sizes (volume words.now contents.now state.now) list.now }
 {
     let fits = volume::volume_fits(layout, sizes, words, contents, state);
-    let first = volume::judged(layout, fits, sizes, words, state);
-    if first != 0 {
-        return first;
-    }
+    volume::judged(layout, fits, sizes, words, state)?;
     if !sizes::list_ok(sizes.slots, list) {
-        return 6;
+        return Err(Refusal::WrongList);
     }
     if !may_erase_all(layout, sizes, words, contents, state, list) {
-        return 12;
+        return Err(Refusal::MayNotErase);
     }
-    0
+    Ok(())
 }
 
 // Erase a list of slots.
@@ -99,30 +103,24 @@ pub fn erase(
     contents: &mut [u8],
     state: &[u32],
     list: &[u32],
-) -> u64
-    ensures { returned result (flash words.new contents.new)
+) -> Result<(), Refusal>
+    ensures { ends result (flash words.new contents.new)
         ≡ erase_outcome_in layout two_widths sizes (volume words.old contents.old state.now) list.now }
 {
-    let answer = erase_answer(layout, sizes, words, contents, state, list);
-    if answer != 0 {
-        return outcome::reply(answer, 0);
-    }
+    may_erase(layout, sizes, words, contents, state, list)?;
     blank_listed(layout, sizes.width, words, contents, list);
-    outcome::reply(0, 0)
+    Ok(())
 }
 
 // Suggest the lowest slot that may be erased.
-pub fn suggest(sizes: Sizes, words: &[u32], contents: &[u8], state: &[u32]) -> u64
-    ensures { returned result tt ≡ suggest_outcome two_widths sizes (volume words.now contents.now state.now) }
+pub fn suggest(sizes: Sizes, words: &[u32], contents: &[u8], state: &[u32]) -> Result<u32, Refusal>
+    ensures { outcome_by no_number result tt ≡ suggest_outcome two_widths sizes (volume words.now contents.now state.now) }
 {
     let fits = volume::volume_fits(Layout::FiveWords, sizes, words, contents, state);
-    let first = volume::judged(Layout::FiveWords, fits, sizes, words, state);
-    if first != 0 {
-        return outcome::reply(first, sizes::NO_NUMBER);
-    }
+    volume::judged(Layout::FiveWords, fits, sizes, words, state)?;
     let slot = judge::first_erasable(sizes, words, contents, state);
     if slot >= sizes.slots {
-        return outcome::reply(13, sizes::NO_NUMBER);
+        return Err(Refusal::NothingToErase);
     }
-    outcome::reply(0, slot)
+    Ok(slot)
 }

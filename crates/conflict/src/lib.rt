@@ -13,7 +13,6 @@ ghost use Rattle.chain.specs.declared.Key.TheVariants.{Version};
 ghost use Rattle.chain.specs.Chain.{Chained};
 
 use chain::Key;
-use record::Slot;
 use sizes::{Layout, Sizes};
 
 // "two records with equal page and version": two slots of the table hold such.
@@ -23,13 +22,11 @@ pub fn some_clash(layout: Layout, slots: u32, words: &[u32], chains: &mut [u16; 
     ensures { result ≡ some_clash slots (slot_in layout words.now) }
 {
     *chains = [0; 2048];
-    let mut k = 0;
-    while k < slots {
-        if chain::version::find_clash(layout, words, chains, k) > 0 {
+    for k in 0..slots {
+        if chain::version::find_clash(layout, words, chains, k).is_some() {
             return true;
         }
         chain::link_slot(layout, Key::Version, words, k, chains);
-        k += 1;
     }
     false
 }
@@ -43,11 +40,10 @@ fn conflicts_below(width: u32, words: &[u32], contents: &[u8], chains: &[u16; 20
     requires chained { Chained Version k (slot_at words.now) chains.now }
     ensures { result ≡ some_below k (λ j. clash (slot_at words.now j) (slot_at words.now k) && not (twins width (flash words.now contents.now) j k)) }
 {
-    let end = chain::version::find_clash(Layout::FiveWords, words, chains, k);
-    if end < 1 {
+    let Some(other) = chain::version::find_clash(Layout::FiveWords, words, chains, k) else {
         return false;
-    }
-    !twins::are_twins(width, words, contents, end - 1, k)
+    };
+    !twins::are_twins(width, words, contents, other, k)
 }
 
 // "for equal page and version recovery gives 3 only if the two are no twins": two slots of the table are so.
@@ -58,17 +54,13 @@ pub fn some_conflict(sizes: Sizes, words: &[u32], contents: &[u8], chains: &mut 
     ensures { result ≡ some_conflict sizes.slots (slot_at words.now) (twins sizes.width (flash words.now contents.now)) }
 {
     *chains = [0; 2048];
-    let mut k = 0;
-    while k < sizes.slots {
-        let Slot::Holds(_) = record::slot_at(words, k) else {
-            k += 1;
-            continue;
-        };
-        if conflicts_below(sizes.width, words, contents, chains, k) {
-            return true;
+    for k in 0..sizes.slots {
+        if let Some(_) = record::slot_at(words, k) {
+            if conflicts_below(sizes.width, words, contents, chains, k) {
+                return true;
+            }
+            chain::link_slot(Layout::FiveWords, Key::Version, words, k, chains);
         }
-        chain::link_slot(Layout::FiveWords, Key::Version, words, k, chains);
-        k += 1;
     }
     false
 }

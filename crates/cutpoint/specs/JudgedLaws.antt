@@ -1,18 +1,21 @@
--- Laws of judged cuts: a reply taken apart, the slots blanked that are still to come, and the cuts that are still to be counted.
-use Rattle.std.specs.Prelude.{ℕ, suc, ◌+◌, ◌-◌, ◌^◌, ◌%◌, ◌≤◌, ◌<◌, ◌≡◌, List, [], ◌∷◌, map, Bool, true, false, ◌&&◌, eqb, length, get_or, take, drop, replicate}
+-- Laws of judged cuts: what recovery gives on a lost state, the slots blanked that are still to come, and the cuts that are still to be counted.
+use Rattle.std.specs.Prelude.{ℕ, suc, ◌+◌, ◌-◌, ◌≤◌, ◌<◌, ◌≡◌, List, [], ◌∷◌, map, Bool, true, false, length, get_or, take, drop, replicate, Result, Ok, Err, is_ok}
 use Rattle.std.proofs.Math.Nat.{add-zero}
 use Rattle.std.proofs.Common.{add-suc, suc-add, arith, sym, ap, ◌∙◌, drop_of_length-le, take_at}
 use Rattle.std.proofs.Math.Numerals.{add-one}
 use Rattle.std.proofs.Math.Path.{refl}
 use Rattle.std.proofs.lemmas.List.{length-replicate}
 use Rattle.std.proofs.Math.Seq.{drop-cons}
-use borrow.Author.Tests.{eq-eqb, ne_eqb, le-leb, lt-leb}
+use borrow.Author.Tests.{ne_eqb, le-leb, lt-leb}
 use borrow.Rule.Slice.PartMut.{put_mid, same_len_mid}
 use Rattle.bounded.specs.Limits.{Widths}
 use Rattle.bounded.specs.Below.{all_below}
+use Rattle.bounded.specs.Choice.{never}
 use Rattle.bounded.specs.Fronts.{equal_lent}
-use Rattle.outcome.specs.Outcome.{Outcome, returned}
+use Rattle.outcome.specs.declared.Refusal.{Refusal}
+use Rattle.outcome.specs.Outcome.{Outcome}
 use Rattle.outcome.specs.OutcomeLaws.{held, settled_answer}
+use Rattle.outcome.specs.Result.{number_of, number_positive, outcome_by}
 use Rattle.sizes.specs.declared.Sizes.{Sizes}
 use Rattle.record.specs.Flash.{Flash, Step, apply, apply_all, apply_all_in}
 use Rattle.rules.specs.Volume.{Volume, volume_fits}
@@ -25,17 +28,6 @@ use Rattle.atomicity.specs.Run.{done_of}
 use Rattle.everywhere.specs.Cuts.{up_to, are_reads_kept, comes_back, sames, differs}
 use Rattle.cutpoint.specs.declared.Tally.{Tally}
 use Rattle.cutpoint.specs.Judged.{tallied, erase_cuts}
-
--- ---- a reply that says an outcome: answer 0, and a test of what is left
-
-module _ {B : Type 0} (r : ℕ) (left : B) (o : Outcome B) (says : returned r left ≡ o) (test : B → Bool) where
-  refused_fails : ¬ (r % 2 ^ 32 ≡ 0) → false ≡ eqb o.answer 0 && test o.left
-  refused_fails n = let a = ap (λ (x : Outcome B). x.answer) says in rw (ne_eqb o.answer 0 (λ z. n (a ∙ z)))
-
-  done_tests : {b : Bool} → r % 2 ^ 32 ≡ 0 → b ≡ test left → b ≡ eqb o.answer 0 && test o.left
-  done_tests z e =
-      let a = ap (λ (x : Outcome B). x.answer) says in
-      rw (eq-eqb o.answer 0 (sym a ∙ z)) (e ∙ ap (λ (x : Outcome B). test x.left) says)
 
 -- ---- bytes put into the front of a buffer of n zeros, w of them, and lent again
 
@@ -65,28 +57,27 @@ unfolding lost
 lost_same s t e = rw e
 
 -- where it is recovered, the volume has a page
-pub recovery_paged : (widths : Widths) (sizes : Sizes) (v : Volume) (r : ℕ) (left : List ℕ) → returned r left ≡ recover_outcome widths sizes v → r % 2 ^ 32 ≡ 0 → 1 ≤ sizes.pages
+pub recovery_paged : (widths : Widths) (sizes : Sizes) (v : Volume) (r : Result ℕ Refusal) (left : List ℕ) → outcome_by 0 r left ≡ recover_outcome widths sizes v → is_ok r ≡ true → 1 ≤ sizes.pages
 unfolding recover_outcome recover_answer
-recovery_paged widths sizes v r left says z =
-    let e = sym (settled_answer (recover_answer widths sizes v) _ _ _ _) ∙ ap (λ (o : Outcome (List ℕ)). o.answer) (sym says) ∙ z in
-    (fits_facts widths sizes v (held (volume_fits widths sizes v) _ _ e).0).bounds.one_page
+recovery_paged widths sizes v (Ok links) left says e =
+    let z = sym (settled_answer (recover_answer widths sizes v) _ _ _ _) ∙ ap (λ (o : Outcome (List ℕ)). o.answer) (sym says) in
+    (fits_facts widths sizes v (held (volume_fits widths sizes v) _ _ z).0).bounds.one_page
+recovery_paged widths sizes v (Err refusal) left says e = absurd (never e refl)
 
--- the reply says what recovery on the wiped state says
-module _ (widths : Widths) (sizes : Sizes) (f : Flash) (kept : ℕ → List ℕ) (wiped state : List ℕ) (is_wiped : state ≡ wiped) (r : ℕ) (left : List ℕ)
-    (says : returned r left ≡ recover_outcome widths sizes (record { flash = f; state = state })) where
-  says_recovered : returned r left ≡ recover_outcome widths sizes (record { flash = f; state = wiped })
-  says_recovered = rw is_wiped at says
-
-  abbrev all_kept : List ℕ → Bool
-  all_kept s = all_below sizes.pages (are_reads_kept back_pointer widths sizes (record { flash = f; state = s }) kept)
-
-  pub recovery_refused : ¬ (r % 2 ^ 32 ≡ 0) → false ≡ comes_back back_pointer widths sizes (record { flash = f; state = wiped }) kept
+-- what recovery gives says what recovery on the wiped state says
+module _ (widths : Widths) (sizes : Sizes) (f : Flash) (kept : ℕ → List ℕ) (wiped state : List ℕ) (is_wiped : state ≡ wiped) (left : List ℕ) where
+  pub recovery_refused : (r : Result ℕ Refusal) → outcome_by 0 r left ≡ recover_outcome widths sizes (record { flash = f; state = state }) → is_ok r ≡ false → false ≡ comes_back back_pointer widths sizes (record { flash = f; state = wiped }) kept
   unfolding comes_back
-  recovery_refused d = refused_fails r left _ says_recovered all_kept d
+  recovery_refused (Ok links) says e = absurd (never refl e)
+  recovery_refused (Err refusal) says e = rw (← is_wiped, ← says, ne_eqb (number_of refusal) 0 (number_positive refusal))
 
-  pub recovery_done : {b : Bool} → r % 2 ^ 32 ≡ 0 → b ≡ all_kept left → b ≡ comes_back back_pointer widths sizes (record { flash = f; state = wiped }) kept
+  pub recovery_done :
+      (r : Result ℕ Refusal) → outcome_by 0 r left ≡ recover_outcome widths sizes (record { flash = f; state = state }) → is_ok r ≡ true
+      → {b : Bool} → b ≡ all_below sizes.pages (are_reads_kept back_pointer widths sizes (record { flash = f; state = left }) kept)
+      → b ≡ comes_back back_pointer widths sizes (record { flash = f; state = wiped }) kept
   unfolding comes_back
-  recovery_done z e = done_tests r left _ says_recovered all_kept z e
+  recovery_done (Ok links) says e k = rw (← is_wiped, ← says) k
+  recovery_done (Err refusal) says e k = absurd (never e refl)
 
 -- ---- a loop that blanks the listed slots up to one
 

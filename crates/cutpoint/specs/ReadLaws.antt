@@ -1,15 +1,21 @@
 -- Laws of pages read: what a volume that is judged once gives for all of them, and a page by its committed slot and the bytes there.
-use Rattle.std.specs.Prelude.{ℕ, zero, suc, ◌+◌, ◌*◌, ◌-◌, ◌≤◌, ◌<◌, ◌≡◌, Bool, true, false, not, ◌&&◌, ltb, eqb, length, get_or, take, drop, replicate}
+use Rattle.std.specs.Prelude.{ℕ, zero, suc, ◌+◌, ◌*◌, ◌-◌, ◌≤◌, ◌<◌, ◌≡◌, Bool, true, false, not, ◌&&◌, ltb, eqb, length, get_or, take, drop, replicate, Result, Ok, Err, is_err}
 use Rattle.std.proofs.Math.Nat.{add-sub_cancel_left}
-use Rattle.std.proofs.Common.{arith, sym, ◌∙◌}
+use Rattle.std.specs.List.{list_all}
+use Rattle.std.proofs.Common.{arith, sym, ◌∙◌, add-one}
 use Rattle.std.proofs.Math.Path.{refl}
 use mathlib.Core.List.{List}
-use Rattle.std.proofs.lemmas.List.{length-replicate}
+use Rattle.std.proofs.Math.Seq.{take-length}
+use Rattle.std.proofs.lemmas.List.{length-replicate, get_or-replicate}
+use Rattle.std.proofs.lemmas.List.Folds.{list_all_more}
 use borrow.Author.Tests.{lt-ltb, le-ltb, eq-eqb, ne_eqb}
 use Rattle.bounded.specs.Limits.{Widths}
-use Rattle.bounded.specs.Choice.{and_true}
+use Rattle.bounded.specs.Below.{all_below}
+use Rattle.bounded.specs.Choice.{never, and_true}
 use Rattle.bounded.specs.Parts.{part}
 use Rattle.bounded.specs.PartsLaws.{part_inside}
+use Rattle.outcome.specs.declared.Refusal.{Refusal}
+use Rattle.outcome.specs.Result.{number_positive, answer_of}
 use Rattle.outcome.specs.Outcome.{◌⇒◌otherwise◌, settled}
 use Rattle.sizes.specs.declared.Layout.TheVariants.{FiveWords}
 use Rattle.sizes.specs.declared.Sizes.{Sizes}
@@ -25,6 +31,30 @@ use Rattle.rules.proofs.laws.Chains.{judged_passed, judged_refuses, judged_passe
 use Rattle.atomicity.specs.Family.{back_pointer}
 use Rattle.everywhere.specs.Cuts.{are_reads_kept}
 use Rattle.ledger.specs.Ledger.{filled}
+
+-- ---- bytes that are all one fill
+
+-- the first i of them are so exactly where they are those of as many fills
+all_front : (fill : ℕ) (bytes : List ℕ) (i : ℕ) → i ≤ length bytes → list_all (λ b. eqb b fill) (take i bytes) ≡ has_same_bytes i bytes (replicate (length bytes) fill)
+unfolding has_same_bytes all_below
+all_front fill bytes zero h = refl
+all_front fill bytes (suc i) h =
+    let inside : i < length bytes = omega arith in
+    rw (← add-one i, list_all_more (λ (b : ℕ). eqb b fill) bytes i 0 inside, all_front fill bytes i (omega arith), get_or-replicate (length bytes) i fill 0 inside)
+
+all_same : (fill : ℕ) (bytes : List ℕ) → list_all (λ b. eqb b fill) bytes ≡ has_same_bytes (length bytes) bytes (replicate (length bytes) fill)
+all_same fill bytes = rw take-length at (all_front fill bytes (length bytes) (omega arith))
+
+-- ---- volumes and pages
+
+-- a result that refuses says another answer than 0, and one that does not says 0
+pub refuses : {A : Type 0} (r : Result A Refusal) → is_err r ≡ true → ¬ (answer_of r ≡ 0)
+refuses (Ok x) e = absurd (never e refl)
+refuses (Err refusal) e = number_positive refusal
+
+pub passes : {A : Type 0} (r : Result A Refusal) → is_err r ≡ false → answer_of r ≡ 0
+passes (Ok x) e = refl
+passes (Err refusal) e = absurd (never refl e)
 
 -- an outcome passes a test behind answer 0 where its answer is 0 and what it then leaves passes
 settled_tests : {B : Type 0} (a second : ℕ) (before after : B) (test : B → Bool) → let o = settled a 0 second before after in (eqb o.answer 0 && test o.left) ≡ (eqb a 0 && test after)
@@ -107,8 +137,8 @@ module _ (widths : Widths) (sizes : Sizes) (v : Volume) where
       abbrev bytes : List ℕ
       bytes = take (sizes.width * k + sizes.width - sizes.width * k) (drop (sizes.width * k) v.flash.contents)
 
-      pub slot_read : k < sizes.slots → {b : Bool} → b ≡ has_same_bytes (length bytes) bytes (replicate (length bytes) (get_or fills page 0)) → b ≡ is_kept
+      pub slot_read : k < sizes.slots → {b : Bool} → b ≡ list_all (λ x. eqb x (get_or fills page 0)) bytes → b ≡ is_kept
       unfolding bytes_at part filled
       slot_read h e =
           let l = bytes_whole sizes.width sizes.slots v.flash (sized passed) k h in
-          rw (kept_by_slot, lt-ltb k sizes.slots h) (rw (add-sub_cancel_left, l) at e)
+          rw (kept_by_slot, lt-ltb k sizes.slots h) (rw (add-sub_cancel_left, l) at (e ∙ all_same (get_or fills page 0) bytes))

@@ -9,6 +9,6 @@ pub fn copy_flash(from_words: &[u32], from_contents: &[u8], words: &mut [u32], c
     requires contents_len { length contents.old ≡ length from_contents.now }
     ensures { flash words.new contents.new ≡ flash from_words.now from_contents.now }
 {
-    record::copy::copy_words(from_words, words);
-    record::flash::copy_contents(contents, from_contents);
+    words.copy_from_slice(from_words);
+    contents.copy_from_slice(from_contents);
 }

@@ -22,12 +22,10 @@ pub fn blank_up_to(width: u32, words: &mut [u32], contents: &mut [u8], list: &[u
     requires width_bound { width ≤ 64 }
     ensures { flash words.new contents.new ≡ apply_all width (flash words.old contents.old) (done_of (up_to list.now last) 0 (erase_steps list.now)) }
 {
-    let mut i = 0;
-    while i < list.len() {
-        if list[i] <= last {
-            collect::blank_slot(Layout::FiveWords, width, words, contents, list[i]);
+    for &slot in list {
+        if slot <= last {
+            collect::blank_slot(Layout::FiveWords, width, words, contents, slot);
         }
-        i += 1;
     }
 }
 
@@ -52,12 +50,10 @@ pub fn cut_each_slot(
     ensures { result ≡ tallied tally (erase_cuts two_widths sizes (flash from_words.now from_contents.now) (lost state.old) (filled sizes.width fills.now) list.now) }
 {
     let mut so_far = tally;
-    let mut i = 0;
-    while i < list.len() {
+    for &slot in list {
         copy_flash(from_words, from_contents, words, contents);
-        blank_up_to(sizes.width, words, contents, list, list[i]);
+        blank_up_to(sizes.width, words, contents, list, slot);
         so_far = so_far.count(super::comes_back(sizes, words, contents, state, fills));
-        i += 1;
     }
     so_far
 }

@@ -18,7 +18,7 @@ ghost use Rattle.cutpoint.specs.Judged.{tallied};
 use sizes::Sizes;
 
 // How many cuts came back the same, and how many did not.
-#[derive(Clone, Copy)]
+#[derive(Clone, Copy, Default)]
 pub struct Tally {
     pub same: u32,
     pub differ: u32,
@@ -31,14 +31,15 @@ impl Tally {
         ensures { result ≡ tallied self (same ∷ []) }
     {
         if same {
-            return Tally {
+            Tally {
                 same: self.same + 1,
-                differ: self.differ,
-            };
-        }
-        Tally {
-            same: self.same,
-            differ: self.differ + 1,
+                ..self
+            }
+        } else {
+            Tally {
+                differ: self.differ + 1,
+                ..self
+            }
         }
     }
 }
@@ -56,9 +57,6 @@ pub fn comes_back(
     ensures { result ≡ comes_back back_pointer two_widths sizes (volume words.now contents.now (lost state.old)) (filled sizes.width fills.now) }
 {
     dispatch::lose(state);
-    let r = recovery::recover(sizes, words, contents, state);
-    if outcome::answer_of(r) != 0 {
-        return false;
-    }
-    page::all_kept(sizes, words, contents, state, fills)
+    recovery::recover(sizes, words, contents, state).is_ok()
+        && page::all_kept(sizes, words, contents, state, fills)
 }

@@ -1,9 +1,9 @@
 // Every page read and held against what is kept of it, the volume judged once for all of them.
 
-ghost use Rattle.std.specs.Prelude.{◌≡◌, ◌≤◌, ◌<◌, length, replicate};
+ghost use Rattle.std.specs.Prelude.{◌≡◌, ◌==◌, ◌≤◌, ◌<◌, length};
+ghost use Rattle.std.specs.List.{list_all};
 ghost use Rattle.bounded.specs.Limits.{two_widths};
 ghost use Rattle.bounded.specs.Below.{all_below};
-ghost use Rattle.twins.specs.Twins.{has_same_bytes};
 ghost use Rattle.rules.specs.Volume.{volume, volume_fits};
 ghost use Rattle.rules.specs.laws.Chains.{judged};
 ghost use Rattle.atomicity.specs.Family.{back_pointer};
@@ -14,16 +14,9 @@ use sizes::{Layout, Sizes};
 
 // Every byte is the fill.
 fn all_are(bytes: &[u8], fill: u32) -> bool
-    ensures { result ≡ has_same_bytes (length bytes.now) bytes.now (replicate (length bytes.now) fill) }
+    ensures { result ≡ list_all (λ b. b == fill) bytes.now }
 {
-    let mut i = 0;
-    while i < bytes.len() {
-        if (bytes[i] as u32) != fill {
-            return false;
-        }
-        i += 1;
-    }
-    true
+    bytes.iter().all(|&byte| byte as u32 == fill)
 }
 
 // Of a volume that is judged and passes: read of the page answers 0 and copies bytes that are all its fill. They are compared where they lie.
@@ -56,15 +49,13 @@ pub fn all_kept(sizes: Sizes, words: &[u32], contents: &[u8], state: &[u32], fil
     ensures { result ≡ all_below sizes.pages (are_reads_kept back_pointer two_widths sizes (volume words.now contents.now state.now) (filled sizes.width fills.now)) }
 {
     let fits = volume::volume_fits(Layout::FiveWords, sizes, words, contents, state);
-    if volume::judged(Layout::FiveWords, fits, sizes, words, state) != 0 {
+    if volume::judged(Layout::FiveWords, fits, sizes, words, state).is_err() {
         return false;
     }
-    let mut page: u32 = 0;
-    while page < sizes.pages {
+    for page in 0..sizes.pages {
         if !is_kept(sizes, words, contents, state, fills, page) {
             return false;
         }
-        page += 1;
     }
     true
 }

@@ -1,11 +1,13 @@
 -- The program's buffers, formatted: their fronts hold the volume that a script begins with.
-use Rattle.std.specs.Prelude.{ℕ, ◌*◌, ◌-◌, ◌≤◌, ◌≡◌, List, true, length, replicate, take, drop}
+use Rattle.std.specs.Prelude.{ℕ, ◌*◌, ◌-◌, ◌≤◌, ◌≡◌, refl, List, true, length, replicate, take, drop, Result, Ok, Err}
 use Rattle.std.proofs.Common.{arith, sym, ◌∙◌, subst}
 use Rattle.std.proofs.Math.Path.{ap}
 use borrow.Rule.Slice.PartMut.{put_mid}
 use Rattle.bounded.specs.Limits.{no_number, two_widths}
 use Rattle.bounded.specs.Fronts.{equal_lent}
-use Rattle.outcome.specs.Outcome.{Outcome, returned}
+use Rattle.outcome.specs.declared.Refusal.{Refusal}
+use Rattle.outcome.specs.Outcome.{Outcome}
+use Rattle.outcome.specs.Result.{ends}
 use Rattle.sizes.specs.declared.Sizes.{Sizes}
 use Rattle.sizes.specs.Sizes.{sizes_ok}
 use Rattle.sizes.proofs.SizesLaws.{sizes_facts}
@@ -17,6 +19,11 @@ use Rattle.recorded.specs.Desk.{Desk, desk, Ready}
 use Rattle.cuts.specs.Recording.{zeroed}
 use Rattle.cuts.specs.Run.{formatted_desk}
 use Rattle.cuts.specs.Reported.{zeroed_formats, fresh_follows}
+
+-- what a call leaves is what its outcome says
+ends_left : (r : Result (Unit {0}) Refusal) (v : Volume) → (ends r v).left ≡ v
+ends_left (Ok x) v = refl
+ends_left (Err refusal) v = refl
 
 module _ (z : Sizes) (ok : sizes_ok two_widths z ≡ true) where
   -- the buffers have room for the volume
@@ -38,8 +45,8 @@ module _ (z : Sizes) (ok : sizes_ok two_widths z ≡ true) where
       let s = equal_lent (4 * z.pages) 1024 0 state_room in
       rw (w, b, s)
 
-  module _ (r : ℕ) (words contents state : List ℕ)
-      (says : returned r (volume words contents state) ≡ format_outcome two_widths z (volume (lent (5 * z.slots) 5120) (lent (z.width * z.slots) 65536) (lent (4 * z.pages) 1024)))
+  module _ (r : Result (Unit {0}) Refusal) (words contents state : List ℕ)
+      (says : ends r (volume words contents state) ≡ format_outcome two_widths z (volume (lent (5 * z.slots) 5120) (lent (z.width * z.slots) 65536) (lent (4 * z.pages) 1024)))
       (words_kept : length words ≡ length (lent (5 * z.slots) 5120)) (contents_kept : length contents ≡ length (lent (z.width * z.slots) 65536)) (state_kept : length state ≡ length (lent (4 * z.pages) 1024)) where
     -- lent again, they are what the run begins with
     pub begins :
@@ -55,7 +62,7 @@ module _ (z : Sizes) (ok : sizes_ok two_widths z ≡ true) where
         let w = front_again (5 * z.slots) 5120 words_room words words_kept in
         let b = front_again (z.width * z.slots) 65536 bytes_room contents contents_kept in
         let s = front_again (4 * z.pages) 1024 state_room state state_kept in
-        let v : volume words contents state ≡ formatted z = ap (λ (o : Outcome Volume). o.left) (says ∙ ap (format_outcome two_widths z) fronts ∙ zeroed_formats two_widths z ok) in
+        let v : volume words contents state ≡ formatted z = sym (ends_left r (volume words contents state)) ∙ ap (λ (o : Outcome Volume). o.left) (says ∙ ap (format_outcome two_widths z) fronts ∙ zeroed_formats two_widths z ok) in
         rw (w, b, s) (ap (λ (u : Volume). desk u (replicate 256 no_number) (replicate 256 0)) v)
 
   pub begun_ready : (d : Desk) → d ≡ formatted_desk z → Ready two_widths z d

@@ -1,29 +1,22 @@
 -- What a script comes to, as the program has it.
 use Rattle.std.specs.Prelude.{ℕ, ◌+◌, ◌≤◌, List, map, Bool, cond}
-use Rattle.std.proofs.Math.Option.{Option, none, some}
+use Rattle.std.specs.Prelude.{Option, None, Some}
 use Rattle.bounded.specs.Limits.{Widths}
 use Rattle.sizes.specs.declared.Sizes.{Sizes}
 use Rattle.text.specs.Lines.{lines_of}
 use Rattle.line.specs.Line.{Said, max_entries, line_means}
 use Rattle.cutpoint.specs.declared.Tally.{Tally}
 use Rattle.recorded.specs.Desk.{Desk, desk_after, desk_cuts}
-use Rattle.cuts.specs.declared.run.Ran.{Ran}
-use Rattle.cuts.specs.declared.run.Ran.TheVariants as rans
 use Rattle.cuts.specs.Run.{is_step}
-
--- the tally, or none where the script is refused
-unfoldable pub ran_as : Ran → Option Tally
-ran_as rans.Refused = none
-ran_as (rans.Counted tally) = some tally
 
 -- nothing counted
 abbrev pub none_yet : Tally
 none_yet = record { same = 0; differ = 0 }
 
 -- at most n cuts are counted
-unfoldable pub AtMost : ℕ → Ran → Type 0
-AtMost n rans.Refused = Unit {0}
-AtMost n (rans.Counted tally) = tally.same + tally.differ ≤ n
+unfoldable pub AtMost : ℕ → Option Tally → Type 0
+AtMost n None = Unit {0}
+AtMost n (Some tally) = tally.same + tally.differ ≤ n
 
 -- 256 lines with 64 cuts each
 abbrev pub most_cuts : ℕ
@@ -39,4 +32,4 @@ module _ (widths : Widths) (sizes : Sizes) (trial : Bool) where
   turn_desk d says = cond (is_step says) (desk_after widths sizes trial d says) d
 
   unfoldable pub turn_cuts : Desk → Said → Option (List Bool)
-  turn_cuts d says = cond (is_step says) (some (desk_cuts widths sizes trial d says)) none
+  turn_cuts d says = cond (is_step says) (Some (desk_cuts widths sizes trial d says)) None

@@ -1,7 +1,6 @@
 -- What the program prints for a script: document 02, wish 12, "Cut it everywhere". A script is its bytes; its lines are those of the script program, and each says what it says there.
 use Rattle.std.specs.Prelude.{ℕ, suc, ◌*◌, List, [], ◌∷◌, ◌++◌, map, Bool, cond, ◌&&◌, leb, eqb, length, replicate}
-use Rattle.std.proofs.Math.Option
-use Rattle.std.proofs.Math.Option.{Option, none, some}
+use Rattle.std.specs.Prelude.{Option, None, Some, option_map}
 use Rattle.bounded.specs.Limits.{Widths}
 use Rattle.sizes.specs.declared.Sizes.{Sizes}
 use Rattle.text.specs.Scan.{bytes}
@@ -17,23 +16,23 @@ use Rattle.everywhere.specs.Cuts.{Recorded, cuts_of, sames, differs, erasing}
 
 -- a line behind the format line: a call, a cut between two calls, or nothing; none where it is "A malformed line" or "a second format line"
 unfoldable pub step_by : Sizes → Said → Option (List Recorded)
-step_by sizes (Said.Format own) = none
-step_by sizes (Said.Launch pages) = some (Recorded.Makes (Call.Launch pages) ∷ [])
-step_by sizes (Said.Write page slot fill) = some (Recorded.Makes (Call.Write page slot (replicate sizes.width fill)) ∷ [])
-step_by sizes (Said.Withdraw page) = some (Recorded.Makes (Call.Withdraw page) ∷ [])
-step_by sizes (Said.Erase slots) = some (Recorded.Makes (Call.Erase slots) ∷ [])
-step_by sizes Said.Recover = some (Recorded.Makes Call.Recover ∷ [])
-step_by sizes Said.Cut = some (Recorded.Cut ∷ [])
-step_by sizes Said.Listing = some []
-step_by sizes Said.Malformed = none
+step_by sizes (Said.Format own) = None
+step_by sizes (Said.Launch pages) = Some (Recorded.Makes (Call.Launch pages) ∷ [])
+step_by sizes (Said.Write page slot fill) = Some (Recorded.Makes (Call.Write page slot (replicate sizes.width fill)) ∷ [])
+step_by sizes (Said.Withdraw page) = Some (Recorded.Makes (Call.Withdraw page) ∷ [])
+step_by sizes (Said.Erase slots) = Some (Recorded.Makes (Call.Erase slots) ∷ [])
+step_by sizes Said.Recover = Some (Recorded.Makes Call.Recover ∷ [])
+step_by sizes Said.Cut = Some (Recorded.Cut ∷ [])
+step_by sizes Said.Listing = Some []
+step_by sizes Said.Malformed = None
 
 -- both, one behind the other, where there are both
 unfoldable pub joined : Option (List Recorded) → Option (List Recorded) → Option (List Recorded)
-joined none steps = none
-joined (some step) steps = Option.map (λ (l : List Recorded). step ++ l) steps
+joined None steps = None
+joined (Some step) steps = option_map (λ (l : List Recorded). step ++ l) steps
 
 unfoldable pub steps_by : Sizes → List Said → Option (List Recorded)
-steps_by sizes [] = some []
+steps_by sizes [] = Some []
 steps_by sizes (line ∷ lines) = joined (step_by sizes line) (steps_by sizes lines)
 
 -- "a recorded script, up to 256 lines, starting with its one format line"
@@ -50,11 +49,11 @@ zeroed z = volume (replicate (5 * z.slots) 0) (replicate (z.width * z.slots) 0) 
 
 -- The script of these lines; none where "A malformed line, a missing or refused first format line, a second format line or a 257th line ends the run".
 unfoldable pub script_of : Widths → List Said → Option Script
-script_of widths [] = none
+script_of widths [] = None
 script_of widths (first ∷ rest) =
     on_format first
-    (λ z. cond (eqb (format_outcome widths z (zeroed z)).answer 0 && leb (suc (length rest)) 256) (Option.map (script z) (steps_by z rest)) none)
-    none
+    (λ z. cond (eqb (format_outcome widths z (zeroed z)).answer 0 && leb (suc (length rest)) 256) (option_map (script z) (steps_by z rest)) None)
+    None
 
 -- what a text records
 unfoldable pub recording : Widths → (text : List ℕ) → Option Script
@@ -72,8 +71,8 @@ cuts_text cuts = counts_text (length cuts) (sames cuts) (differs cuts)
 
 -- "and only answer=line is printed"
 unfoldable pub report_of : Widths → (trial : Bool) → Option Script → List ℕ
-report_of widths trial none = bytes "answer=line\n"
-report_of widths trial (some s) = cuts_text (cuts_of (erasing trial) widths s.sizes (zeroed s.sizes) s.steps)
+report_of widths trial None = bytes "answer=line\n"
+report_of widths trial (Some s) = cuts_text (cuts_of (erasing trial) widths s.sizes (zeroed s.sizes) s.steps)
 
 -- What the program prints for a text, with our own erase or the trial one.
 unfoldable pub report_text : Widths → (trial : Bool) → List ℕ → List ℕ

@@ -3,7 +3,8 @@ use Rattle.std.specs.Prelude.{ℕ, zero, suc, ◌+◌, ◌-◌, ◌<◌, min, re
 use native.Mathlib.Omega.{arith}
 use Rattle.std.proofs.Math.Path.{◌≡◌, sym, ap}
 use Rattle.std.proofs.Common.{◌∙◌}
-use Rattle.std.proofs.Math.Option.{Option, none, some, map, some-injective}
+use Rattle.std.specs.Prelude.{Option, None, Some, option_map}
+use Rattle.std.proofs.lemmas.Option.{same_Some}
 use mathlib.Core.List.{List, [], ◌∷◌}
 use Rattle.bounded.specs.Limits.{two_widths}
 use Rattle.sizes.specs.declared.Sizes.{Sizes}
@@ -16,13 +17,11 @@ use Rattle.everywhere.specs.Cuts.{sames, differs}
 use Rattle.everywhere.proofs.Laws.{same_or_not}
 use Rattle.cutpoint.specs.declared.Tally.{Tally}
 use Rattle.cutpoint.specs.Judged.{tallied}
-use Rattle.cuts.specs.declared.run.Ran.{Ran}
-use Rattle.cuts.specs.declared.run.Ran.TheVariants as rans
 use Rattle.cuts.specs.Recording.{script_of, recording, counts_text, cuts_text, report_of, report_text}
 use Rattle.cuts.specs.Lines.{line_length, lines_next}
 use Rattle.cuts.specs.Run.{formatted_desk, run_from}
 use Rattle.cuts.specs.Reported.{found_text, lines_small, sizes_refused, lines_reported, other_refused}
-use Rattle.cuts.specs.Ran.{ran_as, none_yet, said_in}
+use Rattle.cuts.specs.Ran.{none_yet, said_in}
 
 -- ---- the first line
 
@@ -82,16 +81,16 @@ module _ (trial : Bool) (text : List ℕ) (end : ℕ) (e : end ≡ 0 + line_leng
 
 -- ---- what the others come to
 
-pub refused_ran : (r : Ran) (o : Option (List Bool)) → ran_as r ≡ map (tallied none_yet) o → r ≡ rans.Refused → found_text o ≡ bytes "answer=line\n"
-unfolding ran_as found_text
-refused_ran r none e k = refl
-refused_ran r (some cuts) e k = absurd (let u = sym (ap ran_as k) ∙ e in let w : ◌≡◌ {A = ℕ} 0 1 = cc in omega arith)
+pub refused_ran : (r : Option Tally) (o : Option (List Bool)) → r ≡ option_map (tallied none_yet) o → r ≡ None → found_text o ≡ bytes "answer=line\n"
+unfolding found_text
+refused_ran r None e k = refl
+refused_ran r (Some cuts) e k = absurd (let u = sym k ∙ e in let w : ◌≡◌ {A = ℕ} 0 1 = cc in omega arith)
 
-pub counted_ran : (r : Ran) (o : Option (List Bool)) (t : Tally) → ran_as r ≡ map (tallied none_yet) o → r ≡ rans.Counted t → found_text o ≡ counts_text (t.same + t.differ) t.same t.differ
-unfolding ran_as found_text cuts_text tallied
-counted_ran r none t e k = absurd (let u = sym (ap ran_as k) ∙ e in let w : ◌≡◌ {A = ℕ} 0 1 = cc in omega arith)
-counted_ran r (some cuts) t e k =
-    let u : t ≡ tallied none_yet cuts = some-injective t (tallied none_yet cuts) (sym (ap ran_as k) ∙ e) in
+pub counted_ran : (r : Option Tally) (o : Option (List Bool)) (t : Tally) → r ≡ option_map (tallied none_yet) o → r ≡ Some t → found_text o ≡ counts_text (t.same + t.differ) t.same t.differ
+unfolding found_text cuts_text tallied
+counted_ran r None t e k = absurd (let u = sym k ∙ e in let w : ◌≡◌ {A = ℕ} 0 1 = cc in omega arith)
+counted_ran r (Some cuts) t e k =
+    let u : t ≡ tallied none_yet cuts = same_Some t (tallied none_yet cuts) (sym k ∙ e) in
     let a : t.same ≡ sames cuts = ap (λ (x : Tally). x.same) u ∙ omega arith in
     let b : t.differ ≡ differs cuts = ap (λ (x : Tally). x.differ) u ∙ omega arith in
     rw (a, b, same_or_not cuts)

@@ -4,8 +4,7 @@ use native.Mathlib.Omega.{arith}
 use Rattle.std.specs.Prelude.{◌≡◌, Bool, cond, leb, replicate}
 use Rattle.std.proofs.Math.Path.{refl, ap, subst}
 use Rattle.std.proofs.Common.{sym, ◌∙◌}
-use Rattle.std.proofs.Math.Option
-use Rattle.std.proofs.Math.Option.{Option, none, some}
+use Rattle.std.specs.Prelude.{Option, None, Some, option_map}
 use mathlib.Core.List.Memᴰ
 use mathlib.Core.List.{List, [], ◌∷◌, map}
 use Rattle.std.proofs.Math.Bool.{true, false}
@@ -43,8 +42,8 @@ use Rattle.cuts.specs.Run.{formatted_desk, run_from, AllSmall, found, run_found}
 
 -- what is printed of what a run finds
 unfoldable pub found_text : Option (List Bool) → List ℕ
-found_text none = bytes "answer=line\n"
-found_text (some cuts) = cuts_text cuts
+found_text None = bytes "answer=line\n"
+found_text (Some cuts) = cuts_text cuts
 
 -- every fill of a line is a byte
 pub lines_small : (widths : Widths) (sizes : Sizes) (trial : Bool) (lines : List (List ℕ)) → AllSmall widths sizes trial (map (line_means max_entries) lines)
@@ -120,10 +119,10 @@ module _ (widths : Widths) (z : Sizes) where
     sizes_refused rest wrong = rw wrong
 
     -- of the steps that are recorded, or of none
-    steps_reported : (o : Option (List Recorded)) → report_of widths trial (Option.map (script z) o) ≡ found_text (Option.map (cuts_from (erasing trial) widths z (started (erasing trial) widths z (zeroed z)) (fresh_model z.width)) o)
+    steps_reported : (o : Option (List Recorded)) → report_of widths trial (option_map (script z) o) ≡ found_text (option_map (cuts_from (erasing trial) widths z (started (erasing trial) widths z (zeroed z)) (fresh_model z.width)) o)
     unfolding script report_of found_text cuts_of
-    steps_reported none = refl
-    steps_reported (some steps) = refl
+    steps_reported None = refl
+    steps_reported (Some steps) = refl
 
     pub lines_reported : (rest : List Said) → sizes_ok widths z ≡ true → AllSmall widths z trial rest → report_of widths trial (script_of widths (Said.Format z ∷ rest)) ≡ found_text (run_from widths z trial (formatted_desk z) 1 rest)
     unfolding script_of on_format found started formatted_desk
@@ -134,10 +133,10 @@ module _ (widths : Widths) (z : Sizes) where
         rw (o, r, n) (by (leb (suc (length rest)) 256))
       where
         by : (t : Bool)
-            → report_of widths trial (cond t (Option.map (script z) (steps_by z rest)) none)
-            ≡ found_text (cond t (Option.map (cuts_from (erasing trial) widths z (started (erasing trial) widths z (zeroed z)) (fresh_model z.width)) (steps_by z rest)) none)
+            → report_of widths trial (cond t (option_map (script z) (steps_by z rest)) None)
+            ≡ found_text (cond t (option_map (cuts_from (erasing trial) widths z (started (erasing trial) widths z (zeroed z)) (fresh_model z.width)) (steps_by z rest)) None)
         by true = steps_reported (steps_by z rest)
-        by false = steps_reported none
+        by false = steps_reported None
 
         begins : format_outcome widths z (zeroed z) ≡ record { answer = 0; second = 0; left = formatted z } → (started (erasing trial) widths z (zeroed z)).volume ≡ (formatted_desk z).volume
         begins o = ap (λ (x : Outcome Volume). x.left) o

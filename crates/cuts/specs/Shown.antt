@@ -1,6 +1,6 @@
 -- What is shown of the line that is printed, stated.
 use Rattle.std.specs.Prelude.{ℕ, suc, ◌+◌, ◌<◌, ◌≡◌, List, [], ◌∷◌, map, Bool, false, length, take, drop}
-use Rattle.std.proofs.Math.Option.{none, some}
+use Rattle.std.specs.Prelude.{None, Some}
 use Rattle.bounded.specs.Limits.{Widths}
 use Rattle.sizes.specs.declared.Sizes.{Sizes}
 use Rattle.text.specs.Scan.{bytes}
@@ -22,13 +22,13 @@ slots_of_script trial widths s = slots_from (erasing trial) widths s.sizes (star
 -- Of every text:
 pub record ReportShown (widths : Widths) : Type 0 where
   -- one that is no script prints answer=line
-  pub refused : (trial : Bool) (text : List ℕ) → recording widths text ≡ none → report_text widths trial text ≡ bytes "answer=line\n"
+  pub refused : (trial : Bool) (text : List ℕ) → recording widths text ≡ None → report_text widths trial text ≡ bytes "answer=line\n"
   -- "cuts is the number of slots that accepted writes and erases store or blank", and of these so many are the same and so many differ
   pub counted :
-      (trial : Bool) (text : List ℕ) (s : Script) → recording widths text ≡ some s
+      (trial : Bool) (text : List ℕ) (s : Script) → recording widths text ≡ Some s
       → (same : ℕ) × (differ : ℕ) × (same + differ ≡ slots_of_script trial widths s) × (report_text widths trial text ≡ counts_text (slots_of_script trial widths s) same differ)
   -- "for our own calls differ is 0 and same equals cuts"
-  pub own : (text : List ℕ) (s : Script) → recording widths text ≡ some s → report_text widths false text ≡ counts_text (slots_of_script false widths s) (slots_of_script false widths s) 0
+  pub own : (text : List ℕ) (s : Script) → recording widths text ≡ Some s → report_text widths false text ≡ counts_text (slots_of_script false widths s) (slots_of_script false widths s) 0
 
 -- the longest script has 256 lines of 512 bytes, each with its line end
 abbrev pub longest_script : ℕ
@@ -59,6 +59,6 @@ lines_leave widths sizes v (line ∷ lines) = lines_leave widths sizes (line_out
 -- A script's run is that of all its lines, in their order: behind the format line they leave the volume that they leave in the script program.
 abbrev pub AllLinesRun : Widths → Type 0
 AllLinesRun widths =
-    (text : List ℕ) (s : Script) → recording widths text ≡ some s
+    (text : List ℕ) (s : Script) → recording widths text ≡ Some s
     → (after (erasing false) widths s.sizes (started (erasing false) widths s.sizes (zeroed s.sizes)) (map (event_of s.sizes) s.steps)).volume
     ≡ lines_leave widths s.sizes (formatted s.sizes) (drop 1 (map (line_means max_entries) (lines_of text)))

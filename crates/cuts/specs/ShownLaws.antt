@@ -3,8 +3,8 @@ use Rattle.std.specs.Prelude.{ℕ, suc, ◌+◌, ◌*◌, ◌≤◌, ◌<◌, Bo
 use native.Mathlib.Omega.{arith}
 use Rattle.std.proofs.Math.Path.{◌≡◌, refl, sym, ap, subst}
 use Rattle.std.proofs.Common.{ap₂, ◌∙◌, length-take, take_all}
-use Rattle.std.proofs.Math.Option
-use Rattle.std.proofs.Math.Option.{Option, none, some, some-injective}
+use Rattle.std.specs.Prelude.{Option, None, Some, option_map}
+use Rattle.std.proofs.lemmas.Option.{same_Some}
 use mathlib.Core.List.{List, [], ◌∷◌, ◌++◌, map}
 use Rattle.std.proofs.Math.Bool.{false}
 use Rattle.std.proofs.Math.Dec.{leb}
@@ -41,9 +41,9 @@ use Rattle.cuts.specs.Shown.{slots_of_script, ReportShown, longest_script, Enoug
 
 module _ (widths : Widths) where
   -- what the test of a format line says where it is passed
-  passes : (z : Sizes) (t : Bool) (o : Option (List Recorded)) (s : Script) → cond t (Option.map (script z) o) none ≡ some s → (t ≡ true) × ((steps : List Recorded) × (o ≡ some steps) × (script z steps ≡ s))
-  passes z true (some steps) s e = (refl, (steps, refl, some-injective (script z steps) s e))
-  passes z true none s e = absurd (let w : ◌≡◌ {A = ℕ} 0 1 = cc in omega arith)
+  passes : (z : Sizes) (t : Bool) (o : Option (List Recorded)) (s : Script) → cond t (option_map (script z) o) None ≡ Some s → (t ≡ true) × ((steps : List Recorded) × (o ≡ Some steps) × (script z steps ≡ s))
+  passes z true (Some steps) s e = (refl, (steps, refl, same_Some (script z steps) s e))
+  passes z true None s e = absurd (let w : ◌≡◌ {A = ℕ} 0 1 = cc in omega arith)
   passes z false o s e = absurd (let w : ◌≡◌ {A = ℕ} 0 1 = cc in omega arith)
 
   -- a script: its format line and the others
@@ -52,9 +52,9 @@ module _ (widths : Widths) where
     formats : lines ≡ Said.Format s.sizes ∷ rest
     accepts : (format_outcome widths s.sizes (zeroed s.sizes)).answer ≡ 0
     few : suc (length rest) ≤ 256
-    records : steps_by s.sizes rest ≡ some s.steps
+    records : steps_by s.sizes rest ≡ Some s.steps
 
-  passed_format : (z : Sizes) (rest : List Said) (s : Script) → script_of widths (Said.Format z ∷ rest) ≡ some s → Passed (Said.Format z ∷ rest) s
+  passed_format : (z : Sizes) (rest : List Said) (s : Script) → script_of widths (Said.Format z ∷ rest) ≡ Some s → Passed (Said.Format z ∷ rest) s
   unfolding script_of on_format script
   passed_format z rest s e =
       let p = passes z (eqb (format_outcome widths z (zeroed z)).answer 0 && leb (suc (length rest)) 256) (steps_by z rest) s e in
@@ -63,7 +63,7 @@ module _ (widths : Widths) where
       subst (Passed (Said.Format z ∷ rest)) p.1.2
       (record { rest = rest; formats = refl; accepts = eqb-true (format_outcome widths z (zeroed z)).answer 0 a; few = leb-true (suc (length rest)) 256 b; records = p.1.1 })
 
-  passed : (lines : List Said) (s : Script) → script_of widths lines ≡ some s → Passed lines s
+  passed : (lines : List Said) (s : Script) → script_of widths lines ≡ Some s → Passed lines s
   unfolding script_of on_format
   passed [] s e = absurd (let w : ◌≡◌ {A = ℕ} 0 1 = cc in omega arith)
   passed (Said.Format z ∷ rest) s e = passed_format z rest s e
@@ -77,12 +77,12 @@ module _ (widths : Widths) where
   passed (Said.Malformed ∷ rest) s e = absurd (let w : ◌≡◌ {A = ℕ} 0 1 = cc in omega arith)
 
   -- what a text records is a script whose format is accepted
-  recorded_passes : (text : List ℕ) (s : Script) → recording widths text ≡ some s → Passed (map (line_means max_entries) (lines_of text)) s
+  recorded_passes : (text : List ℕ) (s : Script) → recording widths text ≡ Some s → Passed (map (line_means max_entries) (lines_of text)) s
   unfolding recording
   recorded_passes text s e = passed (map (line_means max_entries) (lines_of text)) s e
 
   -- what is printed of a script
-  recorded_text : (trial : Bool) (text : List ℕ) (s : Script) → recording widths text ≡ some s → report_text widths trial text ≡ cuts_text (cuts_of (erasing trial) widths s.sizes (zeroed s.sizes) s.steps)
+  recorded_text : (trial : Bool) (text : List ℕ) (s : Script) → recording widths text ≡ Some s → report_text widths trial text ≡ cuts_text (cuts_of (erasing trial) widths s.sizes (zeroed s.sizes) s.steps)
   unfolding report_text report_of
   recorded_text trial text s e = rw e
 
@@ -130,21 +130,21 @@ too_long_line : (line : List ℕ) → 512 < length line → line_means max_entri
 unfolding line_means
 too_long_line line h = rw (lt-ltb 512 (length line) h)
 
-joined_both : (a b : Option (List Recorded)) (steps : List Recorded) → joined a b ≡ some steps → ((x : List Recorded) × (a ≡ some x)) × ((y : List Recorded) × (b ≡ some y))
+joined_both : (a b : Option (List Recorded)) (steps : List Recorded) → joined a b ≡ Some steps → ((x : List Recorded) × (a ≡ Some x)) × ((y : List Recorded) × (b ≡ Some y))
 unfolding joined
-joined_both none b steps e = absurd (let w : ◌≡◌ {A = ℕ} 0 1 = cc in omega arith)
-joined_both (some x) none steps e = absurd (let w : ◌≡◌ {A = ℕ} 0 1 = cc in omega arith)
-joined_both (some x) (some y) steps e = ((x, refl), (y, refl))
+joined_both None b steps e = absurd (let w : ◌≡◌ {A = ℕ} 0 1 = cc in omega arith)
+joined_both (Some x) None steps e = absurd (let w : ◌≡◌ {A = ℕ} 0 1 = cc in omega arith)
+joined_both (Some x) (Some y) steps e = ((x, refl), (y, refl))
 
 -- lines that record steps have at most 512 bytes each
-steps_total : (z : Sizes) (lines : List (List ℕ)) (steps : List Recorded) → steps_by z (map (line_means max_entries) lines) ≡ some steps → total lines ≤ 513 * length lines
+steps_total : (z : Sizes) (lines : List (List ℕ)) (steps : List Recorded) → steps_by z (map (line_means max_entries) lines) ≡ Some steps → total lines ≤ 513 * length lines
 unfolding steps_by step_by total
 steps_total z [] steps e = omega arith
 steps_total z (line ∷ lines) steps e =
     let j = joined_both (step_by z (line_means max_entries line)) (steps_by z (map (line_means max_entries) lines)) steps e in
     let t = steps_total z lines j.1.0 j.1.1 in
     on_lt 512 (length line)
-    (λ l. let m : ◌≡◌ {A = Option (List Recorded)} none (some j.0.0) = sym (ap (step_by z) (too_long_line line l)) ∙ j.0.1 in absurd (let w : ◌≡◌ {A = ℕ} 0 1 = cc in omega arith))
+    (λ l. let m : ◌≡◌ {A = Option (List Recorded)} None (Some j.0.0) = sym (ap (step_by z) (too_long_line line l)) ∙ j.0.1 in absurd (let w : ◌≡◌ {A = ℕ} 0 1 = cc in omega arith))
     (λ l. omega arith)
 
 module _ (widths : Widths) (trial : Bool) where
@@ -168,9 +168,9 @@ module _ (widths : Widths) (trial : Bool) where
   unfolding report_text report_of
   too_long text h = by (recording widths text) (λ s e. script_total (lines_of text) s (recorded_passes widths text s e))
     where
-      by : (o : Option Script) → ((s : Script) → o ≡ some s → total (lines_of text) ≤ longest_script) → report_of widths trial o ≡ bytes "answer=line\n"
-      by none k = refl
-      by (some s) k = absurd (let t = text_total text in let u = k s refl in omega arith)
+      by : (o : Option Script) → ((s : Script) → o ≡ Some s → total (lines_of text) ≤ longest_script) → report_of widths trial o ≡ bytes "answer=line\n"
+      by None k = refl
+      by (Some s) k = absurd (let t = text_total text in let u = k s refl in omega arith)
 
 pub enough_read : (widths : Widths) → EnoughRead widths
 enough_read widths trial text =
@@ -190,8 +190,8 @@ counts_room cuts same differ =
 
 report_room : (widths : Widths) (trial : Bool) (o : Option Script) → length (report_of widths trial o) ≤ longest_report
 unfolding report_of cuts_text bytes
-report_room widths trial none = omega arith
-report_room widths trial (some s) = counts_room _ _ _
+report_room widths trial None = omega arith
+report_room widths trial (Some s) = counts_room _ _ _
 
 pub room_enough : (widths : Widths) → RoomEnough widths
 unfolding report_text
@@ -206,16 +206,16 @@ report_ends trial text out left r h l e = let m = report_room two_widths trial (
 
 module _ (widths : Widths) (sizes : Sizes) where
   -- a line does to the volume what it does in the script program
-  line_agrees : (v : Volume) → FitsIn FiveWords widths sizes v → (lost : Bool) (line : Said) (steps : List Recorded) → step_by sizes line ≡ some steps → (after back_pointer widths sizes (record { volume = v; lost = lost }) (map (event_of sizes) steps)).volume ≡ (line_outcome widths sizes v line).left
+  line_agrees : (v : Volume) → FitsIn FiveWords widths sizes v → (lost : Bool) (line : Said) (steps : List Recorded) → step_by sizes line ≡ Some steps → (after back_pointer widths sizes (record { volume = v; lost = lost }) (map (event_of sizes) steps)).volume ≡ (line_outcome widths sizes v line).left
   unfolding step_by after happens event_of perform with_state with_flash line_outcome accepted
   line_agrees v fits lost line steps e = by line steps e
     where
-      known_as : (known steps : List Recorded) (line : Said) → ◌≡◌ {A = Option (List Recorded)} (some known) (some steps)
+      known_as : (known steps : List Recorded) (line : Said) → ◌≡◌ {A = Option (List Recorded)} (Some known) (Some steps)
           → (after back_pointer widths sizes (record { volume = v; lost = lost }) (map (event_of sizes) known)).volume ≡ (line_outcome widths sizes v line).left
           → (after back_pointer widths sizes (record { volume = v; lost = lost }) (map (event_of sizes) steps)).volume ≡ (line_outcome widths sizes v line).left
-      known_as known steps line e h = subst (λ (l : List Recorded). (after back_pointer widths sizes (record { volume = v; lost = lost }) (map (event_of sizes) l)).volume ≡ (line_outcome widths sizes v line).left) (some-injective known steps e) h
+      known_as known steps line e h = subst (λ (l : List Recorded). (after back_pointer widths sizes (record { volume = v; lost = lost }) (map (event_of sizes) l)).volume ≡ (line_outcome widths sizes v line).left) (same_Some known steps e) h
 
-      by : (line : Said) (steps : List Recorded) → step_by sizes line ≡ some steps → (after back_pointer widths sizes (record { volume = v; lost = lost }) (map (event_of sizes) steps)).volume ≡ (line_outcome widths sizes v line).left
+      by : (line : Said) (steps : List Recorded) → step_by sizes line ≡ Some steps → (after back_pointer widths sizes (record { volume = v; lost = lost }) (map (event_of sizes) steps)).volume ≡ (line_outcome widths sizes v line).left
       by (Said.Format own) steps e = absurd (let w : ◌≡◌ {A = ℕ} 0 1 = cc in omega arith)
       by (Said.Launch pages) steps e = known_as _ steps (Said.Launch pages) e refl
       by (Said.Write page slot fill) steps e = known_as _ steps (Said.Write page slot fill) e refl
@@ -237,14 +237,14 @@ module _ (widths : Widths) (sizes : Sizes) where
   reached_after x m k [] = (m, k)
   reached_after x m k (r ∷ steps) = reached_after (happens back_pointer widths sizes x (event_of sizes r)) (learns m (told back_pointer widths sizes x (event_of sizes r))) (reached_step widths sizes x m k r) steps
 
-  lines_run : (x : World) (m : Model) → Reached widths sizes x m → (lines : List Said) (steps : List Recorded) → steps_by sizes lines ≡ some steps → (after back_pointer widths sizes x (map (event_of sizes) steps)).volume ≡ lines_leave widths sizes x.volume lines
+  lines_run : (x : World) (m : Model) → Reached widths sizes x m → (lines : List Said) (steps : List Recorded) → steps_by sizes lines ≡ Some steps → (after back_pointer widths sizes x (map (event_of sizes) steps)).volume ≡ lines_leave widths sizes x.volume lines
   unfolding steps_by joined lines_leave after
-  lines_run x m k [] steps e = ap (λ (l : List Recorded). (after back_pointer widths sizes x (map (event_of sizes) l)).volume) (sym (some-injective [] steps e))
+  lines_run x m k [] steps e = ap (λ (l : List Recorded). (after back_pointer widths sizes x (map (event_of sizes) l)).volume) (sym (same_Some [] steps e))
   lines_run x m k (line ∷ lines) steps e =
       let j = joined_both (step_by sizes line) (steps_by sizes lines) steps e in
       let first = j.0.0 in
       let rest = j.1.0 in
-      let both : first ++ rest ≡ steps = some-injective (first ++ rest) steps (sym (ap₂ joined j.0.1 j.1.1) ∙ e) in
+      let both : first ++ rest ≡ steps = same_Some (first ++ rest) steps (sym (ap₂ joined j.0.1 j.1.1) ∙ e) in
       let y = after back_pointer widths sizes x (map (event_of sizes) first) in
       let r = reached_after x m k first in
       let here = line_agrees x.volume (holding_fits widths sizes x m k.holding) x.lost line first j.0.1 in

@@ -1,8 +1,9 @@
 -- Each line of a script: what it leaves in the program's buffers follows what it leaves of the run and the reference model, and what is found at its cuts is the same.
-use Prim.Native.Nat.{ℕ, zero, suc, ◌+◌}
+use Prim.Native.Nat.{ℕ, zero, suc}
 use Rattle.std.proofs.Common.{arith, sym, subst}
 use Rattle.std.proofs.Math.Path.{◌≡◌, refl, ap}
-use Rattle.std.proofs.Math.Option.{Option, some, some-injective}
+use Rattle.std.specs.Prelude.{Option, Some}
+use Rattle.std.proofs.lemmas.Option.{same_Some}
 use mathlib.Core.List.{List, [], ◌∷◌, ◌++◌}
 use Rattle.std.specs.Prelude.{Bool, true, cond, eqb, replicate}
 use Rattle.std.proofs.Math.Bool.{false}
@@ -66,15 +67,15 @@ module _ (widths : Widths) (sizes : Sizes) where
           }
 
       -- what it records is this
-      went_as : (says : Said) (known steps : List Recorded) → ◌≡◌ {A = Option (List Recorded)} (some known) (some steps) → Went (world widths sizes d b) m d says known → Went (world widths sizes d b) m d says steps
-      went_as says known steps e w = subst (λ (l : List Recorded). Went (world widths sizes d b) m d says l) (some-injective known steps e) w
+      went_as : (says : Said) (known steps : List Recorded) → ◌≡◌ {A = Option (List Recorded)} (Some known) (Some steps) → Went (world widths sizes d b) m d says known → Went (world widths sizes d b) m d says steps
+      went_as says known steps e w = subst (λ (l : List Recorded). Went (world widths sizes d b) m d says l) (same_Some known steps e) w
 
       -- it alters no flash, so it has no cut
       uncut : (call : Call) → planned_stages (erasing trial) sizes d.volume call ≡ [] → cuts_in (erasing trial) widths sizes (world widths sizes d b) m (Recorded.Makes call) ≡ []
       unfolding cuts_in flash_stages points_from
       uncut call e = rw (e, none_either (eqb (perform (erasing trial) widths sizes d.volume call).answer 0))
 
-      pub went : (says : Said) (steps : List Recorded) → step_by sizes says ≡ some steps → Small says → Went (world widths sizes d b) m d says steps
+      pub went : (says : Said) (steps : List Recorded) → step_by sizes says ≡ Some steps → Small says → Went (world widths sizes d b) m d says steps
       unfolding step_by Small event_of happens told learns accept cuts_in cuts_from perform with_state with_flash desk_after desk_cuts other_desk settled_desk erase_desk line_outcome accepted planned_stages
       went (Said.Format own) steps e s = absurd (let z : ◌≡◌ {A = ℕ} 0 1 = cc in omega arith)
       went (Said.Launch pages) steps e s =

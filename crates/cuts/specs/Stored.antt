@@ -28,7 +28,6 @@ use Rattle.rules.specs.Erase.{erase_answer, erase_steps}
 use Rattle.rules.specs.laws.Volume.{FitsIn}
 use Rattle.rules.proofs.laws.Accepted.{WriteTests, write_tests}
 use Rattle.rules.proofs.laws.Outcomes.{write_refused, write_done}
-use Rattle.dispatch.specs.Dispatch.{lost}
 use Rattle.atomicity.specs.Family.{Family, back_pointer}
 use Rattle.atomicity.specs.Call.{Call, with_flash, perform, planned_stages, flash_stages}
 use Rattle.atomicity.specs.Run.{Event, World, done_of, done_in, steps_cut_short, was_done, happens}

@@ -5,8 +5,7 @@
 pub mod lines; // lines.rt: the lines of a text
 pub mod run; // run.rt: the lines carried out, one after the other
 
-ghost use Rattle.std.specs.Prelude.{◌≡◌, true, ◌+◌, ◌≤◌, length, drop};
-ghost use Rattle.std.proofs.Math.Option.{map};
+ghost use Rattle.std.specs.Prelude.{◌≡◌, true, ◌+◌, ◌≤◌, length, drop, option_map};
 ghost use Rattle.bounded.specs.Limits.{Widths, two_widths};
 ghost use Rattle.sizes.specs.Sizes.{sizes_ok};
 ghost use Rattle.text.specs.Print.{shown, added};
@@ -15,22 +14,21 @@ ghost use Rattle.everywhere.specs.Shown.{CutEverywhere};
 ghost use Rattle.everywhere.specs.Cases.{CutsComputed};
 ghost use Rattle.cutpoint.specs.Judged.{tallied};
 ghost use Rattle.cuts.specs.Recording.{counts_text, report_text};
-ghost use Rattle.cuts.specs.Ran.{ran_as, none_yet, said_in, AtMost, most_cuts};
+ghost use Rattle.cuts.specs.Ran.{none_yet, said_in, AtMost, most_cuts};
 ghost use Rattle.cuts.specs.Run.{formatted_desk, run_from};
 ghost use Rattle.cuts.specs.Shown.{ReportShown, AllLinesRun, EnoughRead, RoomEnough};
 ghost use Rattle.cuts.specs.Cases.{TextsComputed};
 
 use cutpoint::Tally;
 use line::Line;
-use run::Ran;
 use sizes::{Layout, NO_NUMBER, Sizes};
-use text::print;
+use text::print::Printout;
 
 // The lines from `from` on, carried out on a volume that is formatted.
-fn counted(trial: bool, sizes: Sizes, text: &[u8], from: usize) -> Ran
+fn counted(trial: bool, sizes: Sizes, text: &[u8], from: usize) -> Option<Tally>
     requires sizes_value { sizes_ok two_widths sizes ≡ true }
     requires from_in_bounds { from ≤ length text.now }
-    ensures finds { ran_as result ≡ map (tallied none_yet) (run_from two_widths sizes trial (formatted_desk sizes) 1 (said_in (drop from text.now))) }
+    ensures finds { result ≡ option_map (tallied none_yet) (run_from two_widths sizes trial (formatted_desk sizes) 1 (said_in (drop from text.now))) }
     ensures few { AtMost most_cuts result }
 {
     let w = 5 * (sizes.slots as usize);
@@ -43,7 +41,7 @@ fn counted(trial: bool, sizes: Sizes, text: &[u8], from: usize) -> Ran
     let mut entered = [NO_NUMBER; 256];
     let mut kept = [0u32; 256];
     // It answers 0: the sizes are right, and so are the buffers.
-    volume::format(
+    let _ = volume::format(
         Layout::FiveWords,
         sizes,
         &mut words[0..w],
@@ -67,7 +65,9 @@ fn counted(trial: bool, sizes: Sizes, text: &[u8], from: usize) -> Ran
 fn refuse(out: &mut [u8]) -> usize
     ensures { shown out.new result ≡ added out.old 0 (bytes "answer=line\n") }
 {
-    print::put_text(out, 0, b"answer=line\n")
+    let mut print = Printout::new(out, 0);
+    print.put_text(b"answer=line\n");
+    print.at
 }
 
 // "Print only one line, cuts= same= differ= each with its number"
@@ -75,10 +75,12 @@ fn put_counts(out: &mut [u8], tally: Tally) -> usize
     requires { tally.same + tally.differ ≤ 4294967295 }
     ensures { shown out.new result ≡ added out.old 0 (counts_text (tally.same + tally.differ) tally.same tally.differ) }
 {
-    let a = print::put_field(out, 0, b"cuts=", tally.same + tally.differ);
-    let b = print::put_field(out, a, b" same=", tally.same);
-    let c = print::put_field(out, b, b" differ=", tally.differ);
-    print::put_text(out, c, b"\n")
+    let mut print = Printout::new(out, 0);
+    print.put_field(b"cuts=", tally.same + tally.differ);
+    print.put_field(b" same=", tally.same);
+    print.put_field(b" differ=", tally.differ);
+    print.put_text(b"\n");
+    print.at
 }
 
 // What is printed for a script.
@@ -87,14 +89,17 @@ pub fn report(trial: bool, text: &[u8], out: &mut [u8]) -> usize
 {
     let mut list = [0u32; 64];
     let end = lines::line_end(text, 0);
-    let Line::Format { sizes } = line::line_of(&text[0..end], &mut list) else {
+    let Some(line) = line::line_of(&text[0..end], &mut list) else {
+        return refuse(out);
+    };
+    let Line::Format { sizes } = line else {
         return refuse(out);
     };
     // "refused first format line": its buffers have the right lengths, so that its sizes alone can be wrong.
     if !sizes.are_ok() {
         return refuse(out);
     }
-    let Ran::Counted { tally } = counted(trial, sizes, text, lines::next_line(text, end)) else {
+    let Some(tally) = counted(trial, sizes, text, lines::next_line(text, end)) else {
         return refuse(out);
     };
     put_counts(out, tally)

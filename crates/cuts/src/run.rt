@@ -1,39 +1,20 @@
 // The lines of a script carried out, one after the other.
 
-ghost use Rattle.std.specs.Prelude.{◌≡◌, List, ℕ, ◌+◌, ◌*◌, ◌≤◌, length, drop};
-ghost use Rattle.std.proofs.Math.Option.{map};
+ghost use Rattle.std.specs.Prelude.{◌≡◌, ◌+◌, ◌*◌, ◌≤◌, length, drop, option_map};
 ghost use Rattle.bounded.specs.Limits.{two_widths};
-ghost use Rattle.line.specs.Line.{said, max_entries, line_means};
+ghost use Rattle.line.specs.Line.{max_entries, line_means};
 ghost use Rattle.rules.specs.Volume.{volume};
 ghost use Rattle.cutpoint.specs.Judged.{tallied};
 ghost use Rattle.recorded.specs.Desk.{desk, Ready};
-ghost use Rattle.cuts.specs.Run.{is_step, run_from};
-ghost use Rattle.cuts.specs.Ran.{ran_as, none_yet, said_in, turn_desk, turn_cuts, AtMost, most_cuts};
+ghost use Rattle.cuts.specs.Run.{run_from};
+ghost use Rattle.cuts.specs.Ran.{none_yet, said_in, turn_desk, turn_cuts, AtMost, most_cuts};
 
 use super::lines;
 use cutpoint::Tally;
 use line::Line;
 use sizes::Sizes;
 
-// What a script comes to: it is refused, or its cuts are counted.
-#[derive(Clone, Copy)]
-pub enum Ran {
-    Refused,
-    Counted { tally: Tally },
-}
-
-// A line that may stand behind the format line.
-fn is_step(line: Line) -> bool
-    ensures { (list : List ℕ) → result ≡ is_step (said line list) }
-{
-    match line {
-        Line::Format { sizes: _ } => false,
-        Line::Malformed => false,
-        _ => true,
-    }
-}
-
-// One line.
+// One line: the tally behind it, or none where it may not stand.
 fn turn(
     trial: bool,
     tally: Tally,
@@ -44,27 +25,26 @@ fn turn(
     state: &mut [u32],
     entered: &mut [u32],
     kept: &mut [u32],
-) -> Ran
+) -> Option<Tally>
     requires ready { Ready two_widths sizes (desk (volume words.old contents.old state.old) entered.old kept.old) }
     requires differ_bound { tally.same + tally.differ + 64 ≤ 4294967295 }
     ensures leaves { desk (volume words.new contents.new state.new) entered.new kept.new
         ≡ turn_desk two_widths sizes trial (desk (volume words.old contents.old state.old) entered.old kept.old) (line_means max_entries line.now) }
-    ensures counts { ran_as result ≡ map (tallied tally)
+    ensures counts { result ≡ option_map (tallied tally)
         (turn_cuts two_widths sizes trial (desk (volume words.old contents.old state.old) entered.old kept.old) (line_means max_entries line.now)) }
     ensures few { AtMost (tally.same + tally.differ + 64) result }
 {
     let mut list = [0u32; 64];
-    let says = line::line_of(line, &mut list);
-    if !is_step(says) {
-        return Ran::Refused;
+    let says = line::line_of(line, &mut list)?;
+    if let Line::Format { .. } = says {
+        return None;
     }
-    let counted = recorded::step(
+    Some(recorded::step(
         trial, tally, sizes, says, &list, words, contents, state, entered, kept,
-    );
-    Ran::Counted { tally: counted }
+    ))
 }
 
-// The lines behind the format line, which begin at `from`.
+// The lines behind the format line, which begin at `from`: their tally, or none where one refuses the script.
 pub fn run(
     trial: bool,
     sizes: Sizes,
@@ -75,22 +55,23 @@ pub fn run(
     state: &mut [u32],
     entered: &mut [u32],
     kept: &mut [u32],
-) -> Ran
+) -> Option<Tally>
     requires ready { Ready two_widths sizes (desk (volume words.old contents.old state.old) entered.old kept.old) }
     requires from_in_bounds { from ≤ length text.now }
-    ensures finds { ran_as result ≡ map (tallied none_yet)
+    ensures finds { result ≡ option_map (tallied none_yet)
         (run_from two_widths sizes trial (desk (volume words.old contents.old state.old) entered.old kept.old) 1 (said_in (drop from text.now))) }
     ensures few { AtMost most_cuts result }
 {
     let mut tally = Tally { same: 0, differ: 0 };
     let mut at = from;
     let mut lines_done: u32 = 1;
+    // Kept: a while, since a line says where the next begins.
     while at < text.len() {
         if lines_done >= 256 {
-            return Ran::Refused;
+            return None;
         }
         let end = lines::line_end(text, at);
-        let Ran::Counted { tally: counted } = turn(
+        tally = turn(
             trial,
             tally,
             sizes,
@@ -100,12 +81,9 @@ pub fn run(
             state,
             entered,
             kept,
-        ) else {
-            return Ran::Refused;
-        };
-        tally = counted;
+        )?;
         at = lines::next_line(text, end);
         lines_done += 1;
     }
-    Ran::Counted { tally }
+    Some(tally)
 }

@@ -7,15 +7,6 @@ use program::Output;
 use std::io::{Read, Write};
 use std::process::ExitCode;
 use std::rt::Env;
-use text::scan::Place;
-
-// The word is `trial`.
-fn is_trial(word: &[u8]) -> bool {
-    let Place::At(end) = text::scan::after(word, 0, b"trial") else {
-        return false;
-    };
-    end == word.len()
-}
 
 // The script, and what is printed of it. 256 lines of 512 bytes with their line ends have 131,328 bytes, and one byte more is enough to tell that a script is longer
 // (`EnoughRead` of crate cuts); what is printed has its room (`RoomEnough`).
@@ -46,7 +37,7 @@ fn answer<E: Env, R: Read, W: Write, X: Write>(env: &E, from: &mut R, to: &mut W
         refuse(errors);
         return;
     }
-    if !is_trial(&word[..n]) {
+    if &word[..n] != b"trial".as_slice() {
         refuse(errors);
         return;
     }

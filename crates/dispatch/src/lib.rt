@@ -1,36 +1,23 @@
 // The call that a line of a script names, carried out on a volume.
 #![tactic(auto)]
 
-ghost use Rattle.std.specs.Prelude.{min, ◌≡◌, replicate};
+ghost use Rattle.std.specs.Prelude.{◌≡◌, replicate};
 ghost use Rattle.bounded.specs.Limits.{two_widths};
-ghost use Rattle.outcome.specs.Outcome.{returned};
+ghost use Rattle.outcome.specs.Result.{outcome_by};
 ghost use Rattle.line.specs.Line.{said};
 ghost use Rattle.rules.specs.Volume.{volume};
 ghost use Rattle.rules.specs.Write.{write_outcome};
 ghost use Rattle.dispatch.specs.Dispatch.{lost, line_outcome};
 
 use line::Line;
+use outcome::Refusal;
 use sizes::{Layout, Sizes};
-
-// The lesser of two lengths.
-pub fn least(a: usize, b: usize) -> usize
-    ensures { result ≡ min a b }
-{
-    if a < b {
-        return a;
-    }
-    b
-}
 
 // "cut sets every sheet word to 4,294,967,295"
 pub fn lose(state: &mut [u32])
     ensures { state.new ≡ lost state.old }
 {
-    let mut i = 0;
-    while i < state.len() {
-        state[i] = sizes::NO_NUMBER;
-        i += 1;
-    }
+    state.fill(sizes::NO_NUMBER);
 }
 
 // A write whose bytes are all `fill`, as many as the width says. A width above the largest has fewer, and the write refuses it whatever they are.
@@ -42,12 +29,12 @@ fn write_filled(
     page: u32,
     slot: u32,
     fill: u8,
-) -> u64
-    ensures { returned result (volume words.new contents.new state.new)
+) -> Result<u32, Refusal>
+    ensures { outcome_by 0 result (volume words.new contents.new state.new)
         ≡ write_outcome two_widths sizes (volume words.old contents.old state.old) page slot (replicate sizes.width fill) }
 {
     let bytes = [fill; sizes::MAX_WIDTH];
-    let n = least(sizes.width as usize, sizes::MAX_WIDTH);
+    let n = (sizes.width as usize).min(sizes::MAX_WIDTH);
     transact::write(
         Layout::FiveWords,
         sizes,
@@ -60,7 +47,7 @@ fn write_filled(
     )
 }
 
-// The number back of a line's call on a volume; 0 for a line that is no call.
+// What a line's call on a volume gives back: its second number, 0 for a line that is no call.
 pub fn call(
     sizes: Sizes,
     line: Line,
@@ -68,28 +55,24 @@ pub fn call(
     words: &mut [u32],
     contents: &mut [u8],
     state: &mut [u32],
-) -> u64
-    ensures { returned result (volume words.new contents.new state.new)
+) -> Result<u32, Refusal>
+    ensures { outcome_by 0 result (volume words.new contents.new state.new)
         ≡ line_outcome two_widths sizes (volume words.old contents.old state.old) (said line list.now) }
 {
     match line {
-        Line::Format { sizes: _ } => volume::format(
-            Layout::FiveWords,
-            sizes,
-            words,
-            contents,
-            state,
-        ),
+        Line::Format { .. } => {
+            volume::format(Layout::FiveWords, sizes, words, contents, state).and(Ok(0))
+        }
         Line::Launch { count } => {
-            let n = least(count, list.len());
-            flight::launch(sizes, state, &list[0..n])
+            let n = count.min(list.len());
+            flight::launch(sizes, state, &list[0..n]).and(Ok(0))
         }
         Line::Write { page, slot, fill } => {
             write_filled(sizes, words, contents, state, page, slot, fill)
         }
-        Line::Withdraw { page } => flight::withdraw(sizes, state, page),
+        Line::Withdraw { page } => flight::withdraw(sizes, state, page).and(Ok(0)),
         Line::Erase { count } => {
-            let n = least(count, list.len());
+            let n = count.min(list.len());
             collect::erase(
                 Layout::FiveWords,
                 sizes,
@@ -98,13 +81,13 @@ pub fn call(
                 state,
                 &list[0..n],
             )
+            .and(Ok(0))
         }
         Line::Recover => recovery::recover(sizes, words, contents, state),
         Line::Cut => {
             lose(state);
-            0
+            Ok(0)
         }
-        Line::List => 0,
-        Line::Malformed => 0,
+        Line::List => Ok(0),
     }
 }

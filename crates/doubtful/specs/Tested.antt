@@ -1,12 +1,14 @@
 -- What a call tests before a filling is tried: the list, entry by entry; and its answer, by these tests and the number of fillings that recover.
-use Rattle.std.specs.Prelude.{ℕ, ◌<◌, ◌≡◌, List, Bool, ◌&&◌, ltb, eqb, length, get_or}
-use Rattle.std.proofs.Common.{arith, sym, ◌∙◌}
+use Rattle.std.specs.Prelude.{ℕ, zero, suc, ◌≤◌, ◌<◌, ◌≡◌, List, Bool, ◌&&◌, ltb, eqb, length, take, get_or}
+use Rattle.std.specs.List.{list_all}
+use Rattle.std.proofs.Common.{arith, add-one, sym, ap, ◌∙◌}
+use Rattle.std.proofs.Math.Seq.{take-length}
+use Rattle.std.proofs.lemmas.List.Folds.{list_all_more}
 use Rattle.std.proofs.Math.Path.{refl}
 use Rattle.std.proofs.Math.Bool.{true, false, not}
 use borrow.Author.Tests.{le-leb, ltb-false, eq-eqb, ne_eqb}
 use Rattle.bounded.specs.Limits.{Widths}
 use Rattle.bounded.specs.Below.{all_below}
-use Rattle.bounded.specs.BelowLaws.{all_fails}
 use Rattle.outcome.specs.Outcome.{◌⇒◌otherwise◌}
 use Rattle.outcome.specs.OutcomeLaws.{passed, held}
 use Rattle.outcome.specs.Chain.{first_of, first_refuses, first_passes}
@@ -40,17 +42,23 @@ module _ (S : ℕ) (words list : List ℕ) where
       by true b c = refl
       by false b c = refl
 
-  module _ (some : ¬ (length list ≡ 0)) where
-    pub list_fails : list_ok S list ≡ false → false ≡ doubtful_list_ok S words list
-    list_fails e = sym (list_split some ∙ rw e)
+  pub list_fails : ¬ (length list ≡ 0) → list_ok S list ≡ false → false ≡ doubtful_list_ok S words list
+  list_fails some e = sym (list_split some ∙ rw e)
 
-    module _ (listed : list_ok S list ≡ true) where
-      -- and "a listed blank slot is 6"
-      pub list_held : all_below (length list) (held_at words list) ≡ true → true ≡ doubtful_list_ok S words list
-      list_held e = sym (list_split some ∙ rw (listed, e))
+  -- a walk over the first n entries finds whether one of them is a blank slot's
+  all_first : (n : ℕ) → n ≤ length list → list_all (λ k. not (is_blank (slot_at words k))) (take n list) ≡ all_below n (held_at words list)
+  unfolding all_below held_at
+  all_first zero h = refl
+  all_first (suc n) h =
+      let here : n < length list = omega arith in
+      rw (← add-one n) (list_all_more (λ k. not (is_blank (slot_at words k))) list n 0 here ∙ ap (λ (b : Bool). b && held_at words list n) (all_first n (omega arith)))
 
-      pub list_blank : (i : ℕ) → i < length list → held_at words list i ≡ false → false ≡ doubtful_list_ok S words list
-      list_blank i h e = sym (list_split some ∙ rw (listed, all_fails (held_at words list) (length list) i h e))
+  -- and "a listed blank slot is 6"
+  pub list_walked : ¬ (length list ≡ 0) → list_ok S list ≡ true → list_all (λ k. not (is_blank (slot_at words k))) list ≡ doubtful_list_ok S words list
+  list_walked some e =
+      ap (list_all (λ k. not (is_blank (slot_at words k)))) (sym (take-length list))
+      ∙ all_first (length list) (omega arith)
+      ∙ sym (list_split some ∙ rw e)
 
 -- ---- the answer
 
@@ -79,24 +87,23 @@ module _ (widths : Widths) (sizes : Sizes) (f : Flash) (list out : List ℕ) whe
       by true true true true own = refl
       by true true true false own = refl
 
-  module _ {first : ℕ} (is_first : first ≡ doubtful_tested) where
-    pub test_refuses : ¬ (first ≡ 0) → first ≡ doubtful_answer widths sizes f list out
-    test_refuses d = first_refuses first _ is_first d ∙ sym tested_first
+  pub test_refuses : {first : ℕ} → first ≡ doubtful_tested → ¬ (first ≡ 0) → first ≡ doubtful_answer widths sizes f list out
+  test_refuses {first} e d = first_refuses first _ e d ∙ sym tested_first
 
-    module _ (passes : first ≡ 0) where
-      module _ {count : ℕ} (is_count : count ≡ recovering widths sizes f list) where
-        pub none_recovers : count ≡ 0 → 20 ≡ doubtful_answer widths sizes f list out
-        none_recovers z = first_passes first 20 is_first passes (rw (eq-eqb (recovering widths sizes f list) 0 (sym is_count ∙ z))) ∙ sym tested_first
+  module _ (passes : 0 ≡ doubtful_tested) where
+    module _ {count : ℕ} (is_count : count ≡ recovering widths sizes f list) where
+      pub none_recovers : count ≡ 0 → 20 ≡ doubtful_answer widths sizes f list out
+      none_recovers z = first_passes 0 20 passes refl (rw (eq-eqb (recovering widths sizes f list) 0 (sym is_count ∙ z))) ∙ sym tested_first
 
-        pub some_recovers : ¬ (count ≡ 0) → 0 ≡ doubtful_answer widths sizes f list out
-        some_recovers d = first_passes first 0 is_first passes (rw (ne_eqb (recovering widths sizes f list) 0 (λ z. d (is_count ∙ z)))) ∙ sym tested_first
+      pub some_recovers : ¬ (count ≡ 0) → 0 ≡ doubtful_answer widths sizes f list out
+      some_recovers d = first_passes 0 0 passes refl (rw (ne_eqb (recovering widths sizes f list) 0 (λ z. d (is_count ∙ z)))) ∙ sym tested_first
 
-      -- the sizes, the lengths and the listed slots are right
-      pub tested_right : FitsFacts sizes f out × Fillable sizes f.words f.contents list
-      unfolding doubtful_tested
-      tested_right =
-          let a = held (doubtful_fits widths sizes f out) _ _ (sym is_first ∙ passes) in
-          let b = held (table_sound sizes.pages sizes.slots (slot_at f.words)) _ _ a.1 in
-          let c = held (doubtful_list_ok sizes.slots f.words list) _ _ b.1 in
-          let few = ltb-false max_doubtful (length list) (passed (ltb max_doubtful (length list)) _ _ c.1).0 in
-          (fits_facts widths sizes f out a.0, fillable sizes f.words f.contents list widths out a.0 c.0 few)
+    -- the sizes, the lengths and the listed slots are right
+    pub tested_right : FitsFacts sizes f out × Fillable sizes f.words f.contents list
+    unfolding doubtful_tested
+    tested_right =
+        let a = held (doubtful_fits widths sizes f out) _ _ (sym passes) in
+        let b = held (table_sound sizes.pages sizes.slots (slot_at f.words)) _ _ a.1 in
+        let c = held (doubtful_list_ok sizes.slots f.words list) _ _ b.1 in
+        let few = ltb-false max_doubtful (length list) (passed (ltb max_doubtful (length list)) _ _ c.1).0 in
+        (fits_facts widths sizes f out a.0, fillable sizes f.words f.contents list widths out a.0 c.0 few)

@@ -9,12 +9,13 @@ mod versions; // versions.rt: the lowest and highest versions so far
 
 ghost use Rattle.std.specs.Prelude.{◌≡◌, ◌*◌, length};
 ghost use Rattle.bounded.specs.Limits.{two_widths};
-ghost use Rattle.outcome.specs.Outcome.{returned};
+ghost use Rattle.outcome.specs.Result.{outcome_by};
 ghost use Rattle.record.specs.Flash.{flash};
 ghost use Rattle.upkeep.specs.Doubtful.{recovers, recovering, doubtful_words, doubtful_outcome};
 ghost use Rattle.doubtful.specs.Fillable.{Fillable};
 ghost use Rattle.doubtful.specs.Versions.{filling_noted};
 
+use outcome::Refusal;
 use sizes::Sizes;
 
 // Filling m is recovered, and its versions noted where that succeeds; says whether it does. `filled` and `state` are for this filling.
@@ -37,8 +38,7 @@ fn recover_filling(
     ensures out_after { out.new ≡ filling_noted two_widths sizes (flash words.now contents.now) list.now m first out.old }
 {
     filling::fill(words, list, m, filled);
-    let reply = recovery::recover(sizes, filled, contents, state);
-    if outcome::answer_of(reply) != 0 {
+    if recovery::recover(sizes, filled, contents, state).is_err() {
         return false;
     }
     versions::note(sizes.pages, first, state, out);
@@ -65,25 +65,26 @@ fn recover_fillings(
 {
     let total = filling::count_fillings(list);
     let mut count = 0;
-    let mut m = 0;
-    while m < total {
+    for m in 0..total {
         let first = count == 0;
         if recover_filling(sizes, words, contents, list, m, first, filled, state, out) {
             count += 1;
         }
-        m += 1;
     }
     count
 }
 
 // The versions that each page may have, some slots being in doubt.
-pub fn doubtful(sizes: Sizes, words: &[u32], contents: &[u8], list: &[u32], out: &mut [u32]) -> u64
-    ensures { returned result out.new ≡ doubtful_outcome two_widths sizes (flash words.now contents.now) list.now out.old }
+pub fn doubtful(
+    sizes: Sizes,
+    words: &[u32],
+    contents: &[u8],
+    list: &[u32],
+    out: &mut [u32],
+) -> Result<u32, Refusal>
+    ensures { outcome_by 0 result out.new ≡ doubtful_outcome two_widths sizes (flash words.now contents.now) list.now out.old }
 {
-    let refusal = tests::refusal(sizes, words, contents, list, out);
-    if refusal != 0 {
-        return outcome::reply(refusal, 0);
-    }
+    tests::judged(sizes, words, contents, list, out)?;
     let mut filled = [0u32; 5120];
     let mut state = [0u32; 1024];
     let count = recover_fillings(
@@ -96,7 +97,7 @@ pub fn doubtful(sizes: Sizes, words: &[u32], contents: &[u8], list: &[u32], out:
         out,
     );
     if count == 0 {
-        return outcome::reply(20, 0);
+        return Err(Refusal::NoFillingRecovers);
     }
-    outcome::reply(0, count)
+    Ok(count)
 }

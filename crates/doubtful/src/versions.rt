@@ -3,30 +3,20 @@
 ghost use Rattle.std.specs.Prelude.{◌≡◌, ◌*◌, length};
 ghost use Rattle.doubtful.specs.Versions.{lowest_noted, highest_noted, versions_noted};
 
+// Kept: two functions of one line each; one would take `min` or `max` as a closure.
+
 // The lowest version, this one being the first that is found or one more.
 fn lowest(first: bool, so_far: u32, version: u32) -> u32
     ensures { result ≡ lowest_noted first so_far version }
 {
-    if first {
-        return version;
-    }
-    if version < so_far {
-        return version;
-    }
-    so_far
+    if first { version } else { so_far.min(version) }
 }
 
 // … and the highest.
 fn highest(first: bool, so_far: u32, version: u32) -> u32
     ensures { result ≡ highest_noted first so_far version }
 {
-    if first {
-        return version;
-    }
-    if version > so_far {
-        return version;
-    }
-    so_far
+    if first { version } else { so_far.max(version) }
 }
 
 // Each page's committed version by the state, noted.
@@ -35,12 +25,10 @@ pub fn note(pages: u32, first: bool, state: &[u32], out: &mut [u32])
     requires out_len { length out.old ≡ 2 * pages }
     ensures { out.new ≡ versions_noted pages first state.now out.old }
 {
-    let mut page = 0;
-    while page < pages {
+    for page in 0..pages {
         let version = state::page_at(state, page).committed;
         let low = 2 * (page as usize);
         out[low] = lowest(first, out[low], version);
         out[low + 1] = highest(first, out[low + 1], version);
-        page += 1;
     }
 }

@@ -1,7 +1,6 @@
 -- What is counted of the slots below a number, and what judging a slot rests on.
-use Rattle.std.specs.Prelude.{ℕ, ◌*◌, ◌≤◌, ◌≡◌, List, length, take}
-use Rattle.bounded.specs.Noted.{Noted}
-use Rattle.record.specs.declared.Slot.{Slot}
+use Rattle.std.specs.Prelude.{ℕ, ◌*◌, ◌≤◌, ◌≡◌, List, length}
+use Rattle.record.specs.Slot.{Slot}
 use Rattle.record.specs.Slot.{slot_at}
 use Rattle.state.specs.declared.PageState.{PageState}
 use Rattle.state.specs.State.{state_at}
@@ -9,7 +8,7 @@ use Rattle.chain.specs.declared.Key.TheVariants.{Pointer}
 use Rattle.chain.specs.Chain.{Linkable, Chained}
 use Rattle.rules.specs.Permission.{is_obsolete}
 use Rattle.rules.specs.Found.{exposed_slots}
-use Rattle.permit.specs.Prepared.{exposed_at, Within, Searchable, linkable_within, searchable}
+use Rattle.permit.specs.Prepared.{Within, Searchable, linkable_within, searchable}
 use Rattle.fleet.specs.Figures.{is_needed_straddler, slots_with}
 use Rattle.figures.specs.declared.Obsolete.{Obsolete}
 
@@ -24,15 +23,14 @@ pub record Countable (S : ℕ) (words state chains found : List ℕ) : Type 0 wh
   pub all_found : found ≡ exposed_slots S (slot_at words) (state_at state)
 
 pub countable :
-    (P S : ℕ) (words state chains found : List ℕ) (count : ℕ)
+    (P S : ℕ) (words state chains found : List ℕ)
     → Linkable P S words
     → 4 * P ≤ length state
     → Chained Pointer S (slot_at words) chains
-    → Noted (exposed_at words state) S found count
-    → take count found ≡ exposed_slots S (slot_at words) (state_at state)
-    → Countable S words state chains (take count found)
-countable P S words state chains found count l p c f e = record {
+    → found ≡ exposed_slots S (slot_at words) (state_at state)
+    → Countable S words state chains found
+countable P S words state chains found l p c e = record {
   within = linkable_within P S words state l p;
-  searchable = searchable P S words state chains found count l c f;
+  searchable = searchable P S words state chains found l c e;
   all_found = e;
 }

@@ -8,8 +8,8 @@ use borrow.Author.Tests.{not-true, not-false}
 use Rattle.bounded.specs.Below.{list_below}
 use Rattle.bounded.specs.Members.{count_below, count_more, count_stays}
 use Rattle.record.specs.declared.Record.{Record}
-use Rattle.record.specs.declared.Slot.{Slot}
-use Rattle.record.specs.declared.Slot.TheVariants.{Blank, Holds}
+use Rattle.record.specs.Slot.{Slot}
+use Rattle.std.specs.Prelude.{None, Some}
 use Rattle.record.specs.Slot.{holds}
 use Rattle.state.specs.declared.PageState.{PageState}
 use Rattle.state.specs.State.{is_set}
@@ -62,8 +62,8 @@ module _ (S : ℕ) (t : ℕ → Slot) (st : ℕ → PageState) where
 
   not_needed : (s : Slot) → holds (is_obsolete st) s ≡ false → holds (is_needed_straddler S t st) s ≡ false
   unfolding holds is_needed_straddler
-  not_needed Blank e = refl
-  not_needed (Holds r) e = rw e
+  not_needed None e = refl
+  not_needed (Some r) e = rw e
 
   pub none_obsolete : ◌≡◌ {A = Obsolete} (record { all = 0; needed = 0 }) (obsolete_below S t st 0)
   unfolding obsolete_below slots_with list_below
@@ -94,7 +94,7 @@ module _ (S : ℕ) (t : ℕ → Slot) (st : ℕ → PageState) where
         ap₂ (λ (a b : ℕ). record { all = a; needed = b }) (no_more obsolete_at k all_so_far e) (no_more needed_at k needed_so_far (not_needed (t k) e))
 
     -- with one, judged by the exposed records:
-    module _ {r : Record} (here : t k ≡ Holds r) (obsolete : is_obsolete st r ≡ true) {found : List ℕ} (all_found : found ≡ exposed_slots S t st) {may : Bool} (judged : may ≡ may_erase (by_found (untwinned S t st) found) k) where
+    module _ {r : Record} (here : t k ≡ Some r) (obsolete : is_obsolete st r ≡ true) {found : List ℕ} (all_found : found ≡ exposed_slots S t st) {may : Bool} (judged : may ≡ may_erase (by_found (untwinned S t st) found) k) where
       is_obsolete_lem : obsolete_at k ≡ true
       is_obsolete_lem = holds_record (is_obsolete st) here ∙ obsolete
 

@@ -10,12 +10,14 @@ ghost use Rattle.record.specs.Slot.{slot_at};
 ghost use Rattle.record.specs.Flash.{flash};
 ghost use Rattle.state.specs.State.{state_at};
 ghost use Rattle.chain.specs.Chain.{Linkable};
+ghost use Rattle.fleet.specs.Entry.{comes_to};
 ghost use Rattle.fleet.specs.Figures.{set_pages, figures_of, entry_of};
 ghost use Rattle.figures.specs.Counting.{obsolete_below, Countable};
 
 use chain::Key;
-use fleet::{Entry, Figures};
-use record::Slot;
+use fleet::Figures;
+use noted::Slots;
+use outcome::Refusal;
 use sizes::{Layout, Sizes};
 
 // How many records are obsolete, and how many of these are needed straddlers.
@@ -31,12 +33,10 @@ fn set_pages(pages: u32, state: &[u32]) -> u32
     ensures { result ≡ length (set_pages pages (state_at state.now)) }
 {
     let mut count = 0;
-    let mut page = 0;
-    while page < pages {
+    for page in 0..pages {
         if state::page_at(state, page).is_set() {
             count += 1;
         }
-        page += 1;
     }
     count
 }
@@ -56,7 +56,7 @@ fn count_slot(
     requires before_value { before ≡ obsolete_below slots (slot_at words.now) (state_at state.now) k }
     ensures { result ≡ obsolete_below slots (slot_at words.now) (state_at state.now) (k + 1) }
 {
-    let Slot::Holds(record) = record::slot_at(words, k) else {
+    let Some(record) = record::slot_at(words, k) else {
         return before;
     };
     if !permit::is_obsolete(state, record) {
@@ -64,13 +64,13 @@ fn count_slot(
     }
     let all = before.all + 1;
     if permit::may_erase(slots, words, state, chains, found, k) {
-        return Obsolete {
+        Obsolete { all, ..before }
+    } else {
+        Obsolete {
             all,
-            needed: before.needed,
-        };
+            needed: before.needed + 1,
+        }
     }
-    let needed = before.needed + 1;
-    Obsolete { all, needed }
 }
 
 // How many records are obsolete, and how many of these are needed straddlers, in one pass over the slots.
@@ -85,10 +85,8 @@ fn obsolete_records(
     ensures { result ≡ obsolete_below slots (slot_at words.now) (state_at state.now) slots }
 {
     let mut count = Obsolete { all: 0, needed: 0 };
-    let mut k = 0;
-    while k < slots {
+    for k in 0..slots {
         count = count_slot(slots, words, state, chains, found, k, count);
-        k += 1;
     }
     count
 }
@@ -101,17 +99,11 @@ fn figures_of(sizes: Sizes, words: &[u32], state: &[u32]) -> Figures
 {
     let pages = set_pages(sizes.pages, state);
     let mut chains = [0u16; 2048];
-    chain::link_slots(
-        Layout::FiveWords,
-        Key::Pointer,
-        sizes.slots,
-        words,
-        &mut chains,
-    );
-    let mut found = [0u16; 1024];
-    let count = permit::find_exposed(sizes.slots, words, state, &mut found);
-    let exposed = count as u32;
-    let obsolete = obsolete_records(sizes.slots, words, state, &chains, &found[..count]);
+    chain::link_sound_slots(Layout::FiveWords, Key::Pointer, sizes, words, &mut chains);
+    let mut found = Slots::new();
+    permit::find_exposed(sizes.slots, words, state, &mut found);
+    let exposed = found.as_slice().len() as u32;
+    let obsolete = obsolete_records(sizes.slots, words, state, &chains, found.as_slice());
     Figures {
         pages,
         obsolete: obsolete.all,
@@ -121,22 +113,23 @@ fn figures_of(sizes: Sizes, words: &[u32], state: &[u32]) -> Figures
 }
 
 // The volume recovered on a state of zeros, and counted. "A volume that doesn't recover prints its refusal".
-fn recovered_entry(sizes: Sizes, words: &[u32], contents: &[u8], state: &mut [u32]) -> Entry
+fn recovered_entry(
+    sizes: Sizes,
+    words: &[u32],
+    contents: &[u8],
+    state: &mut [u32],
+) -> Result<Figures, Refusal>
     requires { state.old ≡ replicate (4 * sizes.pages) 0 }
-    ensures { result ≡ entry_of two_widths sizes (flash words.now contents.now) }
+    ensures { comes_to result ≡ entry_of two_widths sizes (flash words.now contents.now) }
 {
-    let answer = outcome::answer_of(recovery::recover(sizes, words, contents, state));
-    if answer != 0 {
-        return Entry::Refused { answer };
-    }
-    let figures = figures_of(sizes, words, state);
-    Entry::Counted { figures }
+    recovery::recover(sizes, words, contents, state)?;
+    Ok(figures_of(sizes, words, state))
 }
 
 // What a volume comes to: recovered, and counted by the state that this gives, or refused.
-pub fn entry_of(sizes: Sizes, words: &[u32], contents: &[u8]) -> Entry
+pub fn entry_of(sizes: Sizes, words: &[u32], contents: &[u8]) -> Result<Figures, Refusal>
     requires { sizes_ok two_widths sizes ≡ true }
-    ensures { result ≡ entry_of two_widths sizes (flash words.now contents.now) }
+    ensures { comes_to result ≡ entry_of two_widths sizes (flash words.now contents.now) }
 {
     let mut state = [0u32; 1024];
     let s = 4 * (sizes.pages as usize);

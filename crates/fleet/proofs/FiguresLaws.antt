@@ -9,8 +9,8 @@ use Rattle.bounded.specs.Below.{list_below}
 use Rattle.bounded.specs.Choice.{on_lt, on_eq, on_test}
 use Rattle.bounded.specs.Members.{list_none, count_more, count_stays}
 use Rattle.record.specs.declared.Record.{Record}
-use Rattle.record.specs.declared.Slot.{Slot}
-use Rattle.record.specs.declared.Slot.TheVariants.{Blank, Holds}
+use Rattle.record.specs.Slot.{Slot}
+use Rattle.std.specs.Prelude.{None, Some}
 use Rattle.record.specs.Slot.{is_blank, holds}
 use Rattle.state.specs.declared.PageState.{PageState}
 use Rattle.state.specs.State.{is_set}
@@ -66,8 +66,8 @@ module _ (S : ℕ) (t : ℕ → Slot) (st : ℕ → PageState) where
 
   slot_parted : (s : Slot) → one (holds (is_obsolete st) s) + one (holds (is_exposed st) s) + one (holds (λ r. eqb r.v (st r.p).committed) s) ≡ one (not (is_blank s))
   unfolding holds is_blank
-  slot_parted Blank = refl
-  slot_parted (Holds r) = record_parted r
+  slot_parted None = refl
+  slot_parted (Some r) = record_parted r
 
   -- an obsolete record may be erased unless it is needed
   pub erased_unless_needed : (r : Record) → is_obsolete st r ≡ true → may_erase_record (untwinned S t st) r ≡ not (is_needed (untwinned S t st) r)
@@ -83,8 +83,8 @@ module _ (S : ℕ) (t : ℕ → Slot) (st : ℕ → PageState) where
 
   slot_needed : (s : Slot) → one (holds (is_needed_straddler S t st) s) + one (holds (λ r. is_obsolete st r && may_erase_record (untwinned S t st) r) s) ≡ one (holds (is_obsolete st) s)
   unfolding holds
-  slot_needed Blank = refl
-  slot_needed (Holds r) = needed_parted r
+  slot_needed None = refl
+  slot_needed (Some r) = needed_parted r
 
 pub figures_shown : (P S : ℕ) (t : ℕ → Slot) (st : ℕ → PageState) → FiguresShown P S t st
 unfolding figures_of set_pages slots_with

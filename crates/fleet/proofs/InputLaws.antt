@@ -17,8 +17,7 @@ use Rattle.sizes.specs.Sizes.{sizes_ok}
 use Rattle.sizes.specs.SizesLaws.{SizesFacts}
 use Rattle.sizes.proofs.SizesLaws.{sizes_facts, two_widths_exactly}
 use Rattle.record.specs.Flash.{Flash, flash}
-use Rattle.fleet.specs.declared.Entry.{Entry}
-use Rattle.fleet.specs.declared.Entry.TheVariants.{Refused}
+use Rattle.fleet.specs.Entry.{Entry, Refused}
 use Rattle.fleet.specs.Figures.{entry_of}
 use Rattle.fleet.specs.Input.{word_of, word_at, sizes_at, table_end, volume_length, flash_at, sizes_taken, is_whole, entries_if, entries_of}
 use Rattle.fleet.specs.Page.{van_page, page_lines, as_text}

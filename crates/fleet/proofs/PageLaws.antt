@@ -20,7 +20,7 @@ use Rattle.text.specs.Print.{shown, added}
 use Rattle.text.specs.PrintLaws.{decimal_room, all_put, put_ends}
 use Rattle.text.specs.Lines.{onto, lines_in}
 use Rattle.record.specs.Flash.{Flash}
-use Rattle.record.specs.declared.Slot.{Slot}
+use Rattle.record.specs.Slot.{Slot}
 use Rattle.record.specs.Slot.{slot_at, holds}
 use Rattle.state.specs.declared.PageState.{PageState}
 use Rattle.state.specs.State.{is_set}
@@ -32,8 +32,7 @@ use Rattle.rules.specs.Permission.{is_obsolete, is_exposed}
 use Rattle.rules.specs.Recover.{walk_of, committed_of, recover_answer, recover_outcome}
 use Rattle.upkeep.specs.Doubtful.{recovery_of}
 use Rattle.fleet.specs.declared.Figures.{Figures}
-use Rattle.fleet.specs.declared.Entry.{Entry}
-use Rattle.fleet.specs.declared.Entry.TheVariants.{Counted, Refused}
+use Rattle.fleet.specs.Entry.{Entry, Counted, Refused}
 use Rattle.fleet.specs.Figures.{is_needed_straddler, set_pages, slots_with, figures_of, entry_of}
 use Rattle.fleet.specs.Input.{sizes_at, volume_length, flash_at, is_whole, entries_if, entries_of}
 use Rattle.fleet.proofs.InputLaws.{whole_facts, entries_most}

@@ -4,7 +4,7 @@ use Rattle.bounded.specs.Limits.{Widths}
 use Rattle.bounded.specs.Below.{list_below}
 use Rattle.sizes.specs.declared.Sizes.{Sizes}
 use Rattle.record.specs.declared.Record.{Record}
-use Rattle.record.specs.declared.Slot.{Slot}
+use Rattle.record.specs.Slot.{Slot}
 use Rattle.record.specs.Slot.{slot_at, holds}
 use Rattle.record.specs.Flash.{Flash}
 use Rattle.state.specs.declared.PageState.{PageState}
@@ -12,8 +12,7 @@ use Rattle.state.specs.State.{state_at, is_set}
 use Rattle.rules.specs.Permission.{is_obsolete, is_exposed, is_needed, untwinned}
 use Rattle.upkeep.specs.Doubtful.{recovery_of}
 use Rattle.fleet.specs.declared.Figures.{Figures}
-use Rattle.fleet.specs.declared.Entry.{Entry}
-use Rattle.fleet.specs.declared.Entry.TheVariants.{Counted, Refused}
+use Rattle.fleet.specs.Entry.{Entry, Counted, Refused}
 
 -- "needed-straddler records": "An obsolete K is needed if …"
 unfoldable pub is_needed_straddler : (S : ℕ) → (ℕ → Slot) → (ℕ → PageState) → Record → Bool

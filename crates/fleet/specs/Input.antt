@@ -6,8 +6,7 @@ use Rattle.bounded.specs.Tabulate.{tabulate}
 use Rattle.sizes.specs.declared.Sizes.{Sizes}
 use Rattle.sizes.specs.Sizes.{sizes_of, sizes_ok}
 use Rattle.record.specs.Flash.{Flash, flash}
-use Rattle.fleet.specs.declared.Entry.{Entry}
-use Rattle.fleet.specs.declared.Entry.TheVariants.{Refused}
+use Rattle.fleet.specs.Entry.{Entry, Refused}
 use Rattle.fleet.specs.Figures.{entry_of}
 
 -- "32 bits lowest byte first"

@@ -1,3 +1,4 @@
+pub mod Entry
 pub mod Figures
 pub mod Input
 pub mod Page

@@ -3,8 +3,7 @@ use Rattle.std.specs.Prelude.{ℕ, zero, suc, ◌+◌, ◌-◌, ◌/◌, ◌%◌
 use Rattle.bounded.specs.Limits.{Widths}
 use Rattle.text.specs.Print.{decimal}
 use Rattle.fleet.specs.declared.Figures.{Figures}
-use Rattle.fleet.specs.declared.Entry.{Entry}
-use Rattle.fleet.specs.declared.Entry.TheVariants.{Counted, Refused}
+use Rattle.fleet.specs.Entry.{Entry, Counted, Refused}
 use Rattle.fleet.specs.Input.{entries_of}
 
 -- ---- what is added up

@@ -9,7 +9,7 @@ use Rattle.sizes.specs.Sizes.{sizes_ok}
 use Rattle.text.specs.Scan.{Scanned, is_digit, number}
 use Rattle.text.specs.Print.{shown, added}
 use Rattle.text.specs.Lines.{lines_in}
-use Rattle.record.specs.declared.Slot.{Slot}
+use Rattle.record.specs.Slot.{Slot}
 use Rattle.record.specs.Slot.{slot_at, is_blank, holds}
 use Rattle.record.specs.Flash.{Flash}
 use Rattle.state.specs.declared.PageState.{PageState}
@@ -18,8 +18,7 @@ use Rattle.rules.specs.Volume.{Volume}
 use Rattle.rules.specs.Recover.{recover_outcome}
 use Rattle.rules.specs.Permission.{is_obsolete, is_exposed, may_erase_record, untwinned}
 use Rattle.fleet.specs.declared.Figures.{Figures}
-use Rattle.fleet.specs.declared.Entry.{Entry}
-use Rattle.fleet.specs.declared.Entry.TheVariants.{Counted, Refused}
+use Rattle.fleet.specs.Entry.{Entry, Counted, Refused}
 use Rattle.fleet.specs.Figures.{figures_of, entry_of}
 use Rattle.fleet.specs.Input.{sizes_at, volume_length, sizes_taken, entries_of}
 use Rattle.fleet.specs.Page.{van_page}

@@ -1,2 +1,2 @@
-pub mod Bars
+pub mod Some
 pub mod Accepted

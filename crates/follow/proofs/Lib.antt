@@ -2,6 +2,6 @@ pub mod Course
 pub mod Astray
 pub mod Colours
 pub mod Links
-pub mod Codes
+pub mod Verdicts
 pub mod Ends
 pub mod WalksLaws

@@ -1,182 +1,176 @@
--- A number tells a page's walk; on the way from a start it is found; and a table of such numbers is filled from the pages that have none.
+-- An entry tells a page's walk; on the way from a start it is found; and a table of such entries is filled from the pages that have none.
 -- Over any table of verdicts: no record is mentioned.
-use Rattle.std.specs.Prelude.{ℕ, suc, ◌+◌, ◌*◌, ◌/◌, ◌%◌, ◌≤◌, ◌<◌, ◌≡◌, refl, List, true, false, eqb, get_or, set, replicate}
+use Rattle.std.specs.Prelude.{ℕ, ◌+◌, ◌≤◌, ◌<◌, ◌≡◌, refl, List, true, false, get_or, set, replicate}
 use native.Mathlib.Omega.{arith}
-use Rattle.std.proofs.Common.{sym, ◌∙◌, subst, inl, inr, length-set, get_or-set_same, get_or-set_other, eq-eqb, ne_eqb}
+use Rattle.std.proofs.Common.{sym, ◌∙◌, subst, length-set, get_or-set_same, get_or-set_other}
 use Rattle.std.proofs.Math.Path.{ap}
 use Rattle.std.proofs.lemmas.List.{length-replicate, get_or-replicate}
 use Rattle.bounded.specs.Below.{some_below}
 use Rattle.bounded.specs.BelowLaws.{some_none, some_of}
-use Rattle.bounded.specs.Choice.{on_eq, on_test}
+use Rattle.bounded.specs.Choice.{on_eq}
 use Rattle.follow.specs.declared.Verdict.{Verdict}
 use Rattle.follow.specs.declared.Verdict.TheVariants as says
 use Rattle.follow.specs.declared.End.TheVariants as ends
 use Rattle.follow.specs.declared.Walk.{Walk}
+use Rattle.follow.specs.declared.Found.{Found}
+use Rattle.follow.specs.declared.Found.TheVariants as found
 use Rattle.follow.specs.Follow.{follow, is_astray, StaysInside}
-use Rattle.follow.specs.Steps.{Leads, here, onward}
+use Rattle.follow.specs.Steps.{here, onward}
 use Rattle.follow.proofs.Course.{walk_astray, as_many}
 use Rattle.follow.proofs.Links.{walked_exactly, walked_most}
 use Rattle.follow.specs.Ends.{last_committed, last_uncommitted}
 use Rattle.follow.proofs.Ends.{ends_on, ends_led, ends_walked, ends_some, start_in_ring, ring_on, ring_follow}
-use Rattle.follow.specs.Walks.{walk_numbered, Followed, Tells, committed_end, uncommitted_end, ring_end, number_on, Known, Given, Underway, WalkFound}
+use Rattle.follow.specs.Walks.{walk_told, Followed, Tells, committed_end, uncommitted_end, ring_end, links_found, found_on, Known, HasEntry, Given, Underway, WalkFound}
 
--- ---- the walk that a number tells
+-- ---- the walk that an entry tells
 
-walk_committed : (n links kind : ℕ) → n ≡ 4 * links + kind → 1 ≤ kind → kind < 4 → walk_numbered n ≡ record { end = ends.Committed; links = links }
-unfolding walk_numbered
-walk_committed n links kind e h b =
-    let i : n / 4 ≡ links = omega arith in rw (ne_eqb (n % 4) 0 (λ z. omega arith), i)
+-- no entry tells of a walk astray
+pub never_astray : (n : Found) → is_astray (walk_told n).end ≡ false
+unfolding is_astray
+never_astray found.Nothing = refl
+never_astray (found.Committed k) = refl
+never_astray (found.Uncommitted k) = refl
+never_astray (found.Ring k) = refl
 
-walk_uncommitted : (n links : ℕ) → n ≡ 4 * links → walk_numbered n ≡ record { end = ends.Uncommitted; links = links }
-unfolding walk_numbered
-walk_uncommitted n links e =
-    let i : n / 4 ≡ links = omega arith in rw (eq-eqb (n % 4) 0 (omega arith), i)
+-- a walk is something found, and has a link
+pub some_found : {P : ℕ} {v : ℕ → Verdict} {p : ℕ} {n : Found} → Tells P v p n → ¬ (n ≡ found.Nothing)
+some_found (committed_end x i) z = let y : ◌≡◌ {A = ℕ} 0 1 = cc in omega arith
+some_found (uncommitted_end x i) z = let y : ◌≡◌ {A = ℕ} 0 1 = cc in omega arith
+some_found (ring_end r i) z = let y : ◌≡◌ {A = ℕ} 0 1 = cc in omega arith
 
--- no number tells of a walk astray
-pub never_astray : (n : ℕ) → is_astray (walk_numbered n).end ≡ false
-unfolding walk_numbered is_astray
-never_astray n = on_test (eqb (n % 4) 0) (λ e. rw e) (λ e. rw e)
-
--- a walk has a link: its number is no less than 4
-pub some_number : {P : ℕ} {v : ℕ → Verdict} {p n : ℕ} → Tells P v p n → 4 ≤ n
-some_number (committed_end x i) = let h = ends_some x in omega arith
-some_number (uncommitted_end x i) = let h = ends_some x in omega arith
-some_number (ring_end r i) = let h = r.within in omega arith
+pub some_links : {P : ℕ} {v : ℕ → Verdict} {p : ℕ} {n : Found} → Tells P v p n → 1 ≤ links_found n
+some_links (committed_end x i) = rw i (ends_some x)
+some_links (uncommitted_end x i) = rw i (ends_some x)
+some_links (ring_end r i) = rw i (let h = r.within in omega arith)
 
 module _ (P : ℕ) (v : ℕ → Verdict) (closed : StaysInside P v) (p : ℕ) (inside : p < P) where
-  -- the number is the walk,
-  pub tells_walk : {n : ℕ} → Tells P v p n → walk_numbered n ≡ follow P v p
-  tells_walk {n} (committed_end {links = k} x i) = walk_committed n k 1 i (omega arith) (omega arith) ∙ sym (walked_exactly P v p inside closed ends.Committed k (ends_walked x))
-  tells_walk {n} (uncommitted_end {links = k} x i) = walk_uncommitted n k i ∙ sym (walked_exactly P v p inside closed ends.Uncommitted k (ends_walked x))
-  tells_walk {n} (ring_end {k = k} r i) = walk_committed n k 2 i (omega arith) (omega arith) ∙ sym (ring_follow r)
+  -- the entry is the walk,
+  pub tells_walk : {n : Found} → Tells P v p n → walk_told n ≡ follow P v p
+  tells_walk (committed_end {links = k} x i) = rw i (sym (walked_exactly P v p inside closed ends.Committed k (ends_walked x)))
+  tells_walk (uncommitted_end {links = k} x i) = rw i (sym (walked_exactly P v p inside closed ends.Uncommitted k (ends_walked x)))
+  tells_walk (ring_end {k = k} r i) = rw i (sym (ring_follow r))
 
   -- of P links at the most
-  pub number_most : {n : ℕ} → Tells P v p n → n ≤ 4 * P + 2
-  number_most (committed_end {links = k} x i) = let h = walked_most P v p inside closed ends.Committed k (ends_walked x) in omega arith
-  number_most (uncommitted_end {links = k} x i) = let h = walked_most P v p inside closed ends.Uncommitted k (ends_walked x) in omega arith
-  number_most (ring_end r i) = let h = r.few in omega arith
+  pub links_most : {n : Found} → Tells P v p n → links_found n ≤ P
+  links_most (committed_end {links = k} x i) = rw i (walked_most P v p inside closed ends.Committed k (ends_walked x))
+  links_most (uncommitted_end {links = k} x i) = rw i (walked_most P v p inside closed ends.Uncommitted k (ends_walked x))
+  links_most (ring_end r i) = rw i (r.few)
 
 module _ {P : ℕ} {v : ℕ → Verdict} where
-  -- the links that lead to a page with an end are counted before its own
-  pub tells_led : {start k q n : ℕ} → Leads v start k q → Tells P v q n → ¬ (n % 4 ≡ 2) → Tells P v start (4 * k + n)
-  tells_led l (committed_end x i) d = committed_end (ends_led l x) (omega arith)
-  tells_led l (uncommitted_end x i) d = uncommitted_end (ends_led l x) (omega arith)
-  tells_led l (ring_end r i) d = absurd (d (omega arith))
-
-  -- the number of the page that its link leads to
-  pub tells_on : {p q n : ℕ} → v p ≡ says.On q → Tells P v p n → Tells P v q (number_on n)
-  unfolding number_on
-  tells_on {n = n} f (committed_end x i) =
-      let w = ends_on f x in
+  -- what is found of the page that its link leads to
+  pub tells_on : {p q : ℕ} {n : Found} → v p ≡ says.On q → Tells P v p n → Tells P v q (found_on n)
+  tells_on f (committed_end x i) = let w = ends_on f x in
       let h = w.1 in
-      rw (ne_eqb (n % 4) 2 (λ z. omega arith)) (committed_end w.2 (omega arith))
-  tells_on {n = n} f (uncommitted_end x i) =
-      let w = ends_on f x in
+      rw i (committed_end w.2 (ap found.Committed (omega arith)))
+  tells_on f (uncommitted_end x i) = let w = ends_on f x in
       let h = w.1 in
-      rw (ne_eqb (n % 4) 2 (λ z. omega arith)) (uncommitted_end w.2 (omega arith))
-  tells_on {q = q} {n = n} f (ring_end r i) = rw (eq-eqb (n % 4) 2 (omega arith)) (ring_end (ring_on r q f) i)
+      rw i (uncommitted_end w.2 (ap found.Uncommitted (omega arith)))
+  tells_on {q = q} f (ring_end r i) = rw i (ring_end (ring_on r q f) refl)
 
 -- ---- on the way from a start
 
 module _ {P : ℕ} {v : ℕ → Verdict} {start : ℕ} where
-  pub walk_found : {n : ℕ} → Tells P v start n → WalkFound P v start n
-  walk_found t = record { astray = λ z. absurd (let s = some_number t in omega arith); tells = λ s. t }
+  pub walk_found : {n : Found} → Tells P v start n → WalkFound P v start n
+  walk_found t = record { astray = λ z. absurd (some_found t z); tells = λ s. t }
 
   pub at_start : start < P → Underway P v start start 0
-  at_start h = record { inside = h; fours = omega arith; few = omega arith; leads = as_many here (omega arith) }
+  at_start h = record { inside = h; leads = here }
 
-  module _ {page number : ℕ} (way : Underway P v start page number) where
-    open way use {inside, fours, few, leads}
+  module _ {page before : ℕ} (way : Underway P v start page before) where
+    open way use {inside, leads}
 
     -- the page's verdict decides,
-    pub found_committed : v page ≡ says.Committed → WalkFound P v start (number + 4 + 1)
-    found_committed e = walk_found (committed_end (ends_led leads (last_committed e)) (let f = fours in omega arith))
+    pub found_committed : v page ≡ says.Committed → WalkFound P v start (found.Committed (before + 1))
+    found_committed e = walk_found (committed_end (ends_led leads (last_committed e)) refl)
 
-    pub found_uncommitted : v page ≡ says.Uncommitted → WalkFound P v start (number + 4)
-    found_uncommitted e = walk_found (uncommitted_end (ends_led leads (last_uncommitted e)) (let f = fours in omega arith))
+    pub found_uncommitted : v page ≡ says.Uncommitted → WalkFound P v start (found.Uncommitted (before + 1))
+    found_uncommitted e = walk_found (uncommitted_end (ends_led leads (last_uncommitted e)) refl)
 
     -- "Back at the start: committed.",
-    pub found_ring : start < P → StaysInside P v → v page ≡ says.On start → WalkFound P v start (number + 4 + 2)
-    found_ring h closed e = walk_found (ring_end (start_in_ring leads e P h closed) (let f = fours in omega arith))
+    pub found_ring : start < P → StaysInside P v → v page ≡ says.On start → WalkFound P v start (found.Ring (before + 1))
+    found_ring h closed e = walk_found (ring_end (start_in_ring leads e P h closed) (ap found.Ring (omega arith)))
 
     -- or it goes on at a page:
     module _ {next : ℕ} (on : v page ≡ says.On next) (past : ¬ (next ≡ start)) where
       -- the page has an end,
-      pub found_known : {known : ℕ} → Tells P v next known → ¬ (known % 4 ≡ 2) → WalkFound P v start (number + 4 + known)
-      found_known {known} t d =
-          walk_found (subst (λ (n : ℕ). Tells P v start n) (let f = fours in let e : 4 * suc (number / 4) + known ≡ number + 4 + known = omega arith in e) (tells_led (onward leads on past) t d))
+      pub found_known_committed : {rest : ℕ} → Tells P v next (found.Committed rest) → WalkFound P v start (found.Committed (before + 1 + rest))
+      found_known_committed {rest} (committed_end {links = k} x i) = let e : k ≡ rest = cc in walk_found (committed_end (ends_led (onward leads on past) x) (ap found.Committed (omega arith)))
+      found_known_committed {rest} (uncommitted_end x i) = absurd (let z : ◌≡◌ {A = ℕ} 0 1 = cc in omega arith)
+      found_known_committed {rest} (ring_end x i) = absurd (let z : ◌≡◌ {A = ℕ} 0 1 = cc in omega arith)
+
+      pub found_known_uncommitted : {rest : ℕ} → Tells P v next (found.Uncommitted rest) → WalkFound P v start (found.Uncommitted (before + 1 + rest))
+      found_known_uncommitted {rest} (committed_end x i) = absurd (let z : ◌≡◌ {A = ℕ} 0 1 = cc in omega arith)
+      found_known_uncommitted {rest} (uncommitted_end {links = k} x i) = let e : k ≡ rest = cc in walk_found (uncommitted_end (ends_led (onward leads on past) x) (ap found.Uncommitted (omega arith)))
+      found_known_uncommitted {rest} (ring_end x i) = absurd (let z : ◌≡◌ {A = ℕ} 0 1 = cc in omega arith)
 
       -- or the way goes on there,
-      pub one_link_on : StaysInside P v → number < 4 * P → Underway P v start next (number + 4)
-      one_link_on closed h = let f = fours in record {
-        inside = closed page next inside on;
-        fours = omega arith;
-        few = omega arith;
-        leads = as_many (onward leads on past) (omega arith);
-      }
+      pub one_link_on : StaysInside P v → Underway P v start next (before + 1)
+      one_link_on closed = record { inside = closed page next inside on; leads = as_many (onward leads on past) (omega arith) }
 
-    -- until P links are followed: "the links run into a ring that lacks the start".
-    pub found_astray : 4 * P ≤ number → WalkFound P v start 0
-    unfolding follow
-    found_astray h = record {
-      astray = λ z. ap (λ (w : Walk). w.end) (walk_astray (as_many leads (let f = few in let e : number / 4 ≡ P = omega arith in e)));
-      tells = λ s. absurd (omega arith);
-    }
+  -- until P links are followed: "the links run into a ring that lacks the start".
+  pub found_astray : {page : ℕ} → Underway P v start page P → WalkFound P v start found.Nothing
+  unfolding follow
+  found_astray way = record { astray = λ z. ap (λ (w : Walk). w.end) (walk_astray way.leads); tells = λ s. absurd (s refl) }
 
 -- ---- the table, page by page
 
 module _ {P : ℕ} {v : ℕ → Verdict} where
   -- before any page
-  pub nothing_known : (N : ℕ) → N ≡ 256 → P ≤ N → Known P v (replicate N 0)
+  pub nothing_known : (N : ℕ) → N ≡ 256 → P ≤ N → Known P v (replicate N found.Nothing)
   nothing_known N e few =
-      record { sized = length-replicate N 0 ∙ e; entry = λ p h. inl (get_or-replicate N p 0 0 (omega arith)) }
+      record { sized = length-replicate N found.Nothing ∙ e; entry = λ p h s. absurd (s (get_or-replicate N p found.Nothing found.Nothing (omega arith))) }
 
-  module _ {walks : List ℕ} (known : Known P v walks) where
-    pub entry_tells : {p n : ℕ} → p < P → n ≡ get_or walks p 0 → 0 < n → Tells P v p n
-    entry_tells {p} h e some =
-        elim (known.entry p h) [ inl z ↦ absurd (omega arith) | inr t ↦ subst (λ (x : ℕ). Tells P v p x) (sym e) t ]
+  module _ {walks : List Found} (known : Known P v walks) where
+    pub entry_tells : {p : ℕ} {n : Found} → p < P → get_or walks p found.Nothing ≡ n → ¬ (n ≡ found.Nothing) → Tells P v p n
+    entry_tells {p} h e s = subst (λ (x : Found). Tells P v p x) e (known.entry p h (λ z. s (sym e ∙ z)))
+
+    pub committed_known : {p k : ℕ} → p < P → get_or walks p found.Nothing ≡ found.Committed k → Tells P v p (found.Committed k)
+    committed_known h e = entry_tells h e (λ z. let y : ◌≡◌ {A = ℕ} 0 1 = cc z in omega arith)
+
+    pub uncommitted_known : {p k : ℕ} → p < P → get_or walks p found.Nothing ≡ found.Uncommitted k → Tells P v p (found.Uncommitted k)
+    uncommitted_known h e = entry_tells h e (λ z. let y : ◌≡◌ {A = ℕ} 0 1 = cc z in omega arith)
 
     -- a page has its walk already,
-    pub already_given : {p : ℕ} → 0 < get_or walks p 0 → Given P v p walks walks
+    pub already_given : {p : ℕ} → HasEntry walks p → Given P v p walks walks
     already_given h = record { known = known; has = h; keeps = λ p b. b }
 
     -- or it is stored,
-    pub walk_stored : {q n : ℕ} → q < 256 → Tells P v q n → Given P v q walks (set walks q n)
+    pub walk_stored : {q : ℕ} {n : Found} → q < 256 → Tells P v q n → Given P v q walks (set walks q n)
     walk_stored {q} {n} h t =
         record {
           known =
               record {
                 sized = length-set walks q n ∙ known.sized;
-                entry = λ p b. on_eq p q (λ s. inr (rw (s, same) t)) (λ d. rw (other p d) (known.entry p b));
+                entry = λ p b m. on_eq p q (λ s. rw (s, same) t) (λ d. rw (other p d) (known.entry p b (λ z. m (other p d ∙ z))));
               };
           has = some;
           keeps = λ p b. on_eq p q (λ s. rw s some) (λ d. rw (other p d) b);
         }
       where
-        same : get_or (set walks q n) q 0 ≡ n
-        same = let e = known.sized in get_or-set_same walks q n 0 (omega arith)
+        same : get_or (set walks q n) q found.Nothing ≡ n
+        same = let e = known.sized in get_or-set_same walks q n found.Nothing (omega arith)
 
-        other : (p : ℕ) → ¬ (p ≡ q) → get_or (set walks q n) p 0 ≡ get_or walks p 0
-        other p d = get_or-set_other walks q p n 0 d
+        other : (p : ℕ) → ¬ (p ≡ q) → get_or (set walks q n) p found.Nothing ≡ get_or walks p found.Nothing
+        other p d = get_or-set_other walks q p n found.Nothing d
 
-        some : 0 < get_or (set walks q n) q 0
-        some = rw same (let s = some_number t in omega arith)
+        some : HasEntry (set walks q n) q
+        some z = some_found t (sym same ∙ z)
 
   -- and then another page's.
-  pub given_then : {p q : ℕ} {first second third : List ℕ} → Given P v p first second → Given P v q second third → Given P v p first third
+  pub given_then : {p q : ℕ} {first second third : List Found} → Given P v p first second → Given P v q second third → Given P v p first third
   given_then {p} a b =
       record { known = b.known; has = b.keeps p a.has; keeps = λ r h. b.keeps r (a.keeps r h) }
 
   -- A table with an entry for each page has every walk,
-  pub all_followed : {walks : List ℕ} → StaysInside P v → Known P v walks → ((p : ℕ) → p < P → 0 < get_or walks p 0) → Followed P v walks
+  pub all_followed : {walks : List Found} → StaysInside P v → Known P v walks → ((p : ℕ) → p < P → HasEntry walks p) → Followed P v walks
   all_followed closed known has =
-      record { each = λ p h. tells_walk P v closed p h (entry_tells known h refl (has p h)) }
+      record { each = λ p h. tells_walk P v closed p h (known.entry p h (has p h)) }
 
   -- and then none is astray.
-  pub none_astray : {walks : List ℕ} → Followed P v walks → some_below P (λ p. is_astray (follow P v p).end) ≡ false
+  pub none_astray : {walks : List Found} → Followed P v walks → some_below P (λ p. is_astray (follow P v p).end) ≡ false
   none_astray {walks} all =
       some_none (λ p. is_astray (follow P v p).end) P
-      (λ p h. ap (λ (w : Walk). is_astray w.end) (sym (all.each p h)) ∙ never_astray (get_or walks p 0))
+      (λ p h. ap (λ (w : Walk). is_astray w.end) (sym (all.each p h)) ∙ never_astray (get_or walks p found.Nothing))
 
 -- One walk astray is some.
 pub some_astray : (P : ℕ) (v : ℕ → Verdict) (p : ℕ) → p < P → (follow P v p).end ≡ ends.Astray → some_below P (λ q. is_astray (follow P v q).end) ≡ true

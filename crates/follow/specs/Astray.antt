@@ -1,7 +1,7 @@
 -- Astray is exactly "the links run into a ring that lacks the start", and P links are enough.
-use Rattle.std.specs.Prelude.{ℕ, ◌+◌, ◌-◌, ◌≤◌}
+use Rattle.std.specs.Prelude.{ℕ, ◌+◌, ◌≤◌}
 use Rattle.follow.specs.declared.Verdict.{Verdict}
-use Rattle.follow.specs.Steps.{Leads, back}
+use Rattle.follow.specs.Steps.{Leads}
 
 module _ (v : ℕ → Verdict) (start : ℕ) where
   -- "the links run into a ring that lacks the start": after some links, and again after some more around, they are at the same page, and never back at the start

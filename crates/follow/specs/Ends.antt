@@ -1,6 +1,6 @@
 -- Where a page's links lead, whatever the start: so many links on they end in a verdict that is not an on, or the page is in a ring.
 -- Over any table of verdicts: no record is mentioned.
-use Rattle.std.specs.Prelude.{ℕ, suc, ◌-◌, ◌≤◌, ◌<◌, ◌≡◌}
+use Rattle.std.specs.Prelude.{ℕ, suc, ◌≤◌, ◌<◌, ◌≡◌}
 use Rattle.follow.specs.declared.Verdict.{Verdict}
 use Rattle.follow.specs.declared.Verdict.TheVariants as says
 use Rattle.follow.specs.declared.End.{End}

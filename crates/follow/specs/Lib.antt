@@ -1,6 +1,6 @@
 pub mod Follow
 pub mod Steps
 pub mod Astray
-pub mod Codes
+pub mod Verdicts
 pub mod Ends
 pub mod Walks

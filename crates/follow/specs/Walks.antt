@@ -1,56 +1,72 @@
--- Every page's walk found once: a number for each page in a table, and what is known of the table while it is filled.
-use Rattle.std.specs.Prelude.{ℕ, ◌+◌, ◌*◌, ◌-◌, ◌/◌, ◌%◌, ◌≤◌, ◌<◌, ◌≡◌, ◌⊎◌, List, cond, eqb, length, get_or}
+-- Every page's walk found once: an entry for each page in a table, and what is known of the table while it is filled.
+use Rattle.std.specs.Prelude.{ℕ, ◌-◌, ◌<◌, ◌≡◌, List, length, get_or}
 use Rattle.follow.specs.declared.Verdict.{Verdict}
 use Rattle.follow.specs.declared.End.TheVariants as ends
 use Rattle.follow.specs.declared.Walk.{Walk}
+use Rattle.follow.specs.declared.Found.{Found}
+use Rattle.follow.specs.declared.Found.TheVariants as found
 use Rattle.follow.specs.Follow.{follow}
 use Rattle.follow.specs.Steps.{Leads}
 use Rattle.follow.specs.Ends.{Ends, InRing}
 
--- a page's walk as one number, so that a table of walks fits an array: 4 for each link, and what it ends in: 0 uncommitted, 1 committed by a verdict,
--- 2 back at the start, committed
-unfoldable pub walk_numbered : ℕ → Walk
-walk_numbered n = record { end = cond (eqb (n % 4) 0) ends.Uncommitted ends.Committed; links = n / 4 }
+-- the walk that is found: back at the start is committed
+abbrev pub walk_told : Found → Walk
+walk_told found.Nothing = record { end = ends.Uncommitted; links = 0 }
+walk_told (found.Committed links) = record { end = ends.Committed; links = links }
+walk_told (found.Uncommitted links) = record { end = ends.Uncommitted; links = links }
+walk_told (found.Ring pages) = record { end = ends.Committed; links = pages }
 
 -- each of P pages has its walk in the table
-pub record Followed (P : ℕ) (v : ℕ → Verdict) (walks : List ℕ) : Type 0 where
-  pub each : (p : ℕ) → p < P → walk_numbered (get_or walks p 0) ≡ follow P v p
+pub record Followed (P : ℕ) (v : ℕ → Verdict) (walks : List Found) : Type 0 where
+  pub each : (p : ℕ) → p < P → walk_told (get_or walks p found.Nothing) ≡ follow P v p
 
 -- ---- the table while it is filled
 
--- the number n is page p's walk: to an end so many links on, or round a ring
-pub data Tells (P : ℕ) (v : ℕ → Verdict) (p n : ℕ) : Type 0 where
-  committed_end : {links : ℕ} → Ends v p ends.Committed links → n ≡ 4 * links + 1 → Tells P v p n
-  uncommitted_end : {links : ℕ} → Ends v p ends.Uncommitted links → n ≡ 4 * links → Tells P v p n
-  ring_end : {k : ℕ} → InRing P v p k → n ≡ 4 * k + 2 → Tells P v p n
+-- this is page p's walk: to an end so many links on, or round a ring
+pub data Tells (P : ℕ) (v : ℕ → Verdict) (p : ℕ) (n : Found) : Type 0 where
+  committed_end : {links : ℕ} → Ends v p ends.Committed links → n ≡ found.Committed links → Tells P v p n
+  uncommitted_end : {links : ℕ} → Ends v p ends.Uncommitted links → n ≡ found.Uncommitted links → Tells P v p n
+  ring_end : {k : ℕ} → InRing P v p k → n ≡ found.Ring k → Tells P v p n
 
--- the number of the page that a page's link leads to: one link less, or the same ring
-unfoldable pub number_on : ℕ → ℕ
-number_on n = cond (eqb (n % 4) 2) n (n - 4)
+-- how many links, or pages of a ring
+abbrev pub links_found : Found → ℕ
+links_found found.Nothing = 0
+links_found (found.Committed links) = links
+links_found (found.Uncommitted links) = links
+links_found (found.Ring pages) = pages
 
--- each of P pages has the entry 0, nothing yet, or its walk
-pub record Known (P : ℕ) (v : ℕ → Verdict) (walks : List ℕ) : Type 0 where
+-- what is found of the page that a page's link leads to: one link less, or the same ring
+abbrev pub found_on : Found → Found
+found_on found.Nothing = found.Nothing
+found_on (found.Committed links) = found.Committed (links - 1)
+found_on (found.Uncommitted links) = found.Uncommitted (links - 1)
+found_on (found.Ring pages) = found.Ring pages
+
+-- page p has an entry
+abbrev pub HasEntry : List Found → ℕ → Type 0
+HasEntry walks p = ¬ (get_or walks p found.Nothing ≡ found.Nothing)
+
+-- each of P pages has no entry yet, or its walk
+pub record Known (P : ℕ) (v : ℕ → Verdict) (walks : List Found) : Type 0 where
   pub sized : length walks ≡ 256
-  pub entry : (p : ℕ) → p < P → (get_or walks p 0 ≡ 0) ⊎ Tells P v p (get_or walks p 0)
+  pub entry : (p : ℕ) → p < P → HasEntry walks p → Tells P v p (get_or walks p found.Nothing)
 
 -- what has an entry keeps one
-abbrev pub Keeps : List ℕ → List ℕ → Type 0
-Keeps before after = (p : ℕ) → 0 < get_or before p 0 → 0 < get_or after p 0
+abbrev pub Keeps : List Found → List Found → Type 0
+Keeps before after = (p : ℕ) → HasEntry before p → HasEntry after p
 
 -- the table is known, page p has an entry, and so has each that had one
-pub record Given (P : ℕ) (v : ℕ → Verdict) (p : ℕ) (before after : List ℕ) : Type 0 where
+pub record Given (P : ℕ) (v : ℕ → Verdict) (p : ℕ) (before after : List Found) : Type 0 where
   pub known : Known P v after
-  pub has : 0 < get_or after p 0
+  pub has : HasEntry after p
   pub keeps : Keeps before after
 
--- on the way from a start, now at a page below P, with 4 for each link followed
-pub record Underway (P : ℕ) (v : ℕ → Verdict) (start page number : ℕ) : Type 0 where
+-- on the way from a start, now at a page below P, so many links on
+pub record Underway (P : ℕ) (v : ℕ → Verdict) (start page links : ℕ) : Type 0 where
   pub inside : page < P
-  pub fours : number % 4 ≡ 0
-  pub few : number ≤ 4 * P
-  pub leads : Leads v start (number / 4) page
+  pub leads : Leads v start links page
 
--- what is found of a start: 0 where its links run astray, else its walk
-pub record WalkFound (P : ℕ) (v : ℕ → Verdict) (start n : ℕ) : Type 0 where
-  pub astray : n ≡ 0 → (follow P v start).end ≡ ends.Astray
-  pub tells : 0 < n → Tells P v start n
+-- what is found of a start: nothing where its links run astray, else its walk
+pub record WalkFound (P : ℕ) (v : ℕ → Verdict) (start : ℕ) (n : Found) : Type 0 where
+  pub astray : n ≡ found.Nothing → (follow P v start).end ≡ ends.Astray
+  pub tells : ¬ (n ≡ found.Nothing) → Tells P v start n

@@ -1,19 +1,20 @@
 // Following links over a table of verdicts, every page's walk found once: no record is mentioned. The definitions are in specs/.
 #![tactic(auto)]
 
-ghost use Rattle.std.specs.Prelude.{◌≡◌, true, false, ◌≤◌, ◌<◌, get_or};
+ghost use Rattle.std.specs.Prelude.{◌≡◌, true, false, ◌≤◌, ◌<◌};
 ghost use Rattle.bounded.specs.Below.{some_below};
 ghost use Rattle.follow.specs.declared.End.TheVariants as ends;
 ghost use Rattle.follow.specs.Follow.{follow, is_astray, StaysInside};
-ghost use Rattle.follow.specs.Codes.{code_of, of_code, coded};
-ghost use Rattle.follow.specs.Walks.{walk_numbered, Followed, number_on, Tells, Known, Given, WalkFound};
+ghost use Rattle.follow.specs.Verdicts.{listed};
+ghost use Rattle.follow.specs.Walks.{walk_told, Followed, links_found, found_on, Tells, Known, Given, WalkFound};
 
-// What one link says: the start is committed, it is uncommitted, or go on at a page's highest record.
+// What one link says: the start is committed, it is uncommitted, or go on at a page's highest record. A page fits a byte, so that a table of verdicts takes 512
+// bytes of the stack that a call may use.
 #[derive(Clone, Copy)]
 pub enum Verdict {
     Committed,
     Uncommitted,
-    On(u32),
+    On(u8),
 }
 
 // Where following the links from a page ends.
@@ -32,173 +33,139 @@ pub struct Walk {
     pub links: u32,
 }
 
-impl Verdict {
-    // The verdict as one number: a page, 256 for committed, 257 for uncommitted.
-    pub fn code(self) -> u32
-        ensures { result ≡ code_of self }
+// What is found of a page: nothing yet, or so many links, 256 at the most, lead to a verdict that ends its walk, or it is in a ring of so many pages.
+// Kept without an Option, which takes six bytes for each page and not four: recovery of one ring then takes 2 % more instructions.
+#[derive(Clone, Copy)]
+pub enum Found {
+    Nothing,
+    Committed(u16),
+    Uncommitted(u16),
+    Ring(u16),
+}
+
+impl Found {
+    // What is found of the page that a page's link leads to, by its own: one link less to the same end, or the same ring.
+    fn on(self) -> Found
+        requires { 1 ≤ links_found self }
+        ensures { result ≡ found_on self }
     {
         match self {
-            Verdict::On(page) => page,
-            Verdict::Committed => 256,
-            Verdict::Uncommitted => 257,
+            Found::Committed(links) => Found::Committed(links - 1),
+            Found::Uncommitted(links) => Found::Uncommitted(links - 1),
+            Found::Ring(_) | Found::Nothing => self,
         }
     }
 
-    pub fn of_code(code: u32) -> Verdict
-        ensures { result ≡ of_code code }
+    // The walk that it tells.
+    pub fn walk(self) -> Walk
+        ensures { result ≡ walk_told self }
     {
-        if code == 256 {
-            return Verdict::Committed;
-        }
-        if code == 257 {
-            return Verdict::Uncommitted;
-        }
-        Verdict::On(code)
-    }
-}
-
-// The walk that a number of the table tells.
-pub fn walk_numbered(number: u32) -> Walk
-    ensures { result ≡ walk_numbered number }
-{
-    let links = number / 4;
-    if number % 4 == 0 {
-        return Walk {
-            end: End::Uncommitted,
-            links,
+        let (end, links) = match self {
+            Found::Committed(links) | Found::Ring(links) => (End::Committed, links),
+            Found::Uncommitted(links) => (End::Uncommitted, links),
+            Found::Nothing => (End::Uncommitted, 0),
         };
+        Walk {
+            end,
+            links: links as u32,
+        }
     }
-    Walk {
-        end: End::Committed,
-        links,
-    }
 }
 
-// The page's verdict in a table of codes.
-fn verdict_at(codes: &[u32; 256], page: u32) -> Verdict
-    requires { page < 256 }
-    ensures { result ≡ coded codes.now page }
-{
-    Verdict::of_code(codes[page as usize])
-}
-
-// The page's entry in a table of walks.
-fn number_at(walks: &[u32; 256], page: u32) -> u32
-    requires { page < 256 }
-    ensures { result ≡ get_or walks.now page 0 }
-{
-    walks[page as usize]
-}
-
-// The number of the page that a page's link leads to, by its own: one link less to the same end, or the same ring.
-fn number_on(number: u32) -> u32
-    requires { 4 ≤ number }
-    ensures { result ≡ number_on number }
-{
-    if number % 4 == 2 {
-        return number;
-    }
-    number - 4
-}
-
-// The start's walk as a number, or 0 where its links run astray: they are followed up to a verdict that is not an on, a page whose end is known, or back
+// What is found of the start, or nothing where its links run astray: they are followed up to a verdict that is not an on, a page whose end is known, or back
 // to the start. A known ring met on the way lacks the start, and going round it uses up the links.
-fn find_walk(codes: &[u32; 256], pages: u32, walks: &[u32; 256], start: u32) -> u32
+fn find_walk(verdicts: &[Verdict; 256], pages: u32, walks: &[Found; 256], start: u32) -> Found
     requires pages_bound { pages ≤ 256 }
     requires start_lt_pages { start < pages }
-    requires stays_inside { StaysInside pages (coded codes.now) }
-    requires known { Known pages (coded codes.now) walks.now }
-    ensures { WalkFound pages (coded codes.now) start result }
+    requires stays_inside { StaysInside pages (listed verdicts.now) }
+    requires known { Known pages (listed verdicts.now) walks.now }
+    ensures { WalkFound pages (listed verdicts.now) start result }
 {
+    let start = start as usize;
     let mut page = start;
-    let mut number = 0;
-    while number < 4 * pages {
-        number += 4;
-        match verdict_at(codes, page) {
-            Verdict::Committed => {
-                return number + 1;
-            }
-            Verdict::Uncommitted => {
-                return number;
-            }
-            Verdict::On(next) => {
-                if next == start {
-                    return number + 2;
-                }
-                let known = number_at(walks, next);
-                if known > 0 {
-                    if known % 4 != 2 {
-                        return number + known;
-                    }
-                }
-                page = next;
-            }
+    for before in 0..pages {
+        let links = before as u16 + 1;
+        let next = match verdicts[page] {
+            Verdict::Committed => return Found::Committed(links),
+            Verdict::Uncommitted => return Found::Uncommitted(links),
+            Verdict::On(next) => next as usize,
+        };
+        if next == start {
+            return Found::Ring(links);
+        }
+        let known = walks[next];
+        match known {
+            Found::Committed(rest) => return Found::Committed(links + rest),
+            Found::Uncommitted(rest) => return Found::Uncommitted(links + rest),
+            Found::Ring(_) | Found::Nothing => page = next,
         }
     }
-    0
+    Found::Nothing
 }
 
-// Stores the start's walk, and those of the pages that its links lead to, up to one that has its walk.
-fn give_walks(codes: &[u32; 256], pages: u32, walks: &mut [u32; 256], start: u32, number: u32)
+// Stores what is found of the start, and of the pages that its links lead to, up to one that has its entry.
+fn give_walks(
+    verdicts: &[Verdict; 256],
+    pages: u32,
+    walks: &mut [Found; 256],
+    start: u32,
+    found: Found,
+)
     requires pages_bound { pages ≤ 256 }
     requires start_lt_pages { start < pages }
-    requires stays_inside { StaysInside pages (coded codes.now) }
-    requires known { Known pages (coded codes.now) walks.old }
-    requires tells { Tells pages (coded codes.now) start number }
-    ensures { Given pages (coded codes.now) start walks.old walks.new }
+    requires stays_inside { StaysInside pages (listed verdicts.now) }
+    requires known { Known pages (listed verdicts.now) walks.old }
+    requires tells { Tells pages (listed verdicts.now) start found }
+    ensures { Given pages (listed verdicts.now) start walks.old walks.new }
 {
-    walks[start as usize] = number;
-    let mut page = start;
-    let mut own = number;
-    let mut given = 1;
-    while given < pages {
-        let Verdict::On(next) = verdict_at(codes, page) else {
+    let mut page = start as usize;
+    let mut own = found;
+    walks[page] = own;
+    for _ in 1..pages {
+        let Verdict::On(next) = verdicts[page] else {
             return;
         };
-        if number_at(walks, next) > 0 {
+        page = next as usize;
+        let Found::Nothing = walks[page] else {
             return;
-        }
-        own = number_on(own);
-        walks[next as usize] = own;
-        page = next;
-        given += 1;
+        };
+        own = own.on();
+        walks[page] = own;
     }
 }
 
 // The page has its walk in the table, and so have the pages found on the way; says whether its links run astray.
-fn follow_page(codes: &[u32; 256], pages: u32, walks: &mut [u32; 256], page: u32) -> bool
+fn follow_page(verdicts: &[Verdict; 256], pages: u32, walks: &mut [Found; 256], page: u32) -> bool
     requires pages_bound { pages ≤ 256 }
     requires page_lt_pages { page < pages }
-    requires stays_inside { StaysInside pages (coded codes.now) }
-    requires known { Known pages (coded codes.now) walks.old }
-    ensures page_value { result ≡ true → (follow pages (coded codes.now) page).end ≡ ends.Astray }
-    ensures given { result ≡ false → Given pages (coded codes.now) page walks.old walks.new }
+    requires stays_inside { StaysInside pages (listed verdicts.now) }
+    requires known { Known pages (listed verdicts.now) walks.old }
+    ensures page_value { result ≡ true → (follow pages (listed verdicts.now) page).end ≡ ends.Astray }
+    ensures given { result ≡ false → Given pages (listed verdicts.now) page walks.old walks.new }
 {
-    if number_at(walks, page) > 0 {
+    let Found::Nothing = walks[page as usize] else {
         return false;
-    }
-    let number = find_walk(codes, pages, walks, page);
-    if number == 0 {
+    };
+    let found = find_walk(verdicts, pages, walks, page);
+    if let Found::Nothing = found {
         return true;
     }
-    give_walks(codes, pages, walks, page, number);
+    give_walks(verdicts, pages, walks, page, found);
     false
 }
 
 // Every page's walk, where none runs astray: each page is walked at most twice. Says whether some page's links run astray.
-pub fn follow_all(codes: &[u32; 256], pages: u32, walks: &mut [u32; 256]) -> bool
+pub fn follow_all(verdicts: &[Verdict; 256], pages: u32, walks: &mut [Found; 256]) -> bool
     requires pages_bound { pages ≤ 256 }
-    requires stays_inside { StaysInside pages (coded codes.now) }
-    ensures astray { result ≡ some_below pages (λ p. is_astray (follow pages (coded codes.now) p).end) }
-    ensures followed { result ≡ false → Followed pages (coded codes.now) walks.new }
+    requires stays_inside { StaysInside pages (listed verdicts.now) }
+    ensures astray { result ≡ some_below pages (λ p. is_astray (follow pages (listed verdicts.now) p).end) }
+    ensures followed { result ≡ false → Followed pages (listed verdicts.now) walks.new }
 {
-    *walks = [0; 256];
-    let mut page = 0;
-    while page < pages {
-        if follow_page(codes, pages, walks, page) {
+    *walks = [Found::Nothing; 256];
+    for page in 0..pages {
+        if follow_page(verdicts, pages, walks, page) {
             return true;
         }
-        page += 1;
     }
     false
 }

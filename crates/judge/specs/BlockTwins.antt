@@ -9,7 +9,7 @@ use Rattle.bounded.specs.Below.{some_below}
 use Rattle.bounded.specs.BelowLaws.{some_of, some_at, some_none}
 use Rattle.bounded.specs.Passing.{end_le}
 use Rattle.record.specs.declared.Record.{Record}
-use Rattle.record.specs.declared.Slot.TheVariants.{Holds}
+use Rattle.std.specs.Prelude.{Some}
 use Rattle.record.specs.Slot.{slot_at}
 use Rattle.record.specs.Flash.{Flash}
 use Rattle.table.proofs.TableLaws.{holds_of}
@@ -34,11 +34,11 @@ module _ (w : ℕ) (f : Flash) (inside : ℕ → Bool) (k : ℕ) where
       (λ e. let p = some_at (λ j. inside j && twins w f j k) k e in
       some_of lower_twin n p.0 (let l = p.1 in omega arith) (both (lt-ltb p.0 k p.1) p.2))
 
-  pub lower_in_chain : {r : Record} → slot_at f.words k ≡ Holds r → (j : ℕ) → lower_twin j ≡ true → in_chain Pointer (slot_at f.words) (chain_of Pointer r) j ≡ true
+  pub lower_in_chain : {r : Record} → slot_at f.words k ≡ Some r → (j : ℕ) → lower_twin j ≡ true → in_chain Pointer (slot_at f.words) (chain_of Pointer r) j ≡ true
   lower_in_chain e j t = twin_in_chain w f j k e (both_right (inside j) (twins w f j k) (both_right (ltb j k) (inside j && twins w f j k) t))
 
   -- the search begins at the slot's entry
-  pub lower_begins : (S : ℕ) (chains : List ℕ) → Chained Pointer S (slot_at f.words) chains → k < S → {r : Record} → slot_at f.words k ≡ Holds r → Left Pointer S (slot_at f.words) (chain_of Pointer r) lower_twin (get_or chains (max_chains + k) 0)
+  pub lower_begins : (S : ℕ) (chains : List ℕ) → Chained Pointer S (slot_at f.words) chains → k < S → {r : Record} → slot_at f.words k ≡ Some r → Left Pointer S (slot_at f.words) (chain_of Pointer r) lower_twin (get_or chains (max_chains + k) 0)
   unfolding in_chain
   lower_begins S chains c h {r} e =
       search_goes_on S (slot_at f.words) chains c (chain_of Pointer r) lower_twin (lower_in_chain e) (k + 1) k
@@ -51,7 +51,7 @@ module _ (w : ℕ) (f : Flash) (inside : ℕ → Bool) (k : ℕ) where
       (rw (le-ltb k k (omega arith)))
 
   -- which is not above the slot,
-  pub lower_entry : (S : ℕ) (chains : List ℕ) → Chained Pointer S (slot_at f.words) chains → k < S → {r : Record} → slot_at f.words k ≡ Holds r → get_or chains (max_chains + k) 0 ≤ k
+  pub lower_entry : (S : ℕ) (chains : List ℕ) → Chained Pointer S (slot_at f.words) chains → k < S → {r : Record} → slot_at f.words k ≡ Some r → get_or chains (max_chains + k) 0 ≤ k
   lower_entry S chains c h {r} e = let q = c.slot_entry k r h e in let l = end_le (in_chain Pointer (slot_at f.words) (chain_of Pointer r)) k in omega arith
 
   -- goes on from a slot that is no twin,

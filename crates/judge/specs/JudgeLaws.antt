@@ -6,8 +6,8 @@ use Rattle.bounded.specs.Choice.{on_lt, on_test, either_right, or_false, both_le
 use Rattle.bounded.specs.Below.{some_below, first_below}
 use Rattle.bounded.specs.BelowLaws.{some_of, some_none, first_passes, first_none_before}
 use Rattle.record.specs.declared.Record.{Record}
-use Rattle.record.specs.declared.Slot.{Slot}
-use Rattle.record.specs.declared.Slot.TheVariants.{Blank, Holds}
+use Rattle.record.specs.Slot.{Slot}
+use Rattle.std.specs.Prelude.{None, Some}
 use Rattle.record.specs.Slot.{slot_at}
 use Rattle.record.specs.Flash.{Flash}
 use Rattle.state.specs.declared.PageState.{PageState}
@@ -24,18 +24,18 @@ use Rattle.rules.proofs.laws.Permission.{twins_apart}
 
 module _ (w : ℕ) (f : Flash) (j k : ℕ) where
   -- a blank slot has none
-  pub blank_no_twin : slot_at f.words k ≡ Blank → twins w f j k ≡ false
+  pub blank_no_twin : slot_at f.words k ≡ None → twins w f j k ≡ false
   blank_no_twin e = on_test (twins w f j k) (λ t. absurd (blank_holds e (twins_hold w f j k t).2)) (λ t. t)
 
   -- and those of a record are in its chain
-  pub twin_in_chain : {r : Record} → slot_at f.words k ≡ Holds r → twins w f j k ≡ true → in_chain Pointer (slot_at f.words) (chain_of Pointer r) j ≡ true
+  pub twin_in_chain : {r : Record} → slot_at f.words k ≡ Some r → twins w f j k ≡ true → in_chain Pointer (slot_at f.words) (chain_of Pointer r) j ≡ true
   unfolding in_chain
   twin_in_chain {r} e t =
       let h = twins_hold w f j k t in
       let same : h.0 ≡ r = one h.2 e in
       holds_of (λ r'. eqb (chain_of Pointer r') (chain_of Pointer r)) h.1 (eq-eqb (chain_of Pointer h.0) (chain_of Pointer r) (ap (chain_of Pointer) same))
     where
-      one : {s : Slot} {a b : Record} → s ≡ Holds a → s ≡ Holds b → a ≡ b
+      one : {s : Slot} {a b : Record} → s ≡ Some a → s ≡ Some b → a ≡ b
       one p q = cc
 
 module _ (w : ℕ) (f : Flash) (in_list : ℕ → Bool) (k : ℕ) where
@@ -43,7 +43,7 @@ module _ (w : ℕ) (f : Flash) (in_list : ℕ → Bool) (k : ℕ) where
   abbrev pub outside : ℕ → Bool
   outside j = twins w f j k && not (in_list j)
 
-  pub outside_in_chain : {r : Record} → slot_at f.words k ≡ Holds r → (j : ℕ) → outside j ≡ true → in_chain Pointer (slot_at f.words) (chain_of Pointer r) j ≡ true
+  pub outside_in_chain : {r : Record} → slot_at f.words k ≡ Some r → (j : ℕ) → outside j ≡ true → in_chain Pointer (slot_at f.words) (chain_of Pointer r) j ≡ true
   outside_in_chain e j t = twin_in_chain w f j k e (both_left (twins w f j k) (not (in_list j)) t)
 
   -- the list settles it, or the two slots do
@@ -53,7 +53,7 @@ module _ (w : ℕ) (f : Flash) (in_list : ℕ → Bool) (k : ℕ) where
   pub unlisted_outside : (j : ℕ) → in_list j ≡ false → outside j ≡ twins w f j k
   unlisted_outside j e = on_test (twins w f j k) (λ t. rw (t, e)) (λ t. rw t)
 
-  pub blank_none_outside : (S : ℕ) (st : ℕ → PageState) → slot_at f.words k ≡ Blank → twin_outside (scene S (slot_at f.words) st (twins w f)) in_list k ≡ false
+  pub blank_none_outside : (S : ℕ) (st : ℕ → PageState) → slot_at f.words k ≡ None → twin_outside (scene S (slot_at f.words) st (twins w f)) in_list k ≡ false
   unfolding twin_outside
   blank_none_outside S st e = some_none outside S (λ j h. rw (blank_no_twin w f j k e))
 

@@ -1,8 +1,7 @@
 -- What judging listed slots rests on: a sound table with the bytes of its slots, their chains, the state of its pages, and the exposed records found.
-use Rattle.std.specs.Prelude.{ℕ, ◌+◌, ◌*◌, ◌≤◌, ◌<◌, ◌≡◌, List, true, length, take}
+use Rattle.std.specs.Prelude.{ℕ, ◌+◌, ◌*◌, ◌≤◌, ◌<◌, ◌≡◌, List, true, length}
 use Rattle.std.proofs.Common.{arith}
 use Rattle.bounded.specs.Limits.{two_widths}
-use Rattle.bounded.specs.Noted.{Noted}
 use Rattle.bounded.specs.PartsLaws.{part_inside}
 use Rattle.sizes.specs.declared.Layout.TheVariants.{FiveWords}
 use Rattle.sizes.specs.declared.Sizes.{Sizes}
@@ -13,10 +12,12 @@ use Rattle.record.specs.FlashLaws.{SizedIn}
 use Rattle.table.specs.Table.{table_sound}
 use Rattle.chain.specs.declared.Key.TheVariants.{Pointer}
 use Rattle.chain.specs.Chain.{Linkable, Chained}
+use Rattle.state.specs.State.{state_at}
+use Rattle.rules.specs.Found.{exposed_slots}
 use Rattle.rules.specs.Volume.{volume, volume_fits}
 use Rattle.rules.proofs.laws.Volume.{fits_facts}
 use Rattle.rules.proofs.laws.Chains.{volume_spans}
-use Rattle.permit.specs.Prepared.{exposed_at, Within, Searchable, judged_linkable, linkable_within, searchable}
+use Rattle.permit.specs.Prepared.{Within, Searchable, judged_linkable, linkable_within, searchable}
 
 -- slot k is in the words, and its w bytes in the contents
 pub record SlotInside (w : ℕ) (words contents : List ℕ) (k : ℕ) : Type 0 where
@@ -39,17 +40,17 @@ pub record Judgeable (P S w : ℕ) (words contents state chains found : List ℕ
   pub searchable : Searchable S words chains found
 
 pub judgeable :
-    (P S w : ℕ) (words contents state chains found : List ℕ) (count : ℕ)
+    (P S w : ℕ) (words contents state chains found : List ℕ)
     → Linkable P S words
     → 4 * P ≤ length state
     → w * S ≤ length contents
     → Chained Pointer S (slot_at words) chains
-    → Noted (exposed_at words state) S found count
-    → Judgeable P S w words contents state chains (take count found)
-judgeable P S w words contents state chains found count l p b c f = record {
+    → found ≡ exposed_slots S (slot_at words) (state_at state)
+    → Judgeable P S w words contents state chains found
+judgeable P S w words contents state chains found l p b c e = record {
   comparable = record { linkable = l; bytes_in = b; chained = c };
   within = linkable_within P S words state l p;
-  searchable = searchable P S words state chains found count l c f;
+  searchable = searchable P S words state chains found l c e;
 }
 
 -- ---- a flash whose slots are judged, and then stored or blanked

@@ -1,8 +1,7 @@
-// Slots that a call chooses itself, as cleaning and a sweep do: whether a lower slot holds a twin, and the noting of those that are chosen.
+// Slots that a call chooses itself, as cleaning and a sweep do: whether a lower slot holds a twin.
 
 ghost use Rattle.std.specs.Prelude.{◌≡◌, Bool, true, false, ◌&&◌, ℕ, ◌+◌, ◌≤◌, ◌<◌};
 ghost use Rattle.bounded.specs.Below.{some_below};
-ghost use Rattle.bounded.specs.Noted.{Noted};
 ghost use Rattle.sizes.specs.Blocks.{in_block};
 ghost use Rattle.record.specs.Slot.{slot_at, is_blank};
 ghost use Rattle.record.specs.Flash.{flash};
@@ -26,26 +25,15 @@ pub fn has_lower_twin(
     requires slot_value_2 { is_blank (slot_at words.now slot) ≡ false }
     ensures { result ≡ some_below slot (λ j. in_block block j && twins sizes.width (flash words.now contents.now) j slot) }
 {
-    let mut end = chain::end_before(chains, slot);
-    while end > block.first {
-        let other = end - 1;
+    let mut at = chain::before(chains, slot);
+    while let Some(other) = at {
+        if other < block.first {
+            return false;
+        }
         if twins::are_twins(sizes.width, words, contents, other, slot) {
             return true;
         }
-        end = chain::end_before(chains, other);
+        at = chain::before(chains, other);
     }
     false
-}
-
-// The number is noted, behind those noted so far, where it passes.
-pub fn note(passes: bool, number: u32, noted: &mut [u16; 1024], count: usize) -> usize
-    requires number_bound { number < 1024 }
-    requires count_le_number { count ≤ number }
-    ensures { (f : ℕ → Bool) → passes ≡ f number → Noted f number noted.old count → Noted f (number + 1) noted.new result }
-{
-    if !passes {
-        return count;
-    }
-    noted[count] = number as u16;
-    count + 1
 }

@@ -1,7 +1,7 @@
 // What a recorded run's ledger says of each page: the fill entered for it in an open ring, NO_NUMBER where none is, and the fill that is kept. A ring is closed exactly where
 // its pages have left flight, so whether what was entered still stands is read off the state behind each call.
 
-#![tactic(auto)]
+#![tactic(auto, unfolding(crate::specs::Ledger::entered_then, crate::specs::Ledger::kept_then))]
 
 ghost use Rattle.std.specs.Prelude.{◌≡◌, ◌*◌, ◌≤◌, length, set};
 ghost use Rattle.state.specs.State.{state_at};
@@ -23,26 +23,18 @@ pub fn enter(entered: &mut [u32], page: u32, fill: u8)
 fn entered_then(s: PageState, entered: u32) -> u32
     ensures { result ≡ entered_then s entered }
 {
-    if s.in_flight() {
-        return entered;
-    }
-    NO_NUMBER
+    if s.in_flight() { entered } else { NO_NUMBER }
 }
 
 // What is kept of a page: what is entered for it, where its ring was completed.
 fn kept_then(done: bool, s: PageState, entered: u32, kept: u32) -> u32
     ensures { result ≡ kept_then done s entered kept }
 {
-    if !done {
-        return kept;
+    if done && !s.in_flight() && entered != NO_NUMBER {
+        entered
+    } else {
+        kept
     }
-    if s.in_flight() {
-        return kept;
-    }
-    if entered == NO_NUMBER {
-        return kept;
-    }
-    entered
 }
 
 // The ledger behind a call that left this state; `done` says that it completed a ring.
@@ -53,13 +45,11 @@ pub fn settle(pages: u32, done: bool, state: &[u32], entered: &mut [u32], kept: 
     ensures entered { entered.new ≡ settled_entered pages (state_at state.now) entered.old }
     ensures kept { kept.new ≡ settled_kept pages done (state_at state.now) entered.old kept.old }
 {
-    let mut page: u32 = 0;
-    while page < pages {
+    for page in 0..pages {
         let s = state::page_at(state, page);
         let i = page as usize;
         let fill = entered[i];
         kept[i] = kept_then(done, s, fill, kept[i]);
         entered[i] = entered_then(s, fill);
-        page += 1;
     }
 }

@@ -1,5 +1,5 @@
 -- What a line of a script says. A line is its bytes without the line end.
-use Rattle.std.specs.Prelude.{ℕ, zero, suc, List, [], ◌∷◌, cond, ltb, eqb, length, take}
+use Rattle.std.specs.Prelude.{Option as Given, Some, None, ℕ, zero, suc, List, [], ◌∷◌, cond, ltb, eqb, length, take}
 use Rattle.std.proofs.Math.Option.{Option, none, some, map}
 use Rattle.sizes.specs.declared.Sizes.{Sizes}
 use Rattle.sizes.specs.Sizes.{sizes_of}
@@ -41,7 +41,11 @@ said (lines.Erase count) list = Erase (take count list)
 said lines.Recover list = Recover
 said lines.Cut list = Cut
 said lines.List list = Listing
-said lines.Malformed list = Malformed
+
+-- what the program gives back of a line says: none is malformed
+abbrev pub said_of : Given Line → List ℕ → Said
+said_of None list = Malformed
+said_of (Some line) list = said line list
 
 -- what is said behind a number, where there is one
 unfoldable pub on_number : Option Scanned → (ℕ → List ℕ → Said) → Said
@@ -82,10 +86,10 @@ unfoldable pub numbers : ℕ → List ℕ → Option (List ℕ)
 numbers zero s = none
 numbers (suc k) s = list_from (number s) (numbers k)
 
--- the list that stands beside the program's enum: none of no numbers
-unfoldable pub listed : ℕ → List ℕ → Option (List ℕ)
-listed zero list = none
-listed (suc n) list = some (take (suc n) list)
+-- the list that stands beside the program's count, where there is one
+abbrev pub listed_of : Given ℕ → List ℕ → Option (List ℕ)
+listed_of None list = none
+listed_of (Some count) list = some (take count list)
 
 -- "fields stand as shown, one space between": what each line says by what is behind its first field's name
 

@@ -3,7 +3,7 @@ use Rattle.std.specs.Prelude.{ℕ, ◌≡◌, true, false, not}
 use Rattle.bounded.specs.Below.{all_below, some_below}
 use Rattle.outcome.specs.Outcome.{◌⇒◌otherwise◌}
 use Rattle.sizes.specs.declared.Layout.{Layout}
-use Rattle.record.specs.declared.Slot.{Slot}
+use Rattle.record.specs.Slot.{Slot}
 use Rattle.table.specs.Table.{has_version}
 use Rattle.follow.specs.Follow.{is_astray}
 use Rattle.links.specs.Committed.{walk_in, committed_in}

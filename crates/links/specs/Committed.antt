@@ -9,8 +9,8 @@ use Rattle.bounded.specs.Below.{max_below}
 use Rattle.sizes.specs.declared.Layout.{Layout}
 use Rattle.sizes.specs.declared.Layout.TheVariants.{FiveWords, FourWords}
 use Rattle.record.specs.declared.Record.{Record}
-use Rattle.record.specs.declared.Slot.{Slot}
-use Rattle.record.specs.declared.Slot.TheVariants.{Blank, Holds}
+use Rattle.record.specs.Slot.{Slot}
+use Rattle.std.specs.Prelude.{None, Some}
 use Rattle.record.specs.Slot.{holds, is_blank}
 use Rattle.record.specs.SlotLaws.{sound_facts}
 use Rattle.table.specs.Table.{table_sound, has_version, of_page, above, better, raised, highest, highest_version_of, version_in}
@@ -58,21 +58,21 @@ module _ (layout : Layout) (S : ℕ) (t : ℕ → Slot) (J : Record) (hv : ℕ) 
 
 -- the verdict of the record that a slot holds
 unfoldable pub slot_verdict_in : Layout → ℕ → (ℕ → Slot) → Slot → Verdict
-slot_verdict_in layout S t Blank = Uncommitted
-slot_verdict_in layout S t (Holds J) = link_verdict_in layout S t J
+slot_verdict_in layout S t None = Uncommitted
+slot_verdict_in layout S t (Some J) = link_verdict_in layout S t J
 
 pub verdict_by_slot : (layout : Layout) (S : ℕ) (t : ℕ → Slot) (p : ℕ) → verdict_in layout S t p ≡ slot_verdict_in layout S t (highest S t p)
 unfolding verdict slot_verdict simple_verdict simple_slot_verdict slot_verdict_in
 verdict_by_slot FiveWords S t p = by (highest S t p)
   where
     by : (s : Slot) → slot_verdict S t s ≡ slot_verdict_in FiveWords S t s
-    by Blank = refl
-    by (Holds J) = refl
+    by None = refl
+    by (Some J) = refl
 verdict_by_slot FourWords S t p = by (highest S t p)
   where
     by : (s : Slot) → simple_slot_verdict S t s ≡ slot_verdict_in FourWords S t s
-    by Blank = refl
-    by (Holds J) = refl
+    by None = refl
+    by (Some J) = refl
 
 -- in a sound table every verdict that goes on goes on at a page below P
 on_next_in : (layout : Layout) (S : ℕ) (t : ℕ → Slot) (J : Record) (r : ℕ) → link_verdict_in layout S t J ≡ On r → r ≡ J.np
@@ -90,8 +90,8 @@ unfolding slot_verdict_in
 verdict_in_inside layout S t P sound q r h e = by (highest S t q) refl (sym (verdict_by_slot layout S t q) ∙ e)
   where
     by : (s : Slot) → highest S t q ≡ s → slot_verdict_in layout S t s ≡ On r → r < P
-    by Blank f g = let z : ◌≡◌ {A = ℕ} 0 1 = cc in absurd (omega arith)
-    by (Holds J) f g =
+    by None f g = let z : ◌≡◌ {A = ℕ} 0 1 = cc in absurd (omega arith)
+    by (Some J) f g =
         let k = highest_held t q S (highest_is t q S) f in
         let u = sound_at t P S k.0 sound k.1 k.2 in
         let i = on_next_in layout S t J r g in
@@ -108,18 +108,18 @@ links_in layout P S t = links_followed P (verdict_in layout S t)
 
 -- the version in a slot; a number that is no version where it is blank
 unfoldable pub version_or_none : Slot → ℕ
-version_or_none Blank = no_number
-version_or_none (Holds r) = r.v
+version_or_none None = no_number
+version_or_none (Some r) = r.v
 
 -- 1 more than it; 0 where the slot is blank
 mark : Slot → ℕ
-mark Blank = 0
-mark (Holds r) = r.v + 1
+mark None = 0
+mark (Some r) = r.v + 1
 
 -- 1 more than the version of a record of page p below version v; 0 of any other slot
 unfoldable pub mark_under : (p v : ℕ) → Slot → ℕ
-mark_under p v Blank = 0
-mark_under p v (Holds r) = cond (eqb r.p p && ltb r.v v) (r.v + 1) 0
+mark_under p v None = 0
+mark_under p v (Some r) = cond (eqb r.p p && ltb r.v v) (r.v + 1) 0
 
 -- the highest of them is that of page p's highest record below version v,
 marks : (p v n : ℕ) (t : ℕ → Slot) → mark (highest n (under v t) p) ≡ max_below n (λ k. mark_under p v (t k))
@@ -127,13 +127,13 @@ unfolding mark mark_under highest max_below raised better of_page above under ho
 marks p v zero t = refl
 marks p v (suc n) t = one_more_lem (highest n (under v t) p) (t n) ∙ ap (λ (m : ℕ). max m (mark_under p v (t n))) (marks p v n t)
   where
-    higher : (b : Slot) (r : Record) → mark (cond (above b r) (Holds r) b) ≡ max (mark b) (r.v + 1)
-    higher Blank r = omega arith
-    higher (Holds q) r = on_lt q.v r.v (λ l. rw (lt-ltb q.v r.v l) (omega arith)) (λ l. rw (le-ltb q.v r.v l) (omega arith))
+    higher : (b : Slot) (r : Record) → mark (cond (above b r) (Some r) b) ≡ max (mark b) (r.v + 1)
+    higher None r = omega arith
+    higher (Some q) r = on_lt q.v r.v (λ l. rw (lt-ltb q.v r.v l) (omega arith)) (λ l. rw (le-ltb q.v r.v l) (omega arith))
 
-    one_more_lem : (b s : Slot) → mark (raised p b (cond (holds (λ r. ltb r.v v) s) s Blank)) ≡ max (mark b) (mark_under p v s)
-    one_more_lem b Blank = omega arith
-    one_more_lem b (Holds r) = on_test (ltb r.v v)
+    one_more_lem : (b s : Slot) → mark (raised p b (cond (holds (λ r. ltb r.v v) s) s None)) ≡ max (mark b) (mark_under p v s)
+    one_more_lem b None = omega arith
+    one_more_lem b (Some r) = on_test (ltb r.v v)
         (λ l. on_test (eqb r.p p) (λ e. rw (l, e) (higher b r)) (λ e. rw (l, e) (omega arith)))
         (λ l. on_test (eqb r.p p) (λ e. rw (l, e) (omega arith)) (λ e. rw (l, e) (omega arith)))
 
@@ -143,16 +143,16 @@ unfolding mark version_or_none
 marked_version p v S t best e h = by (highest S (under v t) p) (marks p v S t ∙ e)
   where
     by : (s : Slot) → mark s ≡ best → best - 1 ≡ version_or_none s
-    by Blank f = absurd (omega arith)
-    by (Holds r) f = omega arith
+    by None f = absurd (omega arith)
+    by (Some r) f = omega arith
 
 pub marked_none : (p v S : ℕ) (t : ℕ → Slot) (best : ℕ) → max_below S (λ k. mark_under p v (t k)) ≡ best → best < 1 → no_number ≡ version_or_none (highest S (under v t) p)
 unfolding mark version_or_none
 marked_none p v S t best e h = by (highest S (under v t) p) (marks p v S t ∙ e)
   where
     by : (s : Slot) → mark s ≡ best → no_number ≡ version_or_none s
-    by Blank f = refl
-    by (Holds r) f = absurd (omega arith)
+    by None f = refl
+    by (Some r) f = absurd (omega arith)
 
 -- only slots of the page's chain have one
 pub marked_in_chain : (t : ℕ → Slot) (p v k : ℕ) → in_chain Page t (p % 256) k ≡ false → mark_under p v (t k) ≡ 0
@@ -160,8 +160,8 @@ unfolding mark_under
 marked_in_chain t p v k e = by (t k) refl
   where
     by : (s : Slot) → t k ≡ s → mark_under p v s ≡ 0
-    by Blank f = refl
-    by (Holds r) f = on_eq r.p p (λ q. absurd (never (page_in_chain t p k r f q) e)) (λ d. rw (ne_eqb r.p p d))
+    by None f = refl
+    by (Some r) f = on_eq r.p p (λ q. absurd (never (page_in_chain t p k r f q) e)) (λ d. rw (ne_eqb r.p p d))
 
 -- ---- committed versions
 
@@ -171,10 +171,10 @@ before_in FiveWords S t r = r.c
 before_in FourWords S t r = version_or_none (highest S (under r.v t) r.p)
 
 unfoldable pub committed_by_in : Layout → ℕ → (ℕ → Slot) → End → Slot → ℕ
-committed_by_in layout S t e Blank = 0
-committed_by_in layout S t ends.Committed (Holds r) = r.v
-committed_by_in layout S t ends.Uncommitted (Holds r) = before_in layout S t r
-committed_by_in layout S t ends.Astray (Holds r) = before_in layout S t r
+committed_by_in layout S t e None = 0
+committed_by_in layout S t ends.Committed (Some r) = r.v
+committed_by_in layout S t ends.Uncommitted (Some r) = before_in layout S t r
+committed_by_in layout S t ends.Astray (Some r) = before_in layout S t r
 
 unfoldable pub committed_in : Layout → (P S : ℕ) → (ℕ → Slot) → ℕ → ℕ
 committed_in layout P S t p = committed_by_in layout S t (walk_in layout P S t p).end (highest S t p)
@@ -185,16 +185,16 @@ unfolding committed_in committed_by_in before_in committed_of committed_by walk_
 committed_five P S t p = by (follow P (verdict S t) p).end (highest S t p)
   where
     by : (e : End) (s : Slot) → committed_by_in FiveWords S t e s ≡ committed_by e s
-    by ends.Committed Blank = refl
-    by ends.Uncommitted Blank = refl
-    by ends.Astray Blank = refl
-    by ends.Committed (Holds r) = refl
-    by ends.Uncommitted (Holds r) = refl
-    by ends.Astray (Holds r) = refl
+    by ends.Committed None = refl
+    by ends.Uncommitted None = refl
+    by ends.Astray None = refl
+    by ends.Committed (Some r) = refl
+    by ends.Uncommitted (Some r) = refl
+    by ends.Astray (Some r) = refl
 
 -- of four, where the page has a record, the version in the rules' slot
 module _ (P S : ℕ) (t : ℕ → Slot) (p : ℕ) where
-  pub committed_four : (r : Record) → highest S t p ≡ Holds r → committed_in FourWords P S t p ≡ version_or_none (committed_slot_of P S t p)
+  pub committed_four : (r : Record) → highest S t p ≡ Some r → committed_in FourWords P S t p ≡ version_or_none (committed_slot_of P S t p)
   unfolding committed_in walk_in committed_slot_of simple_walk_of second highest_version_of version_in committed_by_in simple_committed_slot before_in version_or_none
   committed_four r e = by (follow P (simple_verdict S t) p).end
     where
@@ -209,14 +209,14 @@ module _ (P S : ℕ) (t : ℕ → Slot) (p : ℕ) where
       by ends.Astray = ap (committed_by_in FourWords S t ends.Astray) e ∙ ap version_or_none same
 
   -- the rules' slot holds a record of the page
-  slot_held : (q : Record) → committed_slot_of P S t p ≡ Holds q → (k : ℕ) × (k < S) × (t k ≡ Holds q) × (q.p ≡ p)
+  slot_held : (q : Record) → committed_slot_of P S t p ≡ Some q → (k : ℕ) × (k < S) × (t k ≡ Some q) × (q.p ≡ p)
   unfolding committed_slot_of simple_committed_slot
   slot_held q e = by (simple_walk_of P S t p).end e
     where
-      lower : second S t p ≡ Holds q → (k : ℕ) × (k < S) × (t k ≡ Holds q) × (q.p ≡ p)
+      lower : second S t p ≡ Some q → (k : ℕ) × (k < S) × (t k ≡ Some q) × (q.p ≡ p)
       lower f = let w = second_held S t p q f in (w.0, w.1, w.2, w.3)
 
-      by : (x : End) → simple_committed_slot x S t p ≡ Holds q → (k : ℕ) × (k < S) × (t k ≡ Holds q) × (q.p ≡ p)
+      by : (x : End) → simple_committed_slot x S t p ≡ Some q → (k : ℕ) × (k < S) × (t k ≡ Some q) × (q.p ≡ p)
       by ends.Committed f = let i = highest_is t p S in let k = highest_held t p S i f in (k.0, k.1, k.2, highest_page t p S i f)
       by ends.Uncommitted f = lower f
       by ends.Astray f = lower f
@@ -236,13 +236,13 @@ module _ (P S : ℕ) (t : ℕ → Slot) (p : ℕ) where
   four_there sound = by (committed_slot_of P S t p) refl
     where
       by : (s : Slot) → committed_slot_of P S t p ≡ s → has_version S t p (version_or_none s) ≡ not (is_blank s)
-      by Blank e = none_absent sound
-      by (Holds q) e = let w = slot_held q e in (has_version_lem t S p q.v).1 (w.0, q, w.1, w.2, w.3, refl)
+      by None e = none_absent sound
+      by (Some q) e = let w = slot_held q e in (has_version_lem t S p q.v).1 (w.0, q, w.1, w.2, w.3, refl)
 
   pub four_version : has_committed P S t p ≡ true → version_or_none (committed_slot_of P S t p) ≡ version_in (committed_slot_of P S t p)
   unfolding has_committed is_blank version_or_none version_in
   four_version h = by (committed_slot_of P S t p) h
     where
       by : (s : Slot) → not (is_blank s) ≡ true → version_or_none s ≡ version_in s
-      by Blank e = absurd (never e refl)
-      by (Holds q) e = refl
+      by None e = absurd (never e refl)
+      by (Some q) e = refl

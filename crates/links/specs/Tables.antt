@@ -1,4 +1,4 @@
--- The tables that recovery keeps, one entry a page: highest slots, verdict codes, committed versions.
+-- The tables that recovery keeps, one entry a page: highest slots, verdicts, committed versions.
 use Rattle.std.specs.Prelude.{ℕ, ◌*◌, ◌≤◌, ◌<◌, ◌≡◌, List, true, ltb, length, get_or}
 use Rattle.std.proofs.Common.{arith, ◌∙◌}
 use Rattle.std.proofs.Math.Path.{sym, ap}
@@ -9,8 +9,8 @@ use Rattle.sizes.specs.declared.Layout.{Layout}
 use Rattle.sizes.specs.declared.Layout.TheVariants.{FiveWords}
 use Rattle.sizes.specs.Sizes.{stride_of}
 use Rattle.record.specs.declared.Record.{Record}
-use Rattle.record.specs.declared.Slot.{Slot}
-use Rattle.record.specs.declared.Slot.TheVariants.{Holds}
+use Rattle.record.specs.Slot.{Slot}
+use Rattle.std.specs.Prelude.{Some}
 use Rattle.record.specs.Slot.{slot_in, slot_at, holds}
 use Rattle.record.specs.SlotLaws.{sound_facts}
 use Rattle.table.specs.Table.{table_sound, has_record, of_version, lowest_slot, has_version, highest}
@@ -19,11 +19,14 @@ use Rattle.table.specs.HighestSlot.{highest_slot, named}
 use Rattle.table.proofs.HighestSlot.{highest_read, highest_slot_exists, beyond_blank}
 use Rattle.chain.specs.declared.Key.TheVariants.{Straddler}
 use Rattle.chain.specs.Chain.{Chained}
+use Rattle.follow.specs.declared.Found.{Found}
+use Rattle.follow.specs.declared.Verdict.{Verdict}
+use Rattle.follow.specs.declared.Verdict.TheVariants.{Uncommitted}
 use Rattle.follow.specs.declared.Walk.{Walk}
 use Rattle.follow.specs.Follow.{follow, is_astray, StaysInside}
 use Rattle.follow.proofs.Links.{links_most}
-use Rattle.follow.specs.Codes.{code_of, coded}
-use Rattle.follow.proofs.Codes.{coded_back, follow_same}
+use Rattle.follow.specs.Verdicts.{listed}
+use Rattle.follow.proofs.Verdicts.{follow_same}
 use Rattle.follow.specs.Walks.{Followed}
 use Rattle.rules.specs.laws.Families.{verdict_in}
 use Rattle.links.specs.Committed.{slot_verdict_in, verdict_by_slot, verdict_in_inside, walk_in, committed_by_in, committed_in}
@@ -45,9 +48,9 @@ pub record Surveyed (layout : Layout) (P S : ℕ) (words top : List ℕ) : Type 
 abbrev pub StraddlersChained : Layout → ℕ → (words chains : List ℕ) → Type 0
 StraddlersChained layout S words chains = layout ≡ FiveWords → Chained Straddler S (slot_at words) chains
 
--- the code of each page's verdict
-abbrev pub verdict_codes : Layout → ℕ → (ℕ → Slot) → List ℕ
-verdict_codes layout S t = tabulate 256 (λ p. code_of (verdict_in layout S t p))
+-- the table has each page's verdict
+abbrev pub Judged : Layout → ℕ → (ℕ → Slot) → List Verdict → Type 0
+Judged layout S t verdicts = (p : ℕ) → p < 256 → listed verdicts p ≡ verdict_in layout S t p
 
 module _ (layout : Layout) (P S : ℕ) (words top : List ℕ) (s : Surveyed layout P S words top) where
   -- the highest record, by its entry
@@ -62,45 +65,43 @@ module _ (layout : Layout) (P S : ℕ) (words top : List ℕ) (s : Surveyed layo
       ∙ sym (highest_slot_exists S (slot_in layout words) p))
 
   -- a highest record's link leads to a page below P
-  pub top_next : (p : ℕ) (r : Record) → highest S (slot_in layout words) p ≡ Holds r → r.np < P
+  pub top_next : (p : ℕ) (r : Record) → highest S (slot_in layout words) p ≡ Some r → r.np < P
   top_next p r e =
       let k = highest_held (slot_in layout words) p S (highest_is (slot_in layout words) p S) e in
       (sound_facts P r (sound_at (slot_in layout words) P S k.0 s.sound k.1 k.2)).next_below
 
   -- a page from P on has no record, so that its verdict is uncommitted
-  pub code_beyond : (p : ℕ) → P ≤ p → p < 256 → code_of (verdict_in layout S (slot_in layout words) p) ≡ 257
-  unfolding slot_verdict_in code_of
-  code_beyond p h l =
-      ap code_of (verdict_by_slot layout S (slot_in layout words) p)
-      ∙ ap (λ (x : Slot). code_of (slot_verdict_in layout S (slot_in layout words) x)) (beyond_blank P S (slot_in layout words) s.sound p h)
+  pub verdict_beyond : (p : ℕ) → P ≤ p → p < 256 → Uncommitted ≡ verdict_in layout S (slot_in layout words) p
+  unfolding slot_verdict_in
+  verdict_beyond p h l =
+      sym (verdict_by_slot layout S (slot_in layout words) p
+      ∙ ap (slot_verdict_in layout S (slot_in layout words)) (beyond_blank P S (slot_in layout words) s.sound p h))
 
   pub committed_beyond : (p : ℕ) → P ≤ p → p < 256 → committed_in layout P S (slot_in layout words) p ≡ 0
   unfolding committed_in committed_by_in
   committed_beyond p h l =
       ap (committed_by_in layout S (slot_in layout words) (walk_in layout P S (slot_in layout words) p).end) (beyond_blank P S (slot_in layout words) s.sound p h)
 
-  module _ (codes : List ℕ) (e : codes ≡ verdict_codes layout S (slot_in layout words)) where
-    code_at : (p : ℕ) → p < P → verdict_in layout S (slot_in layout words) p ≡ coded codes p
-    code_at p h =
-        sym (coded_back (verdict_in layout S (slot_in layout words)) codes p e (let m = s.pages_most in omega arith)
-        (λ r f. let i = verdict_in_inside layout S (slot_in layout words) P s.sound p r h f in let m = s.pages_most in omega arith))
+  module _ (verdicts : List Verdict) (e : Judged layout S (slot_in layout words) verdicts) where
+    verdict_at : (p : ℕ) → p < P → verdict_in layout S (slot_in layout words) p ≡ listed verdicts p
+    verdict_at p h = sym (e p (let m = s.pages_most in omega arith))
 
-    -- the codes lead to pages below P,
-    pub codes_inside : StaysInside P (coded codes)
-    codes_inside q r h f = verdict_in_inside layout S (slot_in layout words) P s.sound q r h (code_at q h ∙ f)
+    -- the table's verdicts lead to pages below P,
+    pub verdicts_inside : StaysInside P (listed verdicts)
+    verdicts_inside q r h f = verdict_in_inside layout S (slot_in layout words) P s.sound q r h (verdict_at q h ∙ f)
 
-    -- and a walk over the codes is the walk over the verdicts
-    pub codes_walk : (p : ℕ) → p < P → walk_in layout P S (slot_in layout words) p ≡ follow P (coded codes) p
+    -- and a walk over the table is the walk over the verdicts
+    pub verdicts_walk : (p : ℕ) → p < P → walk_in layout P S (slot_in layout words) p ≡ follow P (listed verdicts) p
     unfolding walk_in
-    codes_walk p h = follow_same P (verdict_in layout S (slot_in layout words)) (coded codes) (verdict_in_inside layout S (slot_in layout words) P s.sound) code_at p h
+    verdicts_walk p h = follow_same P (verdict_in layout S (slot_in layout words)) (listed verdicts) (verdict_in_inside layout S (slot_in layout words) P s.sound) verdict_at p h
 
-    -- so that the walks of the codes are those of the verdicts
-    pub codes_followed : (walks : List ℕ) → Followed P (coded codes) walks → Followed P (verdict_in layout S (slot_in layout words)) walks
+    -- so that the walks of the table are those of the verdicts
+    pub verdicts_followed : (walks : List Found) → Followed P (listed verdicts) walks → Followed P (verdict_in layout S (slot_in layout words)) walks
     unfolding walk_in
-    codes_followed walks f = record { each = λ p h. f.each p h ∙ sym (codes_walk p h) }
+    verdicts_followed walks f = record { each = λ p h. f.each p h ∙ sym (verdicts_walk p h) }
 
-    pub codes_astray : some_below P (λ p. is_astray (follow P (coded codes) p).end) ≡ some_below P (λ p. is_astray (walk_in layout P S (slot_in layout words) p).end)
-    codes_astray = some_cong P (λ p h. ap (λ (w : Walk). is_astray w.end) (sym (codes_walk p h)))
+    pub verdicts_astray : some_below P (λ p. is_astray (follow P (listed verdicts) p).end) ≡ some_below P (λ p. is_astray (walk_in layout P S (slot_in layout words) p).end)
+    verdicts_astray = some_cong P (λ p h. ap (λ (w : Walk). is_astray w.end) (sym (verdicts_walk p h)))
 
 -- a page's version is there, by a search for it
 pub version_found : (S : ℕ) (t : ℕ → Slot) (p v : ℕ) → some_below S (λ k. holds (of_version p v) (t k)) ≡ has_version S t p v

@@ -1,9 +1,9 @@
 // Committed versions: following verdicts from each page, how many links that takes, and whether the versions found are there.
 
-ghost use Rattle.std.specs.Prelude.{◌≡◌, ◌*◌, ◌^◌, ◌%◌, ◌≤◌, ◌<◌, length, get_or, set};
+ghost use Rattle.std.specs.Prelude.{◌≡◌, ◌*◌, ◌≤◌, ◌<◌, length, get_or, set, IfOk, OnOk};
 ghost use Rattle.bounded.specs.Below.{all_below};
 ghost use Rattle.bounded.specs.Tabulate.{tabulate};
-ghost use Rattle.outcome.specs.Reply.{Settles};
+ghost use Rattle.outcome.specs.Result.{answer_of};
 ghost use Rattle.sizes.specs.Sizes.{stride_of};
 ghost use Rattle.record.specs.Slot.{slot_in};
 ghost use Rattle.table.specs.Table.{has_version};
@@ -15,10 +15,11 @@ ghost use Rattle.links.specs.Committed.{before_in, walk_in, links_in, committed_
 ghost use Rattle.links.specs.Tables.{Surveyed};
 ghost use Rattle.links.specs.Answer.{links_answer};
 
-use super::link::{highest_of, link_straddlers, verdict_codes};
+use super::link::{highest_of, link_straddlers, store_verdicts};
 use super::second;
 use chain::Key;
-use follow::End;
+use follow::{End, Found, Verdict};
+use outcome::Refusal;
 use record::{Record, Slot};
 use sizes::{Layout, Sizes};
 
@@ -56,13 +57,12 @@ fn committed_by(
     requires chained { Chained Page slots (slot_in layout words.now) chains.now }
     ensures { result ≡ committed_by_in layout slots (slot_in layout words.now) end top }
 {
-    let Slot::Holds(record) = top else {
+    let Some(record) = top else {
         return 0;
     };
     match end {
         End::Committed => record.v,
-        End::Uncommitted => version_before(layout, slots, words, chains, record),
-        End::Astray => version_before(layout, slots, words, chains, record),
+        End::Uncommitted | End::Astray => version_before(layout, slots, words, chains, record),
     }
 }
 
@@ -73,7 +73,7 @@ fn commit_page(
     words: &[u32],
     top: &[u32; 256],
     chains: &[u16; 2048],
-    walks: &[u32; 256],
+    walks: &[Found; 256],
     page: u32,
     committed: &mut [u32; 256],
 ) -> u32
@@ -84,7 +84,7 @@ fn commit_page(
     ensures value { result ≡ (walk_in layout sizes.pages sizes.slots (slot_in layout words.now) page).links }
     ensures committed_after { committed.new ≡ set committed.old page (committed_in layout sizes.pages sizes.slots (slot_in layout words.now) page) }
 {
-    let walk = follow::walk_numbered(walks[page as usize]);
+    let walk = walks[page as usize].walk();
     let end = walk.end;
     let highest = highest_of(layout, sizes, words, top, page);
     committed[page as usize] = committed_by(layout, sizes.slots, words, chains, end, highest);
@@ -98,7 +98,7 @@ fn committed_versions(
     words: &[u32],
     top: &[u32; 256],
     chains: &[u16; 2048],
-    walks: &[u32; 256],
+    walks: &[Found; 256],
     committed: &mut [u32; 256],
 ) -> u32
     requires surveyed { Surveyed layout sizes.pages sizes.slots words.now top.now }
@@ -109,15 +109,13 @@ fn committed_versions(
 {
     *committed = [0; 256];
     let mut links = 0;
-    let mut page = 0;
-    while page < sizes.pages {
+    for page in 0..sizes.pages {
         links += commit_page(layout, sizes, words, top, chains, walks, page, committed);
-        page += 1;
     }
     links
 }
 
-// The page has a record of the version: it stands in the last slot of the page's chain, or a search along the chain finds it.
+// The page has a record of the version: a search along the page's chain finds it.
 fn version_present(
     layout: Layout,
     slots: u32,
@@ -131,20 +129,10 @@ fn version_present(
     requires chained { Chained Page slots (slot_in layout words.now) chains.now }
     ensures { result ≡ has_version slots (slot_in layout words.now) page version }
 {
-    let end = chain::page_end(chains, page);
-    if end > 0 {
-        if table::holds_version(record::slot_in(layout, words, end - 1), page, version) {
-            return true;
-        }
-    }
-    let sought = Record {
-        p: page,
-        v: version,
-        c: 0,
-        np: page,
-        nv: 0,
+    let Some(last) = chain::last_of_page(chains, page) else {
+        return false;
     };
-    chain::version::find_version(layout, Key::Page, slots, words, chains, sought) > 0
+    chain::version::find_version(layout, slots, words, chains, last, page, version).is_some()
 }
 
 // Each page has a record with the version in the table.
@@ -161,18 +149,16 @@ fn versions_present(
     requires chained { Chained Page sizes.slots (slot_in layout words.now) chains.now }
     ensures { result ≡ all_below sizes.pages (λ p. has_version sizes.slots (slot_in layout words.now) p (get_or versions.now p 0)) }
 {
-    let mut page: u32 = 0;
-    while page < sizes.pages {
+    for page in 0..sizes.pages {
         let version = versions[page as usize];
         if !version_present(layout, sizes.slots, words, chains, page, version) {
             return false;
         }
-        page += 1;
     }
     true
 }
 
-// The answer by the links, 4 or 14, where each page has a record; of an accepted table the links followed, and its committed versions are filled in.
+// By the links, where each page has a record: why the table is refused, or the links followed, with its committed versions filled in.
 pub fn links_answer(
     layout: Layout,
     sizes: Sizes,
@@ -180,22 +166,23 @@ pub fn links_answer(
     top: &[u32; 256],
     chains: &mut [u16; 2048],
     committed: &mut [u32; 256],
-) -> u64
+) -> Result<u32, Refusal>
     requires { Surveyed layout sizes.pages sizes.slots words.now top.now }
-    ensures settles { Settles result (links_answer layout sizes.pages sizes.slots (slot_in layout words.now)) 0 (links_in layout sizes.pages sizes.slots (slot_in layout words.now)) }
-    ensures committed_after { result % 2 ^ 32 ≡ 0 → committed.new ≡ tabulate 256 (committed_in layout sizes.pages sizes.slots (slot_in layout words.now)) }
+    ensures answer { answer_of result ≡ links_answer layout sizes.pages sizes.slots (slot_in layout words.now) }
+    ensures links { IfOk result (λ links. links ≡ links_in layout sizes.pages sizes.slots (slot_in layout words.now)) }
+    ensures committed_after { OnOk result (committed.new ≡ tabulate 256 (committed_in layout sizes.pages sizes.slots (slot_in layout words.now))) }
 {
     link_straddlers(layout, sizes, words, chains);
-    let mut codes = [0; 256];
-    verdict_codes(layout, sizes, words, top, chains, &mut codes);
-    let mut walks = [0; 256];
-    if follow::follow_all(&codes, sizes.pages, &mut walks) {
-        return outcome::reply(4, 0);
+    let mut verdicts = [Verdict::Uncommitted; 256];
+    store_verdicts(layout, sizes, words, top, chains, &mut verdicts);
+    let mut walks = [Found::Nothing; 256];
+    if follow::follow_all(&verdicts, sizes.pages, &mut walks) {
+        return Err(Refusal::LinksAstray);
     }
     chain::link_sound_slots(layout, Key::Page, sizes, words, chains);
     let links = committed_versions(layout, sizes, words, top, chains, &walks, committed);
     if !versions_present(layout, sizes, words, chains, committed) {
-        return outcome::reply(14, 0);
+        return Err(Refusal::NoCommittedRecord);
     }
-    outcome::reply(0, links)
+    Ok(links)
 }

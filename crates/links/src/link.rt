@@ -9,7 +9,7 @@ ghost use Rattle.chain.specs.Chain.{Chained};
 ghost use Rattle.rules.specs.Verdict.{is_straddled};
 ghost use Rattle.rules.specs.laws.Families.{link_verdict_in, verdict_in};
 ghost use Rattle.links.specs.Committed.{passed_in};
-ghost use Rattle.links.specs.Tables.{Surveyed, StraddlersChained, verdict_codes};
+ghost use Rattle.links.specs.Tables.{Surveyed, StraddlersChained, Judged};
 
 use chain::Key;
 use follow::Verdict;
@@ -23,7 +23,7 @@ const LONG: u32 = 128;
 fn slot_straddles(slot: Slot, link: Record) -> bool
     ensures { result ≡ holds (λ K. straddles K link) slot }
 {
-    let Slot::Holds(record) = slot else {
+    let Some(record) = slot else {
         return false;
     };
     record.straddles(link)
@@ -34,12 +34,10 @@ fn scan_straddled(slots: u32, words: &[u32], link: Record) -> bool
     requires { 5 * slots ≤ length words.now }
     ensures { result ≡ is_straddled slots (slot_at words.now) link }
 {
-    let mut k = 0;
-    while k < slots {
+    for k in 0..slots {
         if slot_straddles(record::slot_at(words, k), link) {
             return true;
         }
-        k += 1;
     }
     false
 }
@@ -51,27 +49,24 @@ fn is_straddled(slots: u32, words: &[u32], chains: &[u16; 2048], link: Record) -
     requires chained { Chained Straddler slots (slot_at words.now) chains.now }
     ensures { result ≡ is_straddled slots (slot_at words.now) link }
 {
-    let mut end = chain::page_end(chains, link.np);
-    let mut steps = 0;
-    while end > 0 {
-        if steps >= LONG {
-            return scan_straddled(slots, words, link);
-        }
-        let other = end - 1;
-        if slot_straddles(record::slot_at(words, other), link) {
+    let mut at = chain::last_of_page(chains, link.np);
+    for _ in 0..LONG {
+        let Some(slot) = at else {
+            return false;
+        };
+        if slot_straddles(record::slot_at(words, slot), link) {
             return true;
         }
-        end = chain::end_before(chains, other);
-        steps += 1;
+        at = chain::before(chains, slot);
     }
-    false
+    at.is_some() && scan_straddled(slots, words, link)
 }
 
 // The version in a slot; 0 where it is blank.
 fn version_in(slot: Slot) -> u32
     ensures { result ≡ version_in slot }
 {
-    let Slot::Holds(record) = slot else {
+    let Some(record) = slot else {
         return 0;
     };
     record.v
@@ -95,9 +90,7 @@ pub fn link_straddlers(layout: Layout, sizes: Sizes, words: &[u32], chains: &mut
     ensures { StraddlersChained layout sizes.slots words.now chains.new }
 {
     match layout {
-        Layout::FiveWords => {
-            chain::link_sound_slots(layout, Key::Straddler, sizes, words, chains)
-        }
+        Layout::FiveWords => chain::link_sound_slots(layout, Key::Straddler, sizes, words, chains),
         Layout::FourWords => {}
     }
 }
@@ -147,7 +140,7 @@ fn link_verdict(
     if hv < link.nv {
         return Verdict::Uncommitted;
     }
-    Verdict::On(link.np)
+    Verdict::On(link.np as u8)
 }
 
 // What the link of a page's highest record says.
@@ -164,29 +157,27 @@ fn verdict_of(
     requires page_bound { page < 256 }
     ensures { result ≡ verdict_in layout sizes.slots (slot_in layout words.now) page }
 {
-    let Slot::Holds(link) = highest_of(layout, sizes, words, top, page) else {
+    let Some(link) = highest_of(layout, sizes, words, top, page) else {
         return Verdict::Uncommitted;
     };
     link_verdict(layout, sizes, words, top, chains, link)
 }
 
 // Each page's verdict, computed once.
-pub fn verdict_codes(
+pub fn store_verdicts(
     layout: Layout,
     sizes: Sizes,
     words: &[u32],
     top: &[u32; 256],
     chains: &[u16; 2048],
-    codes: &mut [u32; 256],
+    verdicts: &mut [Verdict; 256],
 )
     requires surveyed { Surveyed layout sizes.pages sizes.slots words.now top.now }
     requires straddlers_chained { StraddlersChained layout sizes.slots words.now chains.now }
-    ensures { codes.new ≡ verdict_codes layout sizes.slots (slot_in layout words.now) }
+    ensures { Judged layout sizes.slots (slot_in layout words.now) verdicts.new }
 {
-    *codes = [257; 256];
-    let mut page: u32 = 0;
-    while page < sizes.pages {
-        codes[page as usize] = verdict_of(layout, sizes, words, top, chains, page).code();
-        page += 1;
+    *verdicts = [Verdict::Uncommitted; 256];
+    for page in 0..sizes.pages {
+        verdicts[page as usize] = verdict_of(layout, sizes, words, top, chains, page);
     }
 }

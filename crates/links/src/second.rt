@@ -1,6 +1,6 @@
 // The highest version of a page below a version: with no back pointer, the committed version where the highest record is uncommitted.
 
-ghost use Rattle.std.specs.Prelude.{◌≡◌, ◌*◌, ◌≤◌, max, length};
+ghost use Rattle.std.specs.Prelude.{◌≡◌, ◌*◌, ◌≤◌, length};
 ghost use Rattle.sizes.specs.declared.Layout.TheVariants.{FourWords};
 ghost use Rattle.record.specs.Slot.{slot_in};
 ghost use Rattle.table.specs.Table.{highest};
@@ -16,7 +16,7 @@ use sizes::Layout;
 fn mark(slot: Slot, page: u32, version: u32) -> u32
     ensures { result ≡ mark_under page version slot }
 {
-    let Slot::Holds(record) = slot else {
+    let Some(record) = slot else {
         return 0;
     };
     if record.p != page {
@@ -26,15 +26,6 @@ fn mark(slot: Slot, page: u32, version: u32) -> u32
         return 0;
     }
     record.v + 1
-}
-
-fn higher(a: u32, b: u32) -> u32
-    ensures { result ≡ max a b }
-{
-    if a < b {
-        return b;
-    }
-    a
 }
 
 // Along the page's chain; a number that is no version where the page has none below this one.
@@ -51,18 +42,14 @@ pub fn version_below(
     ensures { result ≡ version_or_none (highest slots (under version (slot_in FourWords words.now)) page) }
 {
     let mut best = 0;
-    let mut end = chain::page_end(chains, page);
-    while end > 0 {
-        let other = end - 1;
-        best = higher(
-            best,
-            mark(
-                record::slot_in(Layout::FourWords, words, other),
-                page,
-                version,
-            ),
-        );
-        end = chain::end_before(chains, other);
+    let mut at = chain::last_of_page(chains, page);
+    while let Some(slot) = at {
+        best = best.max(mark(
+            record::slot_in(Layout::FourWords, words, slot),
+            page,
+            version,
+        ));
+        at = chain::before(chains, slot);
     }
     if best < 1 {
         return sizes::NO_NUMBER;

@@ -2,7 +2,8 @@
 use Prim.Native.Nat.{ℕ, zero, suc, ◌+◌, ◌*◌, ◌≤◌, ◌<◌}
 use native.Mathlib.Omega.{arith}
 use Rattle.std.proofs.Common.{add-one, ◌∙◌}
-use Rattle.std.specs.Prelude.{◌≡◌, Bool, ◌&&◌, ltb, length}
+use Rattle.std.specs.Prelude.{◌≡◌, Bool, ◌&&◌, ltb, length, Result, Ok, Err}
+use Rattle.std.specs.Result.{result_unwrap_or}
 use Rattle.std.proofs.Math.Path.{refl, sym, ap}
 use mathlib.Core.List.{List}
 use Rattle.std.proofs.Math.Bool.{true}
@@ -17,9 +18,13 @@ use Rattle.bounded.specs.PartsLaws.{part_inside, join_from_more}
 use Rattle.outcome.specs.Outcome.{Outcome}
 use Rattle.outcome.specs.OutcomeLaws.{held, settled_answer, settled_done}
 use Rattle.outcome.specs.Chain.{first_of, both_pass}
+use Rattle.outcome.specs.declared.Refusal.{Refusal}
+use Rattle.outcome.specs.Result.{outcome_by}
 use Rattle.sizes.specs.declared.Layout.TheVariants.{FiveWords}
 use Rattle.sizes.specs.declared.Sizes.{Sizes}
+use Rattle.text.specs.declared.print.Printout.{Printout}
 use Rattle.text.specs.Print.{shown, added}
+use Rattle.text.specs.Puts.{Puts}
 use Rattle.text.specs.PrintLaws.{added_next}
 use Rattle.record.specs.Slot.{bytes_at}
 use Rattle.bits.specs.Bits.{count_outcome}
@@ -30,6 +35,11 @@ use Rattle.rules.proofs.laws.Volume.{fits_facts}
 use Rattle.rules.specs.laws.Chains.{judged, read_own}
 use Rattle.rules.proofs.laws.Chains.{judged_passed, read_chain}
 use Rattle.listing.specs.Listing.{answer_text, page_read, drawn_of, page_text, first_refusal, list_answer, list_text}
+
+-- the second number that a result says
+pub second_or : (given : Result ℕ Refusal) → result_unwrap_or given 0 ≡ (outcome_by {B = Unit {0}} 0 given tt).second
+second_or (Ok second) = refl
+second_or (Err refusal) = refl
 
 -- the first of some answers that is not 0
 module _ (answers : ℕ → ℕ) where
@@ -64,6 +74,14 @@ pub parts_next :
 unfolding join_parts
 parts_next f out out₁ text at at₁ n e l q =
     q ∙ added_next out out₁ at at₁ (join_from n 0 f) (f n) e l ∙ ap (added out at) (rw (add-one n) (sym (join_from_more f n 0 n (omega arith))))
+
+pub puts_parts : (f : ℕ → List ℕ) (old next new : Printout) (n : ℕ) → Puts old next (join_parts n f) → Puts next new (f n) → Puts old new (join_parts (n + 1) f)
+puts_parts f old next new n p q =
+    record {
+      same_buffer = q.same_buffer ∙ p.same_buffer;
+      same_length = q.same_length ∙ p.same_length;
+      puts = parts_next f old.out.now next.out.now _ old.at next.at n p.puts p.same_length q.puts;
+    }
 
 module _ (widths : Widths) (sizes : Sizes) (v : Volume) where
   -- The answer of a page's read: the volume's, by conditions 1, 2 and 5, which all pages share; else the page's own.
@@ -123,3 +141,16 @@ module _ (widths : Widths) (sizes : Sizes) (v : Volume) where
     unfolding list_text
     list_accepted out₁ at₁ z h l q =
         rw (← e, eq-eqb answer 0 z) (q ∙ added_next out out₁ at at₁ (join_parts sizes.pages (page_text widths sizes v)) (answer_text 0) h l)
+
+  pub puts_refused : (answer : ℕ) (old new : Printout) → answer ≡ list_answer widths sizes v → ¬ (answer ≡ 0) → Puts old new (answer_text answer) → Puts old new (list_text widths sizes v)
+  puts_refused answer old new e d p = record { same_buffer = p.same_buffer; same_length = p.same_length; puts = list_refused answer e old.out.now old.at _ d p.puts }
+
+  pub puts_accepted :
+      (old next new : Printout) → 0 ≡ list_answer widths sizes v → Puts old next (join_parts sizes.pages (page_text widths sizes v)) → Puts next new (answer_text 0)
+      → Puts old new (list_text widths sizes v)
+  puts_accepted old next new e p q =
+      record {
+        same_buffer = q.same_buffer ∙ p.same_buffer;
+        same_length = q.same_length ∙ p.same_length;
+        puts = list_accepted 0 e old.out.now old.at _ next.out.now next.at refl p.puts p.same_length q.puts;
+      }

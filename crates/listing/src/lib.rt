@@ -4,8 +4,8 @@
 ghost use Rattle.std.specs.Prelude.{◌≡◌, ◌+◌, ◌*◌, ◌≤◌, ◌<◌, length};
 ghost use Rattle.bounded.specs.Limits.{two_widths};
 ghost use Rattle.bounded.specs.Parts.{join_parts};
-ghost use Rattle.outcome.specs.Chain.{first_of};
-ghost use Rattle.text.specs.Print.{shown, added};
+ghost use Rattle.outcome.specs.Result.{answer_of};
+ghost use Rattle.text.specs.Puts.{Puts};
 ghost use Rattle.record.specs.Slot.{bytes_at};
 ghost use Rattle.bits.specs.Bits.{count_outcome};
 ghost use Rattle.sizes.specs.declared.Layout.TheVariants.{FiveWords};
@@ -13,75 +13,63 @@ ghost use Rattle.rules.specs.Volume.{volume};
 ghost use Rattle.rules.specs.laws.Chains.{SpansIn, read_own};
 ghost use Rattle.listing.specs.Listing.{answer_text, page_read, state_text, fields_text, page_text, list_answer, list_text};
 
+use outcome::Refusal;
 use sizes::{Layout, Sizes};
-use text::print;
+use text::print::Printout;
 
 // "answer=" and the number back.
-pub fn put_answer(out: &mut [u8], at: usize, answer: u32) -> usize
-    ensures { shown out.new result ≡ added out.old at (answer_text answer) }
+pub fn put_answer(out: &mut Printout, answer: u32)
+    ensures { Puts out.old out.new (answer_text answer) }
 {
-    let next = print::put_field(out, at, b"answer=", answer);
-    print::put_text(out, next, b"\n")
+    out.put_field(b"answer=", answer);
+    out.put_text(b"\n");
 }
 
 // Whether a page is set or empty.
-fn put_state(out: &mut [u8], at: usize, set: bool) -> usize
-    ensures { shown out.new result ≡ added out.old at (state_text set) }
+fn put_state(out: &mut Printout, set: bool)
+    ensures { Puts out.old out.new (state_text set) }
 {
     if set {
-        return print::put_text(out, at, b" state=set\n");
+        out.put_text(b" state=set\n");
+    } else {
+        out.put_text(b" state=empty\n");
     }
-    print::put_text(out, at, b" state=empty\n")
 }
 
-fn put_fields(
-    out: &mut [u8],
-    at: usize,
-    page: u32,
-    version: u32,
-    slot: u32,
-    drawn: u32,
-    set: bool,
-) -> usize
-    ensures { shown out.new result ≡ added out.old at (fields_text page version slot drawn set) }
+fn put_fields(out: &mut Printout, page: u32, version: u32, slot: u32, drawn: u32, set: bool)
+    ensures { Puts out.old out.new (fields_text page version slot drawn set) }
 {
-    let a = print::put_field(out, at, b"page=", page);
-    let b = print::put_field(out, a, b" version=", version);
-    let c = print::put_field(out, b, b" slot=", slot);
-    let d = print::put_field(out, c, b" drawn=", drawn);
-    put_state(out, d, set)
+    out.put_field(b"page=", page);
+    out.put_field(b" version=", version);
+    out.put_field(b" slot=", slot);
+    out.put_field(b" drawn=", drawn);
+    put_state(out, set);
 }
 
-// The answer of a page's read on a volume that conditions 1, 2 and 5 answer by `first`.
-fn read_answer(first: u32, sizes: Sizes, words: &[u32], state: &[u32], page: u32) -> u32
-    requires spans_in { first ≡ 0 → SpansIn FiveWords sizes.pages sizes.slots words.now state.now }
+// A page's own condition: its committed version has a record. Conditions 1, 2 and 5 are the volume's, of all pages.
+fn read_own(sizes: Sizes, words: &[u32], state: &[u32], page: u32) -> Result<(), Refusal>
+    requires spans_in { SpansIn FiveWords sizes.pages sizes.slots words.now state.now }
     requires page_lt_pages { page < sizes.pages }
-    ensures { result ≡ first_of first (read_own FiveWords sizes.pages sizes.slots words.now state.now page) }
+    ensures { answer_of result ≡ read_own FiveWords sizes.pages sizes.slots words.now state.now page }
 {
-    if first != 0 {
-        return first;
+    if reader::committed_slot(Layout::FiveWords, sizes.slots, words, state, page) < sizes.slots {
+        Ok(())
+    } else {
+        Err(Refusal::NoCommittedRecord)
     }
-    if reader::committed_slot(Layout::FiveWords, sizes.slots, words, state, page) >= sizes.slots {
-        return 14;
-    }
-    0
 }
 
-// The answer of the first page whose read is refused; 0 where none is. The volume is judged once, for all pages.
-fn list_answer(sizes: Sizes, words: &[u32], contents: &[u8], state: &[u32]) -> u32
-    ensures { result ≡ list_answer two_widths sizes (volume words.now contents.now state.now) }
+// The refusal of the first page whose read is refused. The volume is judged once, for all pages.
+fn list_answer(sizes: Sizes, words: &[u32], contents: &[u8], state: &[u32]) -> Result<(), Refusal>
+    ensures { answer_of result ≡ list_answer two_widths sizes (volume words.now contents.now state.now) }
 {
     let fits = volume::volume_fits(Layout::FiveWords, sizes, words, contents, state);
     let first = volume::judged(Layout::FiveWords, fits, sizes, words, state);
-    let mut page = 0;
-    while page < sizes.pages {
-        let answer = read_answer(first, sizes, words, state, page);
-        if answer != 0 {
-            return answer;
-        }
-        page += 1;
+    for page in 0..sizes.pages {
+        first?;
+        read_own(sizes, words, state, page)?;
     }
-    0
+    Ok(())
 }
 
 // "drawn is what Count gives for its bytes": those of a slot.
@@ -91,8 +79,7 @@ fn drawn_in(width: u32, contents: &[u8], slot: u32) -> u32
 {
     let w = width as usize;
     let b = w * (slot as usize);
-    let r = bits::count(&contents[b..b + w]);
-    outcome::second_of(r)
+    bits::count(&contents[b..b + w]).unwrap_or(0)
 }
 
 // The line of a page whose read is accepted.
@@ -102,64 +89,37 @@ fn put_page(
     contents: &[u8],
     state: &[u32],
     page: u32,
-    out: &mut [u8],
-    at: usize,
-) -> usize
+    out: &mut Printout,
+)
     requires { (page_read two_widths sizes (volume words.now contents.now state.now) page).answer ≡ 0 }
-    ensures { shown out.new result
-        ≡ added out.old at (page_text two_widths sizes (volume words.now contents.now state.now) page) }
+    ensures { Puts out.old out.new (page_text two_widths sizes (volume words.now contents.now state.now) page) }
 {
     let s = state::page_at(state, page);
     let slot = reader::committed_slot(Layout::FiveWords, sizes.slots, words, state, page);
-    put_fields(
-        out,
-        at,
-        page,
-        s.committed,
-        slot,
-        drawn_in(sizes.width, contents, slot),
-        s.is_set(),
-    )
+    let drawn = drawn_in(sizes.width, contents, slot);
+    put_fields(out, page, s.committed, slot, drawn, s.is_set());
 }
 
 // The lines of all pages.
-fn put_pages(
-    sizes: Sizes,
-    words: &[u32],
-    contents: &[u8],
-    state: &[u32],
-    out: &mut [u8],
-    at: usize,
-) -> usize
+fn put_pages(sizes: Sizes, words: &[u32], contents: &[u8], state: &[u32], out: &mut Printout)
     requires { list_answer two_widths sizes (volume words.now contents.now state.now) ≡ 0 }
-    ensures { shown out.new result
-        ≡ added out.old at (join_parts sizes.pages (page_text two_widths sizes (volume words.now contents.now state.now))) }
+    ensures { Puts out.old out.new
+        (join_parts sizes.pages (page_text two_widths sizes (volume words.now contents.now state.now))) }
 {
-    let mut place = at;
-    let mut page = 0;
-    while page < sizes.pages {
-        place = put_page(sizes, words, contents, state, page, out, place);
-        page += 1;
+    for page in 0..sizes.pages {
+        put_page(sizes, words, contents, state, page, out);
     }
-    place
 }
 
 // "If a read is refused, list prints only one line, answer= and the first such number."
-pub fn list(
-    sizes: Sizes,
-    words: &[u32],
-    contents: &[u8],
-    state: &[u32],
-    out: &mut [u8],
-    at: usize,
-) -> usize
-    ensures { shown out.new result
-        ≡ added out.old at (list_text two_widths sizes (volume words.now contents.now state.now)) }
+pub fn list(sizes: Sizes, words: &[u32], contents: &[u8], state: &[u32], out: &mut Printout)
+    ensures { Puts out.old out.new (list_text two_widths sizes (volume words.now contents.now state.now)) }
 {
-    let answer = list_answer(sizes, words, contents, state);
-    if answer != 0 {
-        return put_answer(out, at, answer);
+    match list_answer(sizes, words, contents, state) {
+        Ok(()) => {
+            put_pages(sizes, words, contents, state, out);
+            put_answer(out, 0);
+        }
+        Err(refusal) => put_answer(out, refusal.number()),
     }
-    let next = put_pages(sizes, words, contents, state, out, at);
-    put_answer(out, next, 0)
 }

@@ -4,3 +4,4 @@ pub mod Row
 pub mod Computing
 pub mod Reply
 pub mod Chain
+pub mod Result

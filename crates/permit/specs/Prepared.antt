@@ -1,12 +1,11 @@
 -- What judging rests on: the bounds of a sound table, the exposed records, and the chains and found slots that a search goes over.
-use Rattle.std.specs.Prelude.{ℕ, ◌+◌, ◌*◌, ◌≤◌, ◌<◌, ◌≡◌, List, Bool, true, length, get_or, take}
+use Rattle.std.specs.Prelude.{ℕ, ◌+◌, ◌*◌, ◌≤◌, ◌<◌, ◌≡◌, List, Bool, true, length, get_or}
 use Rattle.std.proofs.Common.{arith, sym, subst}
 use Rattle.bounded.specs.Limits.{max_slots}
-use Rattle.bounded.specs.Noted.{Noted}
 use Rattle.sizes.specs.declared.Layout.{Layout}
 use Rattle.sizes.specs.declared.Layout.TheVariants.{FiveWords}
 use Rattle.record.specs.declared.Record.{Record}
-use Rattle.record.specs.declared.Slot.TheVariants.{Holds}
+use Rattle.std.specs.Prelude.{Some}
 use Rattle.record.specs.Slot.{holds, slot_in, slot_at}
 use Rattle.state.specs.State.{state_at}
 use Rattle.table.specs.Table.{table_sound}
@@ -24,7 +23,7 @@ use Rattle.chain.specs.Chain.{Linkable, Chained}
 pub record Within (S : ℕ) (words state : List ℕ) : Type 0 where
   pub slots_few : S ≤ max_slots
   pub slots_in_lem : 5 * S ≤ length words
-  pub pages_in_lem : (k : ℕ) (r : Record) → k < S → slot_at words k ≡ Holds r → 4 * r.p + 4 ≤ length state
+  pub pages_in_lem : (k : ℕ) (r : Record) → k < S → slot_at words k ≡ Some r → 4 * r.p + 4 ≤ length state
 
 -- a volume that is judged and passes
 pub judged_linkable : (P S : ℕ) (words state : List ℕ) → SpansIn FiveWords P S words state → table_sound P S (slot_at words) ≡ true → Linkable P S words
@@ -59,11 +58,10 @@ pub record Searchable (S : ℕ) (words chains found : List ℕ) : Type 0 where
   pub chained : Chained Pointer S (slot_at words) chains
   pub found_in : (i : ℕ) → i < length found → get_or found i 0 < S
 
-pub searchable : (P S : ℕ) (words state chains found : List ℕ) (count : ℕ) → Linkable P S words → Chained Pointer S (slot_at words) chains → Noted (exposed_at words state) S found count → Searchable S words chains (take count found)
-unfolding exposed_slots
-searchable P S words state chains found count l c f = record {
+pub searchable : (P S : ℕ) (words state chains found : List ℕ) → Linkable P S words → Chained Pointer S (slot_at words) chains → found ≡ exposed_slots S (slot_at words) (state_at state) → Searchable S words chains found
+searchable P S words state chains found l c e = record {
   slots_few = l.slots_few;
   slots_in_lem = l.slots_in_lem;
   chained = c;
-  found_in = subst (λ (x : List ℕ). (i : ℕ) → i < length x → get_or x i 0 < S) (sym f.noted) (found_below S (slot_at words) (state_at state));
+  found_in = subst (λ (x : List ℕ). (i : ℕ) → i < length x → get_or x i 0 < S) (sym e) (found_below S (slot_at words) (state_at state));
 }

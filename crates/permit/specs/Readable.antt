@@ -4,7 +4,7 @@ use Rattle.std.proofs.Common.{arith, subst}
 use Rattle.sizes.specs.declared.Layout.{Layout}
 use Rattle.sizes.specs.declared.Layout.TheVariants.{FourWords}
 use Rattle.record.specs.declared.Record.{Record}
-use Rattle.record.specs.declared.Slot.TheVariants.{Holds}
+use Rattle.std.specs.Prelude.{Some}
 use Rattle.record.specs.Slot.{slot_in}
 use Rattle.table.specs.Table.{table_sound}
 use Rattle.table.proofs.HighestSlot.{page_below}
@@ -28,5 +28,5 @@ module _ (P S : ℕ) (words state : List ℕ) (f : Readable P S words state) whe
   pub page_in_state : (p : ℕ) → p < P → 4 * p + 4 ≤ length state
   page_in_state p h = let s = f.spans.pages_in_lem in omega arith
 
-  pub record_in_state : (k : ℕ) (r : Record) → k < S → slot_in FourWords words k ≡ Holds r → 4 * r.p + 4 ≤ length state
+  pub record_in_state : (k : ℕ) (r : Record) → k < S → slot_in FourWords words k ≡ Some r → 4 * r.p + 4 ≤ length state
   record_in_state k r h e = page_in_state r.p (page_below P S (slot_in FourWords words) k r f.sound h e)

@@ -7,8 +7,8 @@ use Rattle.bounded.specs.Choice.{both_left, both_right}
 use Rattle.bounded.specs.Below.{some_below}
 use Rattle.bounded.specs.BelowLaws.{some_of}
 use Rattle.record.specs.declared.Record.{Record}
-use Rattle.record.specs.declared.Slot.{Slot}
-use Rattle.record.specs.declared.Slot.TheVariants.{Blank, Holds}
+use Rattle.record.specs.Slot.{Slot}
+use Rattle.std.specs.Prelude.{None, Some}
 use Rattle.record.specs.Slot.{holds, some_record, straddles}
 use Rattle.state.specs.declared.PageState.{PageState}
 use Rattle.record.specs.SlotLaws.{holds_exactly}
@@ -21,11 +21,11 @@ use Rattle.chain.specs.Chain.{chain_of, in_chain}
 
 -- ---- what a slot holds
 
-pub holds_none : (f : Record → Bool) {s : Slot} → s ≡ Blank → holds f s ≡ false
+pub holds_none : (f : Record → Bool) {s : Slot} → s ≡ None → holds f s ≡ false
 unfolding holds
 holds_none f e = rw e
 
-pub holds_record : (f : Record → Bool) {s : Slot} {r : Record} → s ≡ Holds r → holds f s ≡ f r
+pub holds_record : (f : Record → Bool) {s : Slot} {r : Record} → s ≡ Some r → holds f s ≡ f r
 unfolding holds
 holds_record f e = rw e
 

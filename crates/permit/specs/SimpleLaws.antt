@@ -6,7 +6,7 @@ use borrow.Author.Tests.{eq-eqb, ne_eqb, lt-ltb, le-ltb}
 use Rattle.bounded.specs.Below.{some_below}
 use Rattle.bounded.specs.BelowLaws.{some_of}
 use Rattle.record.specs.declared.Record.{Record}
-use Rattle.record.specs.declared.Slot.{Slot}
+use Rattle.record.specs.Slot.{Slot}
 use Rattle.record.specs.Slot.{holds, some_record}
 use Rattle.state.specs.declared.PageState.{PageState}
 use Rattle.rules.specs.Permission.{is_obsolete, is_exposed, is_current}

@@ -9,7 +9,7 @@ ghost use Rattle.rules.specs.Simple.{simple_may_erase_record, simple_may_erase, 
 ghost use Rattle.permit.specs.Readable.{Readable};
 
 use super::{is_current, is_exposed, is_obsolete};
-use record::{Record, Slot};
+use record::Record;
 use sizes::{Layout, Sizes};
 
 // "any obsolete record may be erased", and an exposed one as with a back pointer
@@ -17,13 +17,7 @@ fn may_erase_record(state: &[u32], record: Record) -> bool
     requires { 4 * «record».p + 4 ≤ length state.now }
     ensures { result ≡ simple_may_erase_record (state_at state.now) «record» }
 {
-    if is_obsolete(state, record) {
-        return true;
-    }
-    if !is_exposed(state, record) {
-        return false;
-    }
-    !is_current(state, record)
+    is_obsolete(state, record) || is_exposed(state, record) && !is_current(state, record)
 }
 
 // The slot may be erased.
@@ -32,7 +26,7 @@ fn may_erase(sizes: Sizes, words: &[u32], state: &[u32], slot: u32) -> bool
     requires slot_lt_slots { slot < sizes.slots }
     ensures { result ≡ simple_may_erase (slot_in FourWords words.now) (state_at state.now) slot }
 {
-    let Slot::Holds(record) = record::slot_in(Layout::FourWords, words, slot) else {
+    let Some(record) = record::slot_in(Layout::FourWords, words, slot) else {
         return false;
     };
     may_erase_record(state, record)
@@ -44,12 +38,10 @@ pub fn may_erase_all(sizes: Sizes, words: &[u32], state: &[u32], list: &[u32]) -
     requires listed { Listed sizes.slots list.now }
     ensures { result ≡ simple_may_erase_all (slot_in FourWords words.now) (state_at state.now) list.now }
 {
-    let mut i = 0;
-    while i < list.len() {
-        if !may_erase(sizes, words, state, list[i]) {
+    for &slot in list {
+        if !may_erase(sizes, words, state, slot) {
             return false;
         }
-        i += 1;
     }
     true
 }
@@ -59,18 +51,8 @@ fn is_buried(state: &[u32], record: Record, page: u32, version: u32) -> bool
     requires { 4 * «record».p + 4 ≤ length state.now }
     ensures { result ≡ buried_by (state_at state.now) page version «record» }
 {
-    if !is_exposed(state, record) {
-        return false;
-    }
-    if record.p == page {
-        if record.v < version {
-            return true;
-        }
-    }
-    if record.np != page {
-        return false;
-    }
-    record.nv < version
+    is_exposed(state, record)
+        && (record.p == page && record.v < version || record.np == page && record.nv < version)
 }
 
 // The slot holds a record that a write of the page at the version buries.
@@ -86,7 +68,7 @@ fn buries_slot(
     requires slot_lt_slots { slot < sizes.slots }
     ensures { result ≡ holds (buried_by (state_at state.now) page version) (slot_in FourWords words.now slot) }
 {
-    let Slot::Holds(record) = record::slot_in(Layout::FourWords, words, slot) else {
+    let Some(record) = record::slot_in(Layout::FourWords, words, slot) else {
         return false;
     };
     is_buried(state, record, page, version)
@@ -99,12 +81,10 @@ pub fn would_bury(sizes: Sizes, words: &[u32], state: &[u32], page: u32) -> bool
     ensures { result ≡ would_bury sizes.slots (slot_in FourWords words.now) (state_at state.now) page }
 {
     let version = state::page_at(state, page).used;
-    let mut k = 0;
-    while k < sizes.slots {
+    for k in 0..sizes.slots {
         if buries_slot(sizes, words, state, k, page, version) {
             return true;
         }
-        k += 1;
     }
     false
 }

@@ -1,7 +1,7 @@
 -- What the tests of a pick say, its answer, and the words that it leaves.
-use Rattle.std.specs.Prelude.{ℕ, ◌-◌, ◌*◌, ◌≤◌, ◌<◌, ◌≡◌, refl, List, [], ◌∷◌, Bool, true, length, set}
+use Rattle.std.specs.Prelude.{ℕ, ◌-◌, ◌*◌, ◌≤◌, ◌<◌, ◌≡◌, List, [], ◌∷◌, Bool, true, length}
 use native.Mathlib.Omega.{arith}
-use Rattle.std.proofs.Math.Path.{sym, ap}
+use Rattle.std.proofs.Math.Path.{refl, sym, ap}
 use Rattle.std.proofs.Common.{◌∙◌}
 use borrow.Author.Tests.{ltb-true, eq-eqb}
 use Rattle.bounded.specs.Limits.{Widths, two_widths}
@@ -23,17 +23,18 @@ use Rattle.pick.specs.Picking.{best_by, unseen_by}
 
 -- ---- the answer, behind what the calls on a block share
 
-module _ (widths : Widths) (sizes : Sizes) (v : Volume) (block : NamedBlock) (n : ℕ) (out : List ℕ) (four : length out ≡ 4) {first : ℕ} (is_first : first ≡ block_judged widths sizes v block) where
-  pub judged_refuses : ¬ (first ≡ 0) → first ≡ pick_answer widths sizes v block n out
-  judged_refuses h = first_refuses first _ is_first h ∙ sym (pick_chain widths sizes v block n out four)
+module _ (widths : Widths) (sizes : Sizes) (v : Volume) (block : NamedBlock) (n : ℕ) (out : List ℕ) (four : length out ≡ 4) where
+  pub judged_refuses : {first : ℕ} → first ≡ block_judged widths sizes v block → ¬ (first ≡ 0) → first ≡ pick_answer widths sizes v block n out
+  judged_refuses {first} e h = first_refuses first _ e h ∙ sym (pick_chain widths sizes v block n out four)
 
-  -- "18, n is 0"
-  pub none_refused : first ≡ 0 → n ≡ 0 → 18 ≡ pick_answer widths sizes v block n out
-  unfolding pick_own
-  none_refused z e = first_passes first 18 is_first z (sym (ap (λ (b : Bool). b ⇒ 18 otherwise 0) (eq-eqb n 0 e))) ∙ sym (pick_chain widths sizes v block n out four)
+  module _ (none : 0 ≡ block_judged widths sizes v block) where
+    -- "18, n is 0"
+    pub none_refused : n ≡ 0 → 18 ≡ pick_answer widths sizes v block n out
+    unfolding pick_own
+    none_refused e = first_passes 0 18 none refl (sym (ap (λ (b : Bool). b ⇒ 18 otherwise 0) (eq-eqb n 0 e))) ∙ sym (pick_chain widths sizes v block n out four)
 
-  pub all_passed : first ≡ 0 → ¬ (n ≡ 0) → 0 ≡ pick_answer widths sizes v block n out
-  all_passed z d = sym (pick_passes widths sizes v block n out four (sym is_first ∙ z) d)
+    pub all_passed : ¬ (n ≡ 0) → 0 ≡ pick_answer widths sizes v block n out
+    all_passed d = sym (pick_passes widths sizes v block n out four (sym none) d)
 
 -- ---- a volume and a block of it whose conditions pass
 
@@ -46,10 +47,10 @@ module _ (sizes : Sizes) (words contents state : List ℕ) (block : NamedBlock) 
     pub there : block.number < length block.starts
 
   -- at the two widths there are
-  pub pickable : {first : ℕ} → first ≡ block_judged two_widths sizes (volume words contents state) block → first ≡ 0 → Pickable
+  pub pickable : 0 ≡ block_judged two_widths sizes (volume words contents state) block → Pickable
   unfolding block_ok
-  pickable is_first z =
-      let t = block_judged_passed two_widths sizes (volume words contents state) block (sym is_first ∙ z) in
+  pickable none =
+      let t = block_judged_passed two_widths sizes (volume words contents state) block (sym none) in
       let f = sound_flash sizes words contents state t.fitting t.table in
       record {
         linkable = f.linkable;
@@ -60,15 +61,6 @@ module _ (sizes : Sizes) (words contents state : List ℕ) (block : NamedBlock) 
       }
 
 -- ---- the words
-
--- four words, each stored
-stored : (out : List ℕ) → length out ≡ 4 → (a b c d : ℕ) → set (set (set (set out 0 a) 1 b) 2 c) 3 d ≡ a ∷ b ∷ c ∷ d ∷ []
-stored [] e a b c d = absurd (omega arith)
-stored (x ∷ []) e a b c d = absurd (omega arith)
-stored (x ∷ y ∷ []) e a b c d = absurd (omega arith)
-stored (x ∷ y ∷ z ∷ []) e a b c d = absurd (omega arith)
-stored (x ∷ y ∷ z ∷ w ∷ []) e a b c d = refl
-stored (x ∷ y ∷ z ∷ w ∷ t ∷ l) e a b c d = absurd (omega arith)
 
 pub looked_most : (block : NamedBlock) (n : ℕ) {looked : ℕ} → looked ≡ looked_at block n → looked ≤ length block.starts
 unfolding looked_at
@@ -87,6 +79,6 @@ module _ (sizes : Sizes) (v : Volume) (block : NamedBlock) (there : block.number
         let f = ap (λ (b : Freed). b.frees) best_picked in
         omega arith
 
-    pub words_picked : (out : List ℕ) → length out ≡ 4 → set (set (set (set out 0 best.block) 1 best.frees) 2 looked) 3 lead ≡ four_words (pick_of sizes v block n)
+    pub words_picked : best.block ∷ best.frees ∷ looked ∷ lead ∷ [] ≡ four_words (pick_of sizes v block n)
     unfolding pick_of
-    words_picked out four = stored out four best.block best.frees looked lead ∙ rw (best_picked, is_looked, lead_picked)
+    words_picked = rw (best_picked, is_looked, lead_picked)

@@ -1,13 +1,10 @@
 -- What the blocks that are looked at free, by what was found, the best of them, and the size of the others.
-use Rattle.std.specs.Prelude.{ℕ, List, [], ◌∷◌, Bool, cond, ◌&&◌, ltb, length}
+use Rattle.std.specs.Prelude.{ℕ, List, Bool, cond, ◌&&◌, ltb, length}
 use Rattle.bounded.specs.Below.{max_below, list_below}
 use Rattle.bounded.specs.BelowLaws.{first_most}
 use Rattle.sizes.specs.declared.Block.{Block}
 use Rattle.sizes.specs.declared.Sizes.{Sizes}
 use Rattle.sizes.specs.Blocks.{NamedBlock, block_at, in_block}
-use Rattle.record.specs.Slot.{slot_at}
-use Rattle.state.specs.State.{state_at}
-use Rattle.twins.specs.Twins.{twins}
 use Rattle.rules.specs.Permission.{scene_of, may_erase_alone}
 use Rattle.rules.specs.Volume.{Volume}
 use Rattle.rules.specs.Found.{by_found}

@@ -1,5 +1,5 @@
 -- The loops of a pick, each at its start, one number more and at its end: what a block frees, the best of the blocks looked at, and the largest unseen.
-use Rattle.std.specs.Prelude.{ℕ, ◌+◌, ◌-◌, ◌<◌, ◌≤◌, ◌≡◌, List, [], ◌∷◌, Bool, true, false, ◌&&◌}
+use Rattle.std.specs.Prelude.{ℕ, ◌+◌, ◌-◌, ◌<◌, ◌≤◌, ◌≡◌, List, Bool, true, false, ◌&&◌, max}
 use native.Mathlib.Omega.{arith}
 use Rattle.std.proofs.Common.{add-one, ◌∙◌}
 use Rattle.std.proofs.Math.Path.{sym, ap, ap₂, subst, fun_ext}
@@ -133,8 +133,6 @@ module _ (S : ℕ) (block : NamedBlock) (looked : ℕ) where
     unfolding unseen_by block_size
     unseen_size_lem = rw (le-ltb i looked behind) (ap block_size is_Block)
 
-    pub larger : largest < slots.end - slots.first → slots.end - slots.first ≡ max_below (i + 1) (unseen_by S block looked)
-    larger h = let e = unseen_size_lem in let m = max_here (unseen_by S block looked) i (omega arith) in omega arith
-
-    pub not_larger : slots.end - slots.first ≤ largest → largest ≡ max_below (i + 1) (unseen_by S block looked)
-    not_larger h = let e = unseen_size_lem in let m = max_stays (unseen_by S block looked) i (omega arith) in omega arith
+    pub unseen_more : {most : ℕ} → most ≡ max largest (slots.end - slots.first) → most ≡ max_below (i + 1) (unseen_by S block looked)
+    unfolding max_below
+    unseen_more e = e ∙ rw (unseen_size_lem, so_far, add-one i)

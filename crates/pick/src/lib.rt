@@ -8,16 +8,18 @@ mod round; // round.rt: the table of blocks, gone round
 
 ghost use Rattle.std.specs.Prelude.{◌≡◌};
 ghost use Rattle.bounded.specs.Limits.{two_widths};
-ghost use Rattle.outcome.specs.Outcome.{returned};
+ghost use Rattle.outcome.specs.Result.{ends};
 ghost use Rattle.sizes.specs.Blocks.{named};
 ghost use Rattle.rules.specs.Volume.{volume};
 ghost use Rattle.upkeep.specs.Pick.{pick_outcome};
 
+use outcome::Refusal;
 use sizes::Sizes;
 
 // "in four lent words"
 const WORDS: usize = 4;
 
+// Kept: a struct, for a pair would not say which number is which.
 // A block, and what it frees.
 #[derive(Clone, Copy)]
 pub struct Freed {
@@ -35,26 +37,21 @@ pub fn pick(
     block: u32,
     n: u32,
     out: &mut [u32],
-) -> u64
-    ensures { returned result out.new
+) -> Result<(), Refusal>
+    ensures { ends result out.new
         ≡ pick_outcome two_widths sizes (volume words.now contents.now state.now) (named starts.now block) n out.old }
 {
     if out.len() != WORDS {
-        return outcome::reply(1, 0);
+        return Err(Refusal::WrongSize);
     }
-    let first = volume::blocks::judged(sizes, words, contents, state, starts, block);
-    if first != 0 {
-        return outcome::reply(first, 0);
-    }
+    volume::blocks::judged(sizes, words, contents, state, starts, block)?;
     if n == 0 {
-        return outcome::reply(18, 0);
+        return Err(Refusal::NothingToLookAt);
     }
     let looked = round::looked_at(starts, n);
     let best = look::best(sizes, words, contents, state, starts, block, looked);
     let largest = round::largest_unseen(sizes.slots, starts, block, looked);
-    out[0] = best.block;
-    out[1] = best.frees;
-    out[2] = looked;
-    out[3] = round::lead(largest, best.frees);
-    outcome::reply(0, 0)
+    let lead = round::lead(largest, best.frees);
+    out.copy_from_slice(&[best.block, best.frees, looked, lead]);
+    Ok(())
 }

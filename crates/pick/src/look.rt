@@ -12,6 +12,7 @@ ghost use Rattle.pick.specs.Picking.{frees_by, best_by};
 
 use super::Freed;
 use chain::Key;
+use noted::Slots;
 use sizes::{Block, Layout, Sizes, blocks};
 
 // "Frees means its records that may be erased, judged one by one", by what was found.
@@ -32,12 +33,10 @@ fn frees(
     ensures no_marks_2 { NoMarks marks.new }
 {
     let mut count = 0;
-    let mut slot = block.first;
-    while slot < block.end {
+    for slot in block.first..block.end {
         if judge::may_erase_alone(sizes, words, contents, state, chains, found, marks, slot) {
             count += 1;
         }
-        slot += 1;
     }
     count
 }
@@ -63,8 +62,7 @@ fn best_found(
 {
     let mut marks = [0u8; 1024];
     let mut best = Freed { block, frees: 0 };
-    let mut i = 0;
-    while i < looked {
+    for i in 0..looked {
         let seen = super::round::seen_at(starts, block, i);
         let slots = blocks::block_at(sizes.slots, starts, seen);
         let freed = frees(
@@ -76,7 +74,6 @@ fn best_found(
                 frees: freed,
             };
         }
-        i += 1;
     }
     best
 }
@@ -100,22 +97,16 @@ pub fn best(
     ensures { result ≡ best_by (named starts.now block) looked (frees sizes (volume words.now contents.now state.now)) }
 {
     let mut chains = [0u16; 2048];
-    chain::link_slots(
-        Layout::FiveWords,
-        Key::Pointer,
-        sizes.slots,
-        words,
-        &mut chains,
-    );
-    let mut found = [0u16; 1024];
-    let count = permit::find_exposed(sizes.slots, words, state, &mut found);
+    chain::link_sound_slots(Layout::FiveWords, Key::Pointer, sizes, words, &mut chains);
+    let mut found = Slots::new();
+    permit::find_exposed(sizes.slots, words, state, &mut found);
     best_found(
         sizes,
         words,
         contents,
         state,
         &chains,
-        &found[..count],
+        found.as_slice(),
         starts,
         block,
         looked,

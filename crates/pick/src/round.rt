@@ -15,11 +15,7 @@ pub fn seen_at(starts: &[u32], block: u32, i: u32) -> u32
     requires i_in_bounds { i < length starts.now }
     ensures { result ≡ (seen_at (named starts.now block) i).number }
 {
-    let length = starts.len() as u32;
-    if block + i < length {
-        return block + i;
-    }
-    block + i - length
+    (block + i) % (starts.len() as u32)
 }
 
 // "the blocks looked at (the smaller of n and the table's length)"
@@ -27,10 +23,7 @@ pub fn looked_at(starts: &[u32], n: u32) -> u32
     requires { length starts.now ≤ 16 }
     ensures { (block : ℕ) → result ≡ looked_at (named starts.now block) n }
 {
-    if (n as usize) < starts.len() {
-        return n;
-    }
-    starts.len() as u32
+    n.min(starts.len() as u32)
 }
 
 // "the largest unseen block's size"; 0 where every block is seen
@@ -41,14 +34,9 @@ pub fn largest_unseen(slots: u32, starts: &[u32], block: u32, looked: u32) -> u3
     ensures { result ≡ max_below (length starts.now) (unseen_by slots (named starts.now block) looked) }
 {
     let mut largest = 0;
-    let mut i = looked;
-    while (i as usize) < starts.len() {
+    for i in looked..starts.len() as u32 {
         let unseen = blocks::block_at(slots, starts, seen_at(starts, block, i));
-        let size = unseen.end - unseen.first;
-        if size > largest {
-            largest = size;
-        }
-        i += 1;
+        largest = largest.max(unseen.end - unseen.first);
     }
     largest
 }
@@ -57,8 +45,5 @@ pub fn largest_unseen(slots: u32, starts: &[u32], block: u32, looked: u32) -> u3
 pub fn lead(largest: u32, number: u32) -> u32
     ensures { result ≡ largest - number }
 {
-    if largest < number {
-        return 0;
-    }
-    largest - number
+    largest.saturating_sub(number)
 }

@@ -40,6 +40,7 @@ pub fn read_full<R: Read>(input: &mut R, buf: &mut [u8]) -> usize
     ensures bytes { Consumes (R.remaining input.old) (R.remaining input.new) (take result buf.new) }
 {
     let mut done = 0;
+    // Kept: a while, since a read says how far it went.
     while done < buf.len() {
         match read_some(input, &mut buf[done..]) {
             Ok(n) => {

@@ -2,8 +2,8 @@
 use Rattle.std.specs.Prelude.{ℕ, ◌≤◌, ◌<◌, ◌≡◌, refl, List, cond, ltb}
 use Rattle.std.proofs.Common.{arith, lt-ltb, le-ltb}
 use Rattle.record.specs.declared.Record.{Record}
-use Rattle.record.specs.declared.Slot.{Slot}
-use Rattle.record.specs.declared.Slot.TheVariants.{Holds}
+use Rattle.record.specs.Slot.{Slot}
+use Rattle.std.specs.Prelude.{Some}
 use Rattle.table.specs.Table.{highest, highest_version_of, version_in}
 use Rattle.table.proofs.TableLaws.{highest_is, highest_held, highest_page, highest_above, highest_exists, has_record_lem}
 use Rattle.follow.specs.declared.Verdict.{Verdict}
@@ -13,7 +13,7 @@ use Rattle.protocol.specs.View.{InSlots}
 module _ (S : ℕ) (t : ℕ → Slot) (bytes : ℕ → List ℕ) where
   -- r is the highest record of page p
   pub record Top (p : ℕ) (r : Record) : Type 0 where
-    pub found : highest S t p ≡ Holds r
+    pub found : highest S t p ≡ Some r
     pub contents : List ℕ
     pub stored : InSlots S t bytes r contents
     pub of_page_lem : r.p ≡ p

@@ -9,7 +9,7 @@ use Rattle.bounded.specs.Limits.{highest_version, Widths}
 use Rattle.outcome.specs.OutcomeLaws.{settled_done}
 use Rattle.sizes.specs.declared.Layout.{Layout}
 use Rattle.sizes.specs.declared.Sizes.{Sizes}
-use Rattle.record.specs.declared.Slot.{Slot}
+use Rattle.record.specs.Slot.{Slot}
 use Rattle.record.specs.Slot.{slot_in, bytes_at}
 use Rattle.state.specs.declared.PageState.{PageState}
 use Rattle.state.specs.State.{state_at, state_words, state_sound, in_flight}

@@ -9,8 +9,8 @@ use Rattle.bounded.specs.Choice.{on_test}
 use Rattle.bounded.specs.BelowLaws.{all_of}
 use Rattle.sizes.specs.declared.Sizes.{Sizes}
 use Rattle.sizes.specs.declared.Layout.TheVariants.{FiveWords}
-use Rattle.record.specs.declared.Slot.{Slot}
-use Rattle.record.specs.declared.Slot.TheVariants.{Blank, Holds}
+use Rattle.record.specs.Slot.{Slot}
+use Rattle.std.specs.Prelude.{None, Some}
 use Rattle.record.specs.Slot.{slot_at, bytes_at, slot_sound}
 use Rattle.record.specs.Flash.{Flash}
 use Rattle.record.specs.FlashLaws.{SizedIn}
@@ -58,8 +58,8 @@ module _ (back : (used committed : ℕ) → ℕ) {P S : ℕ} {t : ℕ → Slot} 
   table_sound_lem = all_of (λ k. slot_sound P (t k)) S (λ k h. by k h (t k) refl)
     where
       by : (k : ℕ) → k < S → (s : Slot) → t k ≡ s → slot_sound P s ≡ true
-      by k h Blank e = refl
-      by k h (Holds r) e = all_sound r (bytes k) (k, h, e, refl)
+      by k h None e = refl
+      by k h (Some r) e = all_sound r (bytes k) (k, h, e, refl)
 
   -- not 3
   pub all_have_record : all_below P (has_record S t) ≡ true
@@ -93,7 +93,7 @@ no_conflict w S f size core =
     twins_agree S (slot_at f.words) (twins w f)
     (λ j k a b l h ea eb p v.
     let same = core.shared.one_record a b (bytes_at w f.contents j) (bytes_at w f.contents k) (j, omega arith, ea, refl) (k, h, eb, refl) p v in
-    (twins_exactly w f j k (whole j (omega arith)) (whole k h)).1 (a, ea, eb ∙ ap Holds (sym same.0), same.1))
+    (twins_exactly w f j k (whole j (omega arith)) (whole k h)).1 (a, ea, eb ∙ ap Some (sym same.0), same.1))
   where
     whole : (k : ℕ) → k < S → length (bytes_at w f.contents k) ≡ w
     whole k h = bytes_whole w S f size k h

@@ -4,7 +4,7 @@ use Rattle.std.proofs.Common.{arith, ◌∙◌, inl, inr}
 use Rattle.std.proofs.Math.Path.{ap}
 use Rattle.bounded.specs.Choice.{on_test}
 use Rattle.record.specs.declared.Record.{Record}
-use Rattle.record.specs.declared.Slot.{Slot}
+use Rattle.record.specs.Slot.{Slot}
 use Rattle.record.specs.Slot.{straddles}
 use Rattle.record.specs.SlotLaws.{Straddles, straddles_facts, straddles_test, some_record_at, some_record_of}
 use Rattle.table.specs.Table.{version_in}

@@ -10,7 +10,7 @@ use Rattle.bounded.specs.Below.{some_below}
 use Rattle.bounded.specs.BelowLaws.{some_none}
 use Rattle.bounded.specs.Choice.{on_lt}
 use Rattle.record.specs.declared.Record.{Record}
-use Rattle.record.specs.declared.Slot.{Slot}
+use Rattle.record.specs.Slot.{Slot}
 use Rattle.follow.specs.declared.Verdict.{Verdict}
 use Rattle.follow.specs.declared.Verdict.TheVariants as says
 use Rattle.follow.specs.declared.End.TheVariants as ends

@@ -2,8 +2,8 @@
 use Rattle.std.specs.Prelude.{ℕ, ◌<◌, ◌≡◌, refl, List, ◌⊎◌, Bool, true}
 use Rattle.std.proofs.Common.{subst, inl, inr}
 use Rattle.record.specs.declared.Record.{Record}
-use Rattle.record.specs.declared.Slot.{Slot}
-use Rattle.record.specs.declared.Slot.TheVariants.{Holds}
+use Rattle.record.specs.Slot.{Slot}
+use Rattle.std.specs.Prelude.{Some}
 use Rattle.record.specs.SlotLaws.{Straddles}
 use Rattle.state.specs.declared.PageState.{PageState}
 use Rattle.state.specs.State.{in_flight}
@@ -48,7 +48,7 @@ permitted_same forth back st r (inr x) = inr x
 pub may_erase_permitted :
     (S : ℕ) (t : ℕ → Slot) (bytes : ℕ → List ℕ) (st : ℕ → PageState) (twin : ℕ → ℕ → Bool) (k : ℕ) (r : Record)
     → may_erase (scene S t st twin) k ≡ true
-    → t k ≡ Holds r
+    → t k ≡ Some r
     → Permitted (InSlots S t bytes) st r
 may_erase_permitted S t bytes st twin k r e h =
     let w = (slot_laws.may_erase_exactly S t st twin k).0 e in

@@ -8,8 +8,8 @@ use Rattle.std.specs.Prelude.{List, ◌⊎◌, Bool, true}
 use Rattle.std.proofs.Math.Logic.{inl, inr}
 use Rattle.bounded.specs.BelowLaws.{below_suc}
 use Rattle.record.specs.declared.Record.{Record}
-use Rattle.record.specs.declared.Slot.{Slot}
-use Rattle.record.specs.declared.Slot.TheVariants.{Blank, Holds}
+use Rattle.record.specs.Slot.{Slot}
+use Rattle.std.specs.Prelude.{None, Some}
 use Rattle.record.specs.Slot.{record_sound, planned_record}
 use Rattle.record.specs.SlotLaws.{sound_facts}
 
@@ -135,21 +135,21 @@ record_view = pointing_view (λ u c. c)
 
 -- the pairs in the S slots of the table t: some slot holds the record and has those bytes
 abbrev pub InSlots : (S : ℕ) (t : ℕ → Slot) (bytes : ℕ → List ℕ) → Record → List ℕ → Type 0
-InSlots S t bytes r b = (k : ℕ) × (k < S) × (t k ≡ Holds r) × (bytes k ≡ b)
+InSlots S t bytes r b = (k : ℕ) × (k < S) × (t k ≡ Some r) × (bytes k ≡ b)
 
 -- no two slots hold records of equal page and version
 abbrev pub NoTwins : (S : ℕ) (t : ℕ → Slot) → Type 0
 NoTwins S t =
-    (j k : ℕ) (a b : Record) → j < S → k < S → t j ≡ Holds a → t k ≡ Holds b → a.p ≡ b.p → a.v ≡ b.v → j ≡ k
+    (j k : ℕ) (a b : Record) → j < S → k < S → t j ≡ Some a → t k ≡ Some b → a.p ≡ b.p → a.v ≡ b.v → j ≡ k
 
 module _ (t : ℕ → Slot) (bytes : ℕ → List ℕ) (Q : Record → Type 0) (decide : (r : Record) → Dec (Q r)) where
   SlotSearch : Slot → Type 0
-  SlotSearch s = ((r : Record) × (s ≡ Holds r) × Q r) ⊎ ((r : Record) → s ≡ Holds r → Q r → ⊥)
+  SlotSearch s = ((r : Record) × (s ≡ Some r) × Q r) ⊎ ((r : Record) → s ≡ Some r → Q r → ⊥)
 
   search_slot : (s : Slot) → SlotSearch s
   unfolding SlotSearch
-  search_slot Blank = inr (λ r e q. let z : ◌≡◌ {A = ℕ} 0 1 = cc in omega arith)
-  search_slot (Holds r) =
+  search_slot None = inr (λ r e q. let z : ◌≡◌ {A = ℕ} 0 1 = cc in omega arith)
+  search_slot (Some r) =
       elim (decide r) [
         | yes q ↦ inl (r, refl, q)
         | no n ↦ inr (λ s e q. let w : s ≡ r = cc in n (subst Q w q))

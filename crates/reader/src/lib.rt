@@ -1,11 +1,10 @@
-// The reader: the slot words by reference and the page count, and what is read through it. The borrow checker covers no
-// function over such a struct, so each is thin and is proved by a walk of its MIR; the work is in covered functions on
-// plain slices: `copy_five`, and `copy_page` for either layout.
+// The reader: the slot words by reference and the page count, and what is read through it. It is thin: the work is in
+// `copy_page`, on plain slices and for either layout.
 #![tactic(auto)]
 
 ghost use Rattle.std.specs.Prelude.{◌≡◌, ◌+◌, ◌*◌, ◌≤◌, length};
 ghost use Rattle.bounded.specs.Limits.{two_widths};
-ghost use Rattle.outcome.specs.Outcome.{returned};
+ghost use Rattle.outcome.specs.Result.{ends};
 ghost use Rattle.sizes.specs.Sizes.{stride_of, sizes_of};
 ghost use Rattle.record.specs.Slot.{slot_in};
 ghost use Rattle.state.specs.State.{state_at};
@@ -13,6 +12,7 @@ ghost use Rattle.table.specs.Table.{lowest_slot};
 ghost use Rattle.rules.specs.Volume.{volume};
 ghost use Rattle.rules.specs.Read.{read_outcome_in, read_outcome};
 
+use outcome::Refusal;
 use sizes::{Layout, Sizes};
 
 #[derive(Clone, Copy)]
@@ -21,11 +21,42 @@ pub struct Reader<'a> {
     pub pages: u32,
 }
 
-// A reader of the slot words of a volume of `pages` pages.
-pub fn new<'a>(words: &'a [u32], pages: u32) -> Reader<'a>
-    ensures { (result.words ≡ words.entry) × (result.pages ≡ pages) }
-{
-    Reader { words, pages }
+impl<'a> Reader<'a> {
+    // A reader of the slot words of a volume of `pages` pages.
+    pub fn new(words: &'a [u32], pages: u32) -> Reader<'a>
+        ensures { (result.words ≡ words.entry) × (result.pages ≡ pages) }
+    {
+        Reader { words, pages }
+    }
+
+    // A page's committed contents, read into a slice as long as the width says.
+    pub fn read_page(
+        self,
+        slots: u32,
+        width: u32,
+        contents: &[u8],
+        state: &[u32],
+        page: u32,
+        out: &mut [u8],
+    ) -> Result<(), Refusal>
+        ensures { ends result out.new
+            ≡ read_outcome two_widths (sizes_of self.entry.pages slots width) (volume self.entry.words.now contents.now state.now) page out.old }
+    {
+        let sizes = Sizes {
+            pages: self.pages,
+            slots,
+            width,
+        };
+        copy_page(
+            Layout::FiveWords,
+            sizes,
+            self.words,
+            contents,
+            state,
+            page,
+            out,
+        )
+    }
 }
 
 // "the lowest slot holding the page at its committed version"; `slots` where there is none
@@ -47,69 +78,21 @@ pub fn copy_page(
     state: &[u32],
     page: u32,
     out: &mut [u8],
-) -> u64
-    ensures { returned result out.new
+) -> Result<(), Refusal>
+    ensures { ends result out.new
         ≡ read_outcome_in layout two_widths sizes (volume words.now contents.now state.now) page out.old }
 {
     let fits = volume::slice_fits(layout, sizes, words, contents, state, out.len());
-    let first = volume::judged(layout, fits, sizes, words, state);
-    if first != 0 {
-        return outcome::reply(first, 0);
-    }
+    volume::judged(layout, fits, sizes, words, state)?;
     if page >= sizes.pages {
-        return outcome::reply(6, 0);
+        return Err(Refusal::WrongList);
     }
     let slot = committed_slot(layout, sizes.slots, words, state, page);
     if slot >= sizes.slots {
-        return outcome::reply(14, 0);
+        return Err(Refusal::NoCommittedRecord);
     }
     record::flash::read_slot(contents, slot, out);
-    outcome::reply(0, 0)
-}
-
-// The same of records with a back pointer.
-fn copy_five(
-    words: &[u32],
-    pages: u32,
-    slots: u32,
-    width: u32,
-    contents: &[u8],
-    state: &[u32],
-    page: u32,
-    out: &mut [u8],
-) -> u64
-    ensures { returned result out.new
-        ≡ read_outcome two_widths (sizes_of pages slots width) (volume words.now contents.now state.now) page out.old }
-{
-    copy_page(
-        Layout::FiveWords,
-        Sizes {
-            pages,
-            slots,
-            width,
-        },
-        words,
-        contents,
-        state,
-        page,
-        out,
-    )
-}
-
-// A page's committed contents, read into a slice as long as the width says.
-pub fn read_page<'a>(
-    r: Reader<'a>,
-    slots: u32,
-    width: u32,
-    contents: &[u8],
-    state: &[u32],
-    page: u32,
-    out: &mut [u8],
-) -> u64
-    ensures { returned result out.new
-        ≡ read_outcome two_widths (sizes_of r.entry.pages slots width) (volume r.entry.words.now contents.now state.now) page out.old }
-{
-    copy_five(r.words, r.pages, slots, width, contents, state, page, out)
+    Ok(())
 }
 
 // Read: whoever calls this needs no reader.
@@ -122,9 +105,9 @@ pub fn read(
     state: &[u32],
     page: u32,
     out: &mut [u8],
-) -> u64
-    ensures { returned result out.new
+) -> Result<(), Refusal>
+    ensures { ends result out.new
         ≡ read_outcome two_widths (sizes_of pages slots width) (volume words.now contents.now state.now) page out.old }
 {
-    read_page(new(words, pages), slots, width, contents, state, page, out)
+    Reader::new(words, pages).read_page(slots, width, contents, state, page, out)
 }

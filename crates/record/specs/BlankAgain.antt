@@ -12,7 +12,7 @@ use Rattle.bounded.specs.PartsLaws.{part_length, part_put_same, part_put_other, 
 use Rattle.sizes.specs.declared.Layout.{Layout}
 use Rattle.sizes.specs.declared.Layout.TheVariants.{FiveWords, FourWords}
 use Rattle.sizes.specs.Sizes.{stride_of}
-use Rattle.record.specs.declared.Slot.TheVariants.{Blank}
+use Rattle.std.specs.Prelude.{None}
 use Rattle.record.specs.Slot.{encoded, slot_in, bytes_at, blank_record}
 use Rattle.record.specs.SlotLaws.{encoded_length, slot_blank_exactly}
 use Rattle.record.specs.Flash.{Flash, flash, Step, put_slot_in, apply_in, apply_all_in}
@@ -35,7 +35,7 @@ none_at FourWords (suc (suc (suc (suc i)))) h = absurd (omega arith)
 
 module _ (layout : Layout) (w S : ℕ) where
   -- a blank slot has those
-  blank_words : (words : List ℕ) (k : ℕ) → k < S → length words ≡ stride_of layout * S → slot_in layout words k ≡ Blank → part (stride_of layout) k words ≡ encoded layout blank_record
+  blank_words : (words : List ℕ) (k : ℕ) → k < S → length words ≡ stride_of layout * S → slot_in layout words k ≡ None → part (stride_of layout) k words ≡ encoded layout blank_record
   unfolding slot_in
   blank_words words k h q e =
       let l = part_length (stride_of layout) S k words h q in

@@ -1,5 +1,5 @@
 -- Storing or blanking slot k changes slot k to that record and bytes and no other slot; and what a list of steps leaves.
-use Rattle.std.specs.Prelude.{ℕ, suc, ◌+◌, ◌*◌, ◌<◌, ◌≡◌, length, take, get_or, replicate}
+use Rattle.std.specs.Prelude.{ℕ, suc, ◌*◌, ◌<◌, ◌≡◌, length, take, get_or, replicate}
 use Rattle.std.proofs.Common.{arith, sym, ◌∙◌, subst}
 use Rattle.std.proofs.Math.Path.{refl, ap}
 use Rattle.std.proofs.Math.Logic.{⊎_elim}
@@ -13,8 +13,8 @@ use Rattle.sizes.specs.declared.Layout.{Layout}
 use Rattle.sizes.specs.declared.Layout.TheVariants.{FiveWords}
 use Rattle.sizes.specs.Sizes.{stride_of}
 use Rattle.record.specs.declared.Record.{Record}
-use Rattle.record.specs.declared.Slot.{Slot}
-use Rattle.record.specs.declared.Slot.TheVariants.{Blank, Holds}
+use Rattle.record.specs.Slot.{Slot}
+use Rattle.std.specs.Prelude.{None, Some}
 use Rattle.record.specs.Slot.{encoded, slot_from, slot_in, bytes_at, blank_record}
 use Rattle.record.specs.SlotLaws.{encoded_length, Storable, slot_decoded, slot_of_none}
 use Rattle.record.specs.Flash.{Flash, Step, put_slot_in, apply_in, apply_all_in}
@@ -57,7 +57,7 @@ module _ (layout : Layout) (w S : ℕ) (f : Flash) (size : SizedIn layout w S f)
     store_sized = put_sized
 
     -- slot k holds the stored record, with the stored bytes; every other slot is as it was
-    pub store_slots : Storable layout r → slot_in layout (apply_in layout w f (Step.Store k r bytes)).words ≡ update (slot_in layout f.words) k (Holds r)
+    pub store_slots : Storable layout r → slot_in layout (apply_in layout w f (Step.Store k r bytes)).words ≡ update (slot_in layout f.words) k (Some r)
     unfolding apply_in put_slot_in
     store_slots h =
         slots_put layout S k r f.words inside size.words_sized ∙ ap (update (slot_in layout f.words) k) (slot_decoded layout r h)
@@ -71,7 +71,7 @@ module _ (layout : Layout) (w S : ℕ) (f : Flash) (size : SizedIn layout w S f)
   blank_sized = put_sized blank_record (replicate w 255) (length-replicate w 255)
 
   -- slot k is blank with bytes 255; every other slot is as it was
-  pub blank_slots : slot_in layout (apply_in layout w f (Step.Blank k)).words ≡ update (slot_in layout f.words) k Blank
+  pub blank_slots : slot_in layout (apply_in layout w f (Step.Blank k)).words ≡ update (slot_in layout f.words) k None
   unfolding apply_in put_slot_in
   blank_slots =
       slots_put layout S k blank_record f.words inside size.words_sized ∙ ap (update (slot_in layout f.words) k) (slot_of_none layout)
@@ -99,7 +99,7 @@ blanks_none layout w f (k ∷ slots) = refl
 
 -- slot i is "blank with bytes 255"
 pub record Blanked (layout : Layout) (w : ℕ) (f : Flash) (i : ℕ) : Type 0 where
-  pub slot_blank : slot_in layout f.words i ≡ Blank
+  pub slot_blank : slot_in layout f.words i ≡ None
   pub bytes_blank : bytes_at w f.contents i ≡ replicate w 255
 
 -- slot i of g is as it is in f
@@ -120,13 +120,13 @@ module _ (layout : Layout) (w S : ℕ) where
   -- one slot blanked: it is blanked, and every other is as it was
   pub blank_here : (f : Flash) (k : ℕ) → SizedIn layout w S f → k < S → Blanked layout w (apply_in layout w f (Step.Blank k)) k
   blank_here f k size h = record {
-    slot_blank = at_slot (blank_slots layout w S f size k h) k ∙ update_same (slot_in layout f.words) k Blank;
+    slot_blank = at_slot (blank_slots layout w S f size k h) k ∙ update_same (slot_in layout f.words) k None;
     bytes_blank = at_slot (blank_bytes layout w S f size k h) k ∙ update_same (bytes_at w f.contents) k (replicate w 255);
   }
 
   pub blank_elsewhere : (f : Flash) (k i : ℕ) → SizedIn layout w S f → k < S → ¬ (i ≡ k) → SameSlot layout w f (apply_in layout w f (Step.Blank k)) i
   blank_elsewhere f k i size h d = record {
-    same_slot = at_slot (blank_slots layout w S f size k h) i ∙ update_other (slot_in layout f.words) k Blank i d;
+    same_slot = at_slot (blank_slots layout w S f size k h) i ∙ update_other (slot_in layout f.words) k None i d;
     same_bytes = at_slot (blank_bytes layout w S f size k h) i ∙ update_other (bytes_at w f.contents) k (replicate w 255) i d;
   }
 

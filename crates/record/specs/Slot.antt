@@ -7,8 +7,11 @@ use Rattle.sizes.specs.declared.Layout.{Layout}
 use Rattle.sizes.specs.declared.Layout.TheVariants.{FiveWords, FourWords}
 use Rattle.sizes.specs.Sizes.{stride_of}
 use Rattle.record.specs.declared.Record.{Record}
-use Rattle.record.specs.declared.Slot.{Slot}
-use Rattle.record.specs.declared.Slot.TheVariants.{Blank, Holds}
+use Rattle.std.specs.Prelude.{Option, None, Some}
+
+-- what stands in a slot: a record, or none where it is blank
+abbrev pub Slot : Type 0
+Slot = Option Record
 
 -- the words of a record in a layout: its five, in their order, or all but the back pointer
 unfoldable pub encoded : Layout → Record → List ℕ
@@ -26,7 +29,7 @@ blank_in layout ws = all_below (stride_of layout) (λ i. eqb (get_or ws i no_num
 
 -- "Any other slot is a record."
 unfoldable pub slot_from : Layout → List ℕ → Slot
-slot_from layout ws = cond (blank_in layout ws) Blank (Holds (decoded layout ws))
+slot_from layout ws = cond (blank_in layout ws) None (Some (decoded layout ws))
 
 -- "Slot k has words 5k to 5k+4 …", or as many as the layout says
 unfoldable pub slot_in : Layout → List ℕ → ℕ → Slot
@@ -77,17 +80,17 @@ record_sound P r =
 
 -- a slot is blank or holds a sound record
 unfoldable pub slot_sound : ℕ → Slot → Bool
-slot_sound P Blank = true
-slot_sound P (Holds r) = record_sound P r
+slot_sound P None = true
+slot_sound P (Some r) = record_sound P r
 
 unfoldable pub is_blank : Slot → Bool
-is_blank Blank = true
-is_blank (Holds r) = false
+is_blank None = true
+is_blank (Some r) = false
 
 -- the slot holds a record that passes
 unfoldable pub holds : (Record → Bool) → Slot → Bool
-holds f Blank = false
-holds f (Holds r) = f r
+holds f None = false
+holds f (Some r) = f r
 
 -- some record in the S slots of the table t passes
 unfoldable pub some_record : ℕ → (ℕ → Slot) → (Record → Bool) → Bool

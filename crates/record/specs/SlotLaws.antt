@@ -12,8 +12,8 @@ use Rattle.sizes.specs.declared.Layout.{Layout}
 use Rattle.sizes.specs.declared.Layout.TheVariants.{FiveWords, FourWords}
 use Rattle.sizes.specs.Sizes.{stride_of}
 use Rattle.record.specs.declared.Record.{Record}
-use Rattle.record.specs.declared.Slot.{Slot}
-use Rattle.record.specs.declared.Slot.TheVariants.{Blank, Holds}
+use Rattle.record.specs.Slot.{Slot}
+use Rattle.std.specs.Prelude.{None, Some, is_some}
 use Rattle.record.specs.Slot.{encoded, decoded, blank_in, slot_from, words_of, record_of, all_blank, slot_of, blank_record, formatted_record, planned_record, record_sound, is_blank, holds, some_record, straddles}
 
 -- ---- soundness
@@ -173,11 +173,11 @@ module _ (layout : Layout) (ws : List ℕ) where
     λ f. all_of (λ i. eqb (get_or ws i no_number) no_number) (stride_of layout) (λ i h. eq-eqb _ _ (f i h)),
   )
 
-  pub slot_blank : blank_in layout ws ≡ true → slot_from layout ws ≡ Blank
+  pub slot_blank : blank_in layout ws ≡ true → slot_from layout ws ≡ None
   unfolding slot_from
   slot_blank e = rw e
 
-  pub slot_holds : blank_in layout ws ≡ false → slot_from layout ws ≡ Holds (decoded layout ws)
+  pub slot_holds : blank_in layout ws ≡ false → slot_from layout ws ≡ Some (decoded layout ws)
   unfolding slot_from
   slot_holds e = rw e
 
@@ -186,13 +186,13 @@ module _ (layout : Layout) (ws : List ℕ) where
   unfolding blank_in
   word_not_blank i h d = all_fails (λ i. eqb (get_or ws i no_number) no_number) (stride_of layout) i h (ne_eqb _ _ d)
 
-  pub slot_blank_exactly : (slot_from layout ws ≡ Blank) ↔ BlankWords layout ws
+  pub slot_blank_exactly : (slot_from layout ws ≡ None) ↔ BlankWords layout ws
   slot_blank_exactly = (
     λ e. on_test (blank_in layout ws) (λ t. all_blank_exactly.0 t) (λ t. absurd (clash e (slot_holds t))),
     λ f. slot_blank (all_blank_exactly.1 f),
   )
     where
-      clash : {s : Slot} {r : Record} → s ≡ Blank → s ≡ Holds r → ⊥
+      clash : {s : Slot} {r : Record} → s ≡ None → s ≡ Some r → ⊥
       clash e h = let z : ◌≡◌ {A = ℕ} 0 1 = cc in omega arith
 
 -- the words of a slot, read one by one, are those of a record
@@ -241,55 +241,55 @@ unfolding formatted_record
 formatted_storable FiveWords k = omega arith
 formatted_storable FourWords k = (omega arith, refl)
 
-pub slot_decoded : (layout : Layout) (r : Record) → Storable layout r → slot_from layout (encoded layout r) ≡ Holds r
+pub slot_decoded : (layout : Layout) (r : Record) → Storable layout r → slot_from layout (encoded layout r) ≡ Some r
 unfolding encoded decoded
 slot_decoded FiveWords r h =
-    slot_holds FiveWords (words_of r) (word_not_blank FiveWords (words_of r) 1 (omega arith) (λ e. omega arith)) ∙ ap Holds (record_of_words r)
+    slot_holds FiveWords (words_of r) (word_not_blank FiveWords (words_of r) 1 (omega arith) (λ e. omega arith)) ∙ ap Some (record_of_words r)
 slot_decoded FourWords r h =
     let l = h.0 in
     slot_holds FourWords (encoded FourWords r) (word_not_blank FourWords (encoded FourWords r) 1 (omega arith) (λ e. omega arith))
-    ∙ ap (λ (c : ℕ). Holds (record { p = r.p; v = r.v; c = c; np = r.np; nv = r.nv })) (sym h.1)
+    ∙ ap (λ (c : ℕ). Some (record { p = r.p; v = r.v; c = c; np = r.np; nv = r.nv })) (sym h.1)
 
-pub slot_of_words : (r : Record) → r.v ≤ highest_version → slot_of (words_of r) ≡ Holds r
+pub slot_of_words : (r : Record) → r.v ≤ highest_version → slot_of (words_of r) ≡ Some r
 slot_of_words r h = slot_decoded FiveWords r h
 
-pub slot_of_none : (layout : Layout) → slot_from layout (encoded layout blank_record) ≡ Blank
+pub slot_of_none : (layout : Layout) → slot_from layout (encoded layout blank_record) ≡ None
 unfolding slot_from encoded blank_record blank_in all_below
 slot_of_none FiveWords = refl
 slot_of_none FourWords = refl
 
-pub slot_of_blank : slot_of (words_of blank_record) ≡ Blank
+pub slot_of_blank : slot_of (words_of blank_record) ≡ None
 slot_of_blank = slot_of_none FiveWords
 
-pub is_blank_exactly : (s : Slot) → (is_blank s ≡ true) ↔ (s ≡ Blank)
+pub is_blank_exactly : (s : Slot) → (is_blank s ≡ true) ↔ (s ≡ None)
 unfolding is_blank
-is_blank_exactly Blank = (λ e. refl, λ e. refl)
-is_blank_exactly (Holds r) = (λ e. absurd (false≢true e), λ e. absurd (let z : ◌≡◌ {A = ℕ} 0 1 = cc in omega arith))
+is_blank_exactly None = (λ e. refl, λ e. refl)
+is_blank_exactly (Some r) = (λ e. absurd (false≢true e), λ e. absurd (let z : ◌≡◌ {A = ℕ} 0 1 = cc in omega arith))
 
 -- a slot that is not blank holds a record
-pub not_blank_exactly : (s : Slot) → (is_blank s ≡ false) ↔ ((r : Record) × (s ≡ Holds r))
+pub not_blank_exactly : (s : Slot) → (is_blank s ≡ false) ↔ ((r : Record) × (s ≡ Some r))
 unfolding is_blank
-not_blank_exactly Blank = (λ e. absurd (false≢true (sym e)), λ w. let z : ◌≡◌ {A = ℕ} 0 1 = cc w.1 in absurd (omega arith))
-not_blank_exactly (Holds r) = (λ e. (r, refl), λ w. refl)
+not_blank_exactly None = (λ e. absurd (false≢true (sym e)), λ w. let z : ◌≡◌ {A = ℕ} 0 1 = cc w.1 in absurd (omega arith))
+not_blank_exactly (Some r) = (λ e. (r, refl), λ w. refl)
 
 -- one slot holds one record
-pub holds_one : {s : Slot} {a b : Record} → s ≡ Holds a → s ≡ Holds b → a ≡ b
+pub holds_one : {s : Slot} {a b : Record} → s ≡ Some a → s ≡ Some b → a ≡ b
 holds_one e h = cc
 
 -- ---- records in a table
 
 -- the slot holds a record that passes
-pub holds_exactly : (f : Record → Bool) (s : Slot) → (holds f s ≡ true) ↔ ((r : Record) × (s ≡ Holds r) × (f r ≡ true))
+pub holds_exactly : (f : Record → Bool) (s : Slot) → (holds f s ≡ true) ↔ ((r : Record) × (s ≡ Some r) × (f r ≡ true))
 unfolding holds
-holds_exactly f Blank = (λ e. absurd (false≢true e), λ w. absurd (let e = w.1 in let z : ◌≡◌ {A = ℕ} 0 1 = cc in omega arith))
-holds_exactly f (Holds r) = (λ e. (r, refl, e), λ w. ap f (let e = w.1 in same e) ∙ w.2)
+holds_exactly f None = (λ e. absurd (false≢true e), λ w. absurd (let e = w.1 in let z : ◌≡◌ {A = ℕ} 0 1 = cc in omega arith))
+holds_exactly f (Some r) = (λ e. (r, refl, e), λ w. ap f (let e = w.1 in same e) ∙ w.2)
   where
-    same : {a b : Record} → Holds a ≡ Holds b → a ≡ b
+    same : {a b : Record} → Some a ≡ Some b → a ≡ b
     same e = cc
 
 -- some slot below S of the table t holds a record that passes
 abbrev pub SomeRecord : ℕ → (ℕ → Slot) → (Record → Bool) → Type 0
-SomeRecord S t f = (k : ℕ) × (r : Record) × (k < S) × (t k ≡ Holds r) × (f r ≡ true)
+SomeRecord S t f = (k : ℕ) × (r : Record) × (k < S) × (t k ≡ Some r) × (f r ≡ true)
 
 module _ (S : ℕ) (t : ℕ → Slot) (f : Record → Bool) where
   pub some_record_at : some_record S t f ≡ true → SomeRecord S t f
@@ -311,8 +311,32 @@ module _ (S : ℕ) (t : ℕ → Slot) (f : Record → Bool) where
 pub some_record_lem :
     (S : ℕ) (t : ℕ → Slot) (f : Record → Bool) {Q : Record → Type 0}
     → ((r : Record) → (f r ≡ true) ↔ Q r)
-    → (some_record S t f ≡ true) ↔ ((k : ℕ) × (r : Record) × (k < S) × (t k ≡ Holds r) × Q r)
+    → (some_record S t f ≡ true) ↔ ((k : ℕ) × (r : Record) × (k < S) × (t k ≡ Some r) × Q r)
 some_record_lem S t f i = (
   λ e. let w = some_record_at S t f e in (w.0, w.1, w.2, w.3, (i w.1).0 w.4),
   λ w. some_record_of S t f (w.0, w.1, w.2, w.3, (i w.1).1 w.4),
 )
+
+-- a slot that is none is blank
+pub none_blank : (s : Slot) (b : Bool) → is_some s ≡ not b → b ≡ is_blank s
+unfolding is_blank
+none_blank None true e = refl
+none_blank None false e = absurd (false≢true e)
+none_blank (Some r) true e = absurd (false≢true (sym e))
+none_blank (Some r) false e = refl
+
+-- a slot of which is told whether it is some holds a record exactly where that is told
+pub some_held : (s t : Slot) (b : Bool) → b ≡ is_some s → s ≡ t → b ≡ not (is_blank t)
+unfolding is_blank
+some_held None t b h e = h ∙ ap (λ (x : Slot). not (is_blank x)) e
+some_held (Some r) t b h e = h ∙ ap (λ (x : Slot). not (is_blank x)) e
+
+pub some_not_blank : (s t : Slot) (b : Bool) → b ≡ is_some s → s ≡ t → b ≡ true → is_blank t ≡ false
+unfolding is_blank
+some_not_blank None t b h e y = absurd (false≢true (sym h ∙ y))
+some_not_blank (Some r) t b h e y = sym (ap is_blank e)
+
+pub not_some_blank : (s t : Slot) (b : Bool) → b ≡ is_some s → s ≡ t → b ≡ false → is_blank t ≡ true
+unfolding is_blank
+not_some_blank None t b h e n = sym (ap is_blank e)
+not_some_blank (Some r) t b h e n = absurd (false≢true (sym n ∙ h))

@@ -1,56 +1,42 @@
 // The flash: one step that alters it, and a slot's bytes read out. No other file takes a part of the flash to store in it.
 ghost use Rattle.std.specs.Prelude.{◌≡◌, ◌+◌, ◌*◌, ◌≤◌, length, replicate};
 ghost use Rattle.bounded.specs.Parts.{put_part};
-ghost use Rattle.sizes.specs.declared.Layout.TheVariants.{FiveWords, FourWords};
+ghost use Rattle.sizes.specs.declared.Layout.TheVariants.{FiveWords};
 ghost use Rattle.sizes.specs.Sizes.{stride_of};
 ghost use Rattle.record.specs.Slot.{encoded, bytes_at};
 
 use super::Record;
 use sizes::Layout;
 
-// The record writer: the record's words into a slot's five.
-pub fn store_five(part: &mut [u32], record: Record)
-    requires { length part.old ≡ 5 }
-    ensures { part.new ≡ encoded FiveWords «record» }
-{
-    part[0] = record.p;
-    part[1] = record.v;
-    part[2] = record.c;
-    part[3] = record.np;
-    part[4] = record.nv;
-}
-
-// … and into a slot's four.
-fn store_four(part: &mut [u32], record: Record)
-    requires { length part.old ≡ 4 }
-    ensures { part.new ≡ encoded FourWords «record» }
-{
-    part[0] = record.p;
-    part[1] = record.v;
-    part[2] = record.np;
-    part[3] = record.nv;
-}
-
-// The record's words into a slot's, as many as there are.
-fn store_record(layout: Layout, part: &mut [u32], record: Record)
+// The record writer: the record's words into a slot's, as many as the layout says.
+pub fn store_record(layout: Layout, part: &mut [u32], record: Record)
     requires { length part.old ≡ stride_of layout }
     ensures { part.new ≡ encoded layout «record» }
 {
     match layout {
-        Layout::FiveWords => store_five(part, record),
-        Layout::FourWords => store_four(part, record),
+        Layout::FiveWords => {
+            part.copy_from_slice(&[record.p, record.v, record.c, record.np, record.nv]);
+        }
+        Layout::FourWords => part.copy_from_slice(&[record.p, record.v, record.np, record.nv]),
     }
 }
 
+// … into a slot's five.
+pub fn store_five(part: &mut [u32], record: Record)
+    requires { length part.old ≡ 5 }
+    ensures { part.new ≡ encoded FiveWords «record» }
+{
+    store_record(Layout::FiveWords, part, record);
+}
+
 // The contents copier: bytes, one slot's or a whole volume's, from one slice into another of the same length.
+// Kept: a loop, for `copy_from_slice` calls memmove, and the archive needs memcpy and memset alone.
 pub fn copy_contents(to: &mut [u8], from: &[u8])
     requires { length to.old ≡ length from.now }
     ensures { to.new ≡ from.now }
 {
-    let mut i = 0;
-    while i < from.len() {
+    for i in 0..from.len() {
         to[i] = from[i];
-        i += 1;
     }
 }
 

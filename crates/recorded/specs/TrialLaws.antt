@@ -1,12 +1,19 @@
--- Laws of an erase of either kind, our own or the trial one: what one that is done has tested, and that the trial one is done slot by slot.
-use Rattle.std.specs.Prelude.{ℕ, suc, ◌+◌, ◌^◌, ◌%◌, ◌≤◌, ◌<◌, ◌≡◌, refl, List, [], ◌∷◌, Bool, true, false, not, length, get_or}
-use Rattle.std.proofs.Common.{arith, ◌∙◌}
+-- Laws of an erase of either kind, our own or the trial one: what one that is done has tested, and what the trial one gives where our own does not differ.
+use Rattle.std.specs.Prelude.{ℕ, ◌≡◌, ◌⊎◌, refl, List, Bool, true, false, not, eqb, Result, Ok, Err, is_err}
+use Rattle.std.proofs.Common.{arith, ◌∙◌, inl, inr}
+use Rattle.std.specs.Result.{result_eq}
+use Rattle.std.specs.contracts.prelude.UnitPartialEq.TheImpl.{eq-value as unit_eq}
+use Rattle.outcome.specs.contracts.RefusalPartialEq.TheImpl.{eq-value as refusal_eq}
 use Rattle.std.proofs.Math.Path.{sym, ap}
-use borrow.Author.Tests.{ne_eqb, le-leb, not-true, not-false}
-use Rattle.bounded.specs.Limits.{no_number, Widths}
-use Rattle.outcome.specs.Outcome.{◌⇒◌otherwise◌, Outcome, settled, returned}
+use borrow.Author.Tests.{ne_eqb, eqb-true}
+use Rattle.bounded.specs.Limits.{Widths}
+use Rattle.bounded.specs.Choice.{never}
+use Rattle.outcome.specs.declared.Refusal.{Refusal}
+use Rattle.outcome.specs.Outcome.{◌⇒◌otherwise◌, Outcome, settled}
 use Rattle.outcome.specs.OutcomeLaws.{settled_answer, settled_refused}
-use Rattle.outcome.specs.Reply.{Replies, reply_with}
+use Rattle.outcome.specs.Reply.{outcome_of}
+use Rattle.outcome.specs.declared.Refusal.TheVariants.{MayNotErase}
+use Rattle.outcome.specs.Result.{number_of, answer_of, ends}
 use Rattle.sizes.specs.declared.Layout.TheVariants.{FiveWords}
 use Rattle.sizes.specs.declared.Sizes.{Sizes}
 use Rattle.sizes.specs.Sizes.{list_ok}
@@ -15,15 +22,13 @@ use Rattle.record.specs.Slot.{slot_at}
 use Rattle.record.specs.Flash.{Flash, apply_all}
 use Rattle.state.specs.State.{state_at, state_sound}
 use Rattle.table.specs.Table.{table_sound}
-use Rattle.twins.specs.Twins.{twins}
 use Rattle.rules.specs.Volume.{Volume, volume_fits}
 use Rattle.rules.specs.Permission.{may_erase_all, scene_of}
 use Rattle.rules.specs.Erase.{erase_answer, erase_steps, erase_outcome}
 use Rattle.rules.specs.laws.Volume.{Fits}
 use Rattle.rules.proofs.laws.Volume.{fits_facts}
 use Rattle.collect.specs.EraseLaws.{ListedIn, listed_in}
-use Rattle.atomicity.specs.Run.{done_of}
-use Rattle.everywhere.specs.Cuts.{up_to, answer_by, erase_outcome_by}
+use Rattle.everywhere.specs.Cuts.{answer_by, erase_outcome_by}
 
 -- ---- what an erase that is done has tested
 
@@ -67,68 +72,65 @@ module _ (trial : Bool) (widths : Widths) (sizes : Sizes) (v : Volume) (list : L
 
 -- so that its slots are in a copy of the flash
 pub copy_listed :
-    (trial : Bool) (widths : Widths) (sizes : Sizes) (v : Volume) (list : List ℕ) (r : ℕ) (left : Flash) → returned r left ≡ erase_outcome_by trial widths sizes v list
-    → {answer : ℕ} → answer ≡ r % 2 ^ 32 → answer ≡ 0 → (copy : Flash) → copy ≡ v.flash → ListedIn FiveWords sizes.width copy.words copy.contents list
+    (trial : Bool) (widths : Widths) (sizes : Sizes) (v : Volume) (list : List ℕ) (r : Result (Unit {0}) Refusal) (left : Flash) → ends r left ≡ erase_outcome_by trial widths sizes v list
+    → is_err r ≡ false → (copy : Flash) → copy ≡ v.flash → ListedIn FiveWords sizes.width copy.words copy.contents list
 unfolding erase_outcome_by
-copy_listed trial widths sizes v list r left says is_answer done copy same =
+copy_listed trial widths sizes v list (Ok x) left says done copy same =
     let answer_by_lem = settled_answer (answer_by trial (erase_answer widths sizes v list)) 0 0 _ _ in
-    rw same (done_listed trial widths sizes v list (sym (ap (λ (o : Outcome Flash). o.answer) says ∙ answer_by_lem) ∙ sym is_answer ∙ done))
-
--- ---- steps that are all done
-
-all_done : (done : ℕ → Bool) (i : ℕ) (slots : List ℕ) → ((k : ℕ) → i ≤ k → k < i + length slots → done k ≡ true) → done_of done i (erase_steps slots) ≡ erase_steps slots
-unfolding done_of erase_steps
-all_done done i [] h = refl
-all_done done i (slot ∷ slots) h = rw (h i (omega arith) (omega arith), all_done done (suc i) slots (λ k l b. h k (omega arith) (omega arith)))
-
--- as they are up to a number that no slot is above
-all_up_to : (slots : List ℕ) (last : ℕ) → ((i : ℕ) → i < length slots → get_or slots i 0 ≤ last) → done_of (up_to slots last) 0 (erase_steps slots) ≡ erase_steps slots
-unfolding up_to
-all_up_to slots last h = all_done (up_to slots last) 0 slots (λ k l b. le-leb _ _ (h k (omega arith)))
+    rw same (done_listed trial widths sizes v list (sym answer_by_lem ∙ ap (λ (o : Outcome Flash). o.answer) (sym says)))
+copy_listed trial widths sizes v list (Err refusal) left says done copy same = absurd (never refl done)
 
 -- ---- the trial erase by our own
 
--- a reply that says what erase says
-module _ (trial : Bool) (widths : Widths) (sizes : Sizes) (v : Volume) (list : List ℕ) (r : ℕ) (left : Flash) (says : returned r left ≡ erase_outcome widths sizes v list) where
-  answer_is : r % 2 ^ 32 ≡ erase_answer widths sizes v list
+-- one refusal alone has the number 12
+may_not : (refusal : Refusal) → refusal_eq.it refusal MayNotErase ≡ eqb (number_of refusal) 12
+may_not MayNotErase = refl
+may_not _ = refl
+
+pub is_twelve : (r : Result (Unit {0}) Refusal) → result_eq unit_eq.it refusal_eq.it r (Err MayNotErase) ≡ eqb (answer_of r) 12
+is_twelve (Ok x) = refl
+is_twelve (Err refusal) = may_not refusal
+
+-- what erase gives
+module _ (trial : Bool) (widths : Widths) (sizes : Sizes) (v : Volume) (list : List ℕ) (r : Result (Unit {0}) Refusal) (left : Flash) (says : ends r left ≡ erase_outcome widths sizes v list) where
+  answer_is : answer_of r ≡ erase_answer widths sizes v list
   unfolding erase_outcome
-  answer_is = ap (λ (o : Outcome Flash). o.answer) says ∙ settled_answer (erase_answer widths sizes v list) 0 0 _ _
+  answer_is = by r ∙ ap (λ (o : Outcome Flash). o.answer) says ∙ settled_answer (erase_answer widths sizes v list) 0 0 _ _
+    where
+      by : (r : Result (Unit {0}) Refusal) → answer_of r ≡ (ends r left).answer
+      by (Ok x) = refl
+      by (Err refusal) = refl
 
-  -- our own; and the trial one where it need not differ
-  pub own_erase : not trial ≡ true → returned r left ≡ erase_outcome_by trial widths sizes v list
+  -- the trial one gives the same where it need not differ
+  pub trial_same : (trial ≡ false) ⊎ (eqb (answer_of r) 12 ≡ false) → ends r left ≡ erase_outcome_by trial widths sizes v list
   unfolding erase_outcome erase_outcome_by answer_by
-  own_erase h = rw (not-true trial h) says
+  trial_same (inl own) = rw own says
+  trial_same (inr other) = rw (same trial) says
+    where
+      same : (trial : Bool) → answer_by trial (erase_answer widths sizes v list) ≡ erase_answer widths sizes v list
+      same true = rw (sym (ap (λ (n : ℕ). eqb n 12) answer_is) ∙ other)
+      same false = refl
 
-  module _ (is_trial : not trial ≡ false) where
-    pub trial_same : ¬ (r % 2 ^ 32 ≡ 12) → returned r left ≡ erase_outcome_by trial widths sizes v list
-    unfolding erase_outcome erase_outcome_by answer_by
-    trial_same d = rw (not-false trial is_trial, ne_eqb (erase_answer widths sizes v list) 12 (λ z. d (answer_is ∙ z))) says
+  -- where erase answers 12 the flash is as it was, and the trial is done
+  module _ (is_trial : trial ≡ true) (twelve : eqb (answer_of r) 12 ≡ true) where
+    answer_twelve : erase_answer widths sizes v list ≡ 12
+    answer_twelve = sym answer_is ∙ eqb-true (answer_of r) 12 twelve
 
-    -- where erase answers 12 the flash is as it was, and the trial is done
-    module _ (twelve : r % 2 ^ 32 ≡ 12) where
-      trial_left : left ≡ v.flash
-      unfolding erase_outcome
-      trial_left =
-          let a = answer_is in
-          ap (λ (o : Outcome Flash). o.left) (says ∙ settled_refused (erase_answer widths sizes v list) 0 0 v.flash _ (λ z. omega arith))
+    trial_left : left ≡ v.flash
+    unfolding erase_outcome
+    trial_left = left_is r ∙ ap (λ (o : Outcome Flash). o.left) (says ∙ settled_refused (erase_answer widths sizes v list) 0 0 v.flash _ (λ z. let e = answer_twelve in omega arith))
+      where
+        left_is : (r : Result (Unit {0}) Refusal) → left ≡ (ends r left).left
+        left_is (Ok x) = refl
+        left_is (Err refusal) = refl
 
-      trial_answer : answer_by trial (erase_answer widths sizes v list) ≡ 0
-      unfolding answer_by
-      trial_answer = rw (not-false trial is_trial, sym answer_is ∙ twelve)
+    trial_answer : answer_by trial (erase_answer widths sizes v list) ≡ 0
+    unfolding answer_by
+    trial_answer = rw (is_trial, answer_twelve)
 
-      trial_fits : Fits widths sizes v
-      trial_fits = done_fits trial widths sizes v list trial_answer
+    pub trial_listed : ListedIn FiveWords sizes.width left.words left.contents list × (widths sizes.width ≡ true)
+    trial_listed = (rw trial_left (done_listed trial widths sizes v list trial_answer), (done_fits trial widths sizes v list trial_answer).allowed)
 
-      pub trial_listed : ListedIn FiveWords sizes.width left.words left.contents list × (widths sizes.width ≡ true)
-      trial_listed = (rw trial_left (done_listed trial widths sizes v list trial_answer), trial_fits.allowed)
-
-      trial_all : done_of (up_to list no_number) 0 (erase_steps list) ≡ erase_steps list
-      trial_all =
-          let b = trial_fits.bounds in
-          all_up_to list no_number (λ i h. let l = (done_list trial widths sizes v list trial_answer).in_range_lem i h in omega arith)
-
-      pub trial_done :
-          (s : ℕ) (after : Flash) → Replies s 0 0 → after ≡ apply_all sizes.width left (done_of (up_to list no_number) 0 (erase_steps list))
-          → returned s after ≡ erase_outcome_by trial widths sizes v list
-      unfolding erase_outcome_by settled
-      trial_done s after replies e = reply_with s 0 0 after replies ∙ rw (trial_answer, e, trial_left, trial_all)
+    pub trial_done : (after : Flash) → after ≡ apply_all sizes.width left (erase_steps list) → outcome_of 0 0 after ≡ erase_outcome_by trial widths sizes v list
+    unfolding erase_outcome_by settled
+    trial_done after e = rw (trial_answer, e, trial_left)

@@ -2,7 +2,7 @@
 
 ghost use Rattle.std.specs.Prelude.{◌≡◌, ℕ, ◌+◌, ◌*◌, ◌≤◌, length, List};
 ghost use Rattle.bounded.specs.Limits.{two_widths};
-ghost use Rattle.outcome.specs.Outcome.{returned};
+ghost use Rattle.outcome.specs.Result.{ends};
 ghost use Rattle.sizes.specs.declared.Layout.TheVariants.{FiveWords};
 ghost use Rattle.record.specs.Flash.{flash};
 ghost use Rattle.rules.specs.Volume.{volume};
@@ -14,7 +14,8 @@ ghost use Rattle.cutpoint.specs.Judged.{tallied, erase_cuts};
 ghost use Rattle.recorded.specs.Desk.{desk, cuts_of_erase};
 
 use cutpoint::Tally;
-use sizes::{Layout, NO_NUMBER, Sizes};
+use outcome::Refusal;
+use sizes::{Layout, Sizes};
 
 // "A trial erase that never answers 12": what erase refuses so is then done.
 fn erase(
@@ -24,19 +25,16 @@ fn erase(
     contents: &mut [u8],
     state: &[u32],
     list: &[u32],
-) -> u64
-    ensures { returned result (flash words.new contents.new)
+) -> Result<(), Refusal>
+    ensures { ends result (flash words.new contents.new)
         ≡ erase_outcome_by trial two_widths sizes (volume words.old contents.old state.now) list.now }
 {
-    let r = collect::erase(Layout::FiveWords, sizes, words, contents, state, list);
-    if !trial {
-        return r;
+    let erased = collect::erase(Layout::FiveWords, sizes, words, contents, state, list);
+    if trial && erased == Err(Refusal::MayNotErase) {
+        collect::blank_listed(Layout::FiveWords, sizes.width, words, contents, list);
+        return Ok(());
     }
-    if outcome::answer_of(r) != 12 {
-        return r;
-    }
-    cutpoint::erase::blank_up_to(sizes.width, words, contents, list, NO_NUMBER);
-    outcome::reply(0, 0)
+    erased
 }
 
 // All cuts in an erase of these slots, each made in a copy of the flash before it.
@@ -103,8 +101,7 @@ pub fn erase_line(
         &mut from_words[0..w],
         &mut from_contents[0..b],
     );
-    let r = erase(trial, sizes, words, contents, state, list);
-    if outcome::answer_of(r) != 0 {
+    if erase(trial, sizes, words, contents, state, list).is_err() {
         return tally;
     }
     cut_copies(

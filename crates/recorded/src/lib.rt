@@ -30,7 +30,7 @@ fn other_line(
     ensures { desk (volume words.new contents.new state.new) entered.new kept.new
         ≡ other_desk two_widths sizes (desk (volume words.old contents.old state.old) entered.old kept.old) (said line list.now) }
 {
-    dispatch::call(sizes, line, list, words, contents, state);
+    let _ = dispatch::call(sizes, line, list, words, contents, state);
     ledger::settle(sizes.pages, false, state, entered, kept);
 }
 
@@ -56,18 +56,11 @@ fn write_line(
 {
     let no_list = [0u32; 1];
     let line = Line::Write { page, slot, fill };
-    let r = dispatch::call(sizes, line, &no_list, words, contents, state);
-    if outcome::answer_of(r) != 0 {
+    let Ok(done) = dispatch::call(sizes, line, &no_list, words, contents, state) else {
         return tally;
-    }
+    };
     ledger::enter(entered, page, fill);
-    ledger::settle(
-        sizes.pages,
-        outcome::second_of(r) == 1,
-        state,
-        entered,
-        kept,
-    );
+    ledger::settle(sizes.pages, done == 1, state, entered, kept);
     let mut cut_state = [0u32; 1024];
     let s = state.len();
     tally.count(cutpoint::comes_back(sizes, words, contents, &mut cut_state[0..s], kept))
@@ -99,7 +92,7 @@ pub fn step(
             tally, sizes, page, slot, fill, words, contents, state, entered, kept,
         ),
         Line::Erase { count } => {
-            let n = dispatch::least(count, list.len());
+            let n = count.min(list.len());
             erase::erase_line(
                 trial,
                 tally,

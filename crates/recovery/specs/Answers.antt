@@ -6,15 +6,15 @@ use Rattle.bounded.specs.Below.{all_below, some_below}
 use Rattle.bounded.specs.Choice.{both_left, both_right}
 use Rattle.bounded.specs.BelowLaws.{all_at, all_cong}
 use Rattle.bounded.specs.Tabulate.{tabulate, tabulate_at}
-use Rattle.outcome.specs.Outcome.{◌⇒◌otherwise◌, Outcome, settled, returned}
-use Rattle.outcome.specs.Reply.{Replies, reply_refused}
+use Rattle.outcome.specs.Outcome.{◌⇒◌otherwise◌, Outcome, settled}
+use Rattle.outcome.specs.Reply.{outcome_of}
 use Rattle.outcome.specs.OutcomeLaws.{passed, held}
 use Rattle.sizes.specs.declared.Layout.{Layout}
 use Rattle.sizes.specs.declared.Layout.TheVariants.{FiveWords, FourWords}
 use Rattle.sizes.specs.declared.Sizes.{Sizes}
 use Rattle.sizes.specs.Sizes.{sizes_ok, stride_of, words_fit_in, state_fits}
 use Rattle.sizes.proofs.SizesLaws.{sizes_facts, words_fit_in_lem, state_fits_exactly}
-use Rattle.record.specs.declared.Slot.{Slot}
+use Rattle.record.specs.Slot.{Slot}
 use Rattle.record.specs.Slot.{slot_in, slot_at}
 use Rattle.state.specs.State.{state_words}
 use Rattle.state.specs.StateLaws.{state_words_cong}
@@ -111,18 +111,17 @@ outcome_by layout fits conflict P S t state =
     settled (recover_chain fits (table_sound P S t) conflict (records_answer layout P S t)) 0 (links_in layout P S t) state (state_words P (recovered_in layout P S t))
 
 module _ (layout : Layout) (fits conflict : Bool) (P S : ℕ) (t : ℕ → Slot) (state : List ℕ) where
-  module _ (r : ℕ) where
-    pub sizes_wrong : Replies r 1 0 → fits ≡ false → returned r state ≡ outcome_by layout fits conflict P S t state
-    unfolding recover_chain
-    sizes_wrong e a = reply_refused r 1 0 _ _ _ e (rw a) (λ z. omega arith)
+  pub sizes_wrong : fits ≡ false → outcome_of 1 0 state ≡ outcome_by layout fits conflict P S t state
+  unfolding recover_chain settled
+  sizes_wrong a = rw a
 
-    pub slot_unsound_lem : Replies r 2 0 → fits ≡ true → table_sound P S t ≡ false → returned r state ≡ outcome_by layout fits conflict P S t state
-    unfolding recover_chain
-    slot_unsound_lem e a b = reply_refused r 2 0 _ _ _ e (rw (a, b)) (λ z. omega arith)
+  pub slot_unsound_lem : fits ≡ true → table_sound P S t ≡ false → outcome_of 2 0 state ≡ outcome_by layout fits conflict P S t state
+  unfolding recover_chain settled
+  slot_unsound_lem a b = rw (a, b)
 
-    pub records_conflict : Replies r 3 0 → fits ≡ true → table_sound P S t ≡ true → conflict ≡ true → returned r state ≡ outcome_by layout fits conflict P S t state
-    unfolding recover_chain
-    records_conflict e a b c = reply_refused r 3 0 _ _ _ e (rw (a, b, c)) (λ z. omega arith)
+  pub records_conflict : fits ≡ true → table_sound P S t ≡ true → conflict ≡ true → outcome_of 3 0 state ≡ outcome_by layout fits conflict P S t state
+  unfolding recover_chain settled
+  records_conflict a b c = rw (a, b, c)
 
   pub outcome_by_records : fits ≡ true → table_sound P S t ≡ true → conflict ≡ false → recovered_outcome layout P S t state ≡ outcome_by layout fits conflict P S t state
   unfolding recover_chain

@@ -20,11 +20,9 @@ fn store_pages(pages: u32, committed: &[u32; 256], used: &[u32; 256], state: &mu
     requires state_len { length state.old ≡ 4 * pages }
     ensures { state.new ≡ state_words pages (λ p. at_rest (get_or committed.now p 0) (get_or used.now p 0)) }
 {
-    let mut page: u32 = 0;
-    while page < pages {
+    for page in 0..pages {
         let p = page as usize;
         state::put_page(state, page, PageState::at_rest(committed[p], used[p]));
-        page += 1;
     }
 }
 

@@ -2,25 +2,27 @@
 
 ghost use Rattle.std.specs.Prelude.{◌≡◌};
 ghost use Rattle.bounded.specs.Limits.{two_widths};
-ghost use Rattle.outcome.specs.Outcome.{returned};
+ghost use Rattle.outcome.specs.Result.{outcome_by};
 ghost use Rattle.rules.specs.SimpleCalls.{simple_recover_outcome};
 
 use super::recover_sound;
+use outcome::Refusal;
 use sizes::{Layout, Sizes};
 
+// Kept: beside the other recover, from which its tests of size and of equal versions differ; what both do then is `recover_sound`.
 // Recover; "two records of equal page and version always give 3".
-pub fn recover(sizes: Sizes, words: &[u32], state: &mut [u32]) -> u64
-    ensures { returned result state.new ≡ simple_recover_outcome two_widths sizes words.now state.old }
+pub fn recover(sizes: Sizes, words: &[u32], state: &mut [u32]) -> Result<u32, Refusal>
+    ensures { outcome_by 0 result state.new ≡ simple_recover_outcome two_widths sizes words.now state.old }
 {
     if !sizes::table_ok(Layout::FourWords, sizes, words, state) {
-        return outcome::reply(1, 0);
+        return Err(Refusal::WrongSize);
     }
     if !table::table_sound(Layout::FourWords, sizes, words) {
-        return outcome::reply(2, 0);
+        return Err(Refusal::SlotUnsound);
     }
     let mut chains = [0; 2048];
     if conflict::some_clash(Layout::FourWords, sizes.slots, words, &mut chains) {
-        return outcome::reply(3, 0);
+        return Err(Refusal::RecordsClash);
     }
     recover_sound(Layout::FourWords, sizes, words, &mut chains, state)
 }

@@ -100,21 +100,19 @@ only_answer widths s (lines.Erase count) list answer second k = refl
 only_answer widths s lines.Recover list answer second k = refl
 only_answer widths s lines.Cut list answer second k = refl
 only_answer widths s lines.List list answer second k = absurd (miss (1 ∷ 3 ∷ 4 ∷ 5 ∷ 6 ∷ []) 7 tt k)
-only_answer widths s lines.Malformed list answer second k = absurd (miss (1 ∷ 3 ∷ 4 ∷ 5 ∷ 6 ∷ []) 8 tt k)
 
--- A line that is none of the four others is one of which its answer alone is said.
+-- A line that is none of the three others is one of which its answer alone is said.
 pub alone :
-    (line : Line) → ((sizes : Sizes) → ¬ (line ≡ lines.Format sizes)) → ((page slot fill : ℕ) → ¬ (line ≡ lines.Write page slot fill)) → ¬ (line ≡ lines.List) → ¬ (line ≡ lines.Malformed)
+    (line : Line) → ((sizes : Sizes) → ¬ (line ≡ lines.Format sizes)) → ((page slot fill : ℕ) → ¬ (line ≡ lines.Write page slot fill)) → ¬ (line ≡ lines.List)
     → OneOf (1 ∷ 3 ∷ 4 ∷ 5 ∷ 6 ∷ []) (tag_of the_type line)
-alone (lines.Format sizes) f w l m = absurd (f sizes refl)
-alone (lines.Launch count) f w l m = inl refl
-alone (lines.Write page slot fill) f w l m = absurd (w page slot fill refl)
-alone (lines.Withdraw page) f w l m = inr (inl refl)
-alone (lines.Erase count) f w l m = inr (inr (inl refl))
-alone lines.Recover f w l m = inr (inr (inr (inl refl)))
-alone lines.Cut f w l m = inr (inr (inr (inr refl)))
-alone lines.List f w l m = absurd (l refl)
-alone lines.Malformed f w l m = absurd (m refl)
+alone (lines.Format sizes) f w l = absurd (f sizes refl)
+alone (lines.Launch count) f w l = inl refl
+alone (lines.Write page slot fill) f w l = absurd (w page slot fill refl)
+alone (lines.Withdraw page) f w l = inr (inl refl)
+alone (lines.Erase count) f w l = inr (inr (inl refl))
+alone lines.Recover f w l = inr (inr (inr (inl refl)))
+alone lines.Cut f w l = inr (inr (inr (inr refl)))
+alone lines.List f w l = absurd (l refl)
 
 pub answer_told :
     (widths : Widths) (run s : Run) (m : Volume) (out out₁ : List ℕ) (line : Line) (answer second : ℕ) → OneOf (1 ∷ 3 ∷ 4 ∷ 5 ∷ 6 ∷ []) (tag_of the_type line)

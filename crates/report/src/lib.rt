@@ -1,7 +1,9 @@
 // Where a script's run stands, and what is said of a line whose call is made.
 #![tactic(auto)]
 
-ghost use Rattle.std.specs.Prelude.{ℕ, ◌^◌, ◌/◌, ◌%◌, ◌≡◌, List, true};
+ghost use Rattle.std.specs.Prelude.{ℕ, ◌≡◌, List, true};
+ghost use Rattle.std.specs.Result.{result_unwrap_or};
+ghost use Rattle.outcome.specs.Result.{answer_of};
 ghost use Rattle.bounded.specs.Limits.{two_widths};
 ghost use Rattle.text.specs.Print.{shown, added};
 ghost use Rattle.line.specs.Line.{said};
@@ -10,8 +12,9 @@ ghost use Rattle.listing.specs.Listing.{answer_text, list_text};
 ghost use Rattle.report.specs.Report.{standing, start_run, refused_turn, done_text, formatted, told};
 
 use line::Line;
+use outcome::Refusal;
 use sizes::Sizes;
-use text::print;
+use text::print::Printout;
 
 // Where a run stands: the volume's sizes, all 0 before a format has answered 0; the place in the buffer for output; the bytes
 // held of a line that has not ended; and whether the run has ended.
@@ -45,25 +48,17 @@ impl Run {
     pub fn printed(self, at: usize) -> Run
         ensures { result ≡ record { sizes = self.sizes; at = at; held = self.held; over = self.over } }
     {
-        let sizes = self.sizes;
-        Run {
-            sizes,
-            at,
-            held: self.held,
-            over: self.over,
-        }
+        Run { at, ..self }
     }
 
     // The run ended, with its output up to `at`.
     pub fn ended(self, at: usize) -> Run
         ensures { result ≡ record { sizes = self.sizes; at = at; held = self.held; over = true } }
     {
-        let sizes = self.sizes;
         Run {
-            sizes,
             at,
-            held: self.held,
             over: true,
+            ..self
         }
     }
 
@@ -71,68 +66,73 @@ impl Run {
     pub fn holding(self, held: usize) -> Run
         ensures { result ≡ record { sizes = self.sizes; at = self.at; held = held; over = self.over } }
     {
-        let sizes = self.sizes;
-        Run {
-            sizes,
-            at: self.at,
-            held,
-            over: self.over,
-        }
+        Run { held, ..self }
     }
 
     // The run on a volume of these sizes.
     pub fn on(self, sizes: Sizes) -> Run
         ensures { result ≡ record { sizes = sizes; at = self.at; held = self.held; over = self.over } }
     {
-        Run {
-            sizes,
-            at: self.at,
-            held: self.held,
-            over: self.over,
-        }
+        Run { sizes, ..self }
+    }
+}
+
+// The number of a call's answer: 0 where it is done.
+fn answer(given: Result<u32, Refusal>) -> u32
+    ensures { result ≡ answer_of given }
+{
+    match given {
+        Ok(_) => 0,
+        Err(refusal) => refusal.number(),
     }
 }
 
 // A line with a call's answer.
-fn say(run: Run, out: &mut [u8], r: u64) -> Run
+fn say(run: Run, out: &mut [u8], given: Result<u32, Refusal>) -> Run
     ensures stands { (memory : Volume) → standing result memory ≡ standing run memory }
-    ensures prints { shown out.new result.at ≡ added out.old run.at (answer_text (r % 2 ^ 32)) }
+    ensures prints { shown out.new result.at ≡ added out.old run.at (answer_text (answer_of given)) }
     ensures holds { result.held ≡ run.held }
 {
-    run.printed(listing::put_answer(out, run.at, outcome::answer_of(r)))
+    let mut print = Printout::new(out, run.at);
+    listing::put_answer(&mut print, answer(given));
+    run.printed(print.at)
 }
 
 // "Any other line … prints answer=line and ends the run."
-fn refuse(run: Run, out: &mut [u8]) -> Run
+pub fn refuse(run: Run, out: &mut [u8]) -> Run
     ensures stands { (memory : Volume) → standing result memory ≡ (refused_turn (standing run memory)).leaves }
     ensures prints { (memory : Volume) → shown out.new result.at ≡ added out.old run.at (refused_turn (standing run memory)).prints }
     ensures holds { result.held ≡ run.held }
 {
-    run.ended(print::put_text(out, run.at, b"answer=line\n"))
+    let mut print = Printout::new(out, run.at);
+    print.put_text(b"answer=line\n");
+    run.ended(print.at)
 }
 
 // A format's answer. "A refused later format leaves the volume as it was": the run goes on with the sizes of one that is accepted.
-fn say_format(run: Run, sizes: Sizes, out: &mut [u8], r: u64) -> Run
-    ensures stands { (memory : Volume) → standing result memory ≡ (formatted (standing run memory) sizes (r % 2 ^ 32)).leaves }
-    ensures prints { shown out.new result.at ≡ added out.old run.at (answer_text (r % 2 ^ 32)) }
+fn say_format(run: Run, sizes: Sizes, out: &mut [u8], given: Result<u32, Refusal>) -> Run
+    ensures stands { (memory : Volume) → standing result memory ≡ (formatted (standing run memory) sizes (answer_of given)).leaves }
+    ensures prints { shown out.new result.at ≡ added out.old run.at (answer_text (answer_of given)) }
     ensures holds { result.held ≡ run.held }
 {
-    let next = say(run, out, r);
-    if outcome::answer_of(r) != 0 {
-        return next;
+    let next = say(run, out, given);
+    match given {
+        Ok(_) => next.on(sizes),
+        Err(_) => next,
     }
-    next.on(sizes)
 }
 
 // A write's answer, "with its done after it".
-fn say_done(run: Run, out: &mut [u8], r: u64) -> Run
+fn say_done(run: Run, out: &mut [u8], given: Result<u32, Refusal>) -> Run
     ensures stands { (memory : Volume) → standing result memory ≡ standing run memory }
-    ensures prints { shown out.new result.at ≡ added out.old run.at (done_text (r % 2 ^ 32) (r / 2 ^ 32)) }
+    ensures prints { shown out.new result.at ≡ added out.old run.at (done_text (answer_of given) (result_unwrap_or given 0)) }
     ensures holds { result.held ≡ run.held }
 {
-    let a = print::put_field(out, run.at, b"answer=", outcome::answer_of(r));
-    let b = print::put_field(out, a, b" done=", outcome::second_of(r));
-    run.printed(print::put_text(out, b, b"\n"))
+    let mut print = Printout::new(out, run.at);
+    print.put_field(b"answer=", answer(given));
+    print.put_field(b" done=", given.unwrap_or(0));
+    print.put_text(b"\n");
+    run.printed(print.at)
 }
 
 // The pages of the volume listed.
@@ -142,10 +142,12 @@ fn say_list(run: Run, words: &[u32], contents: &[u8], state: &[u32], out: &mut [
         (list_text two_widths run.sizes (volume words.now contents.now state.now)) }
     ensures holds { result.held ≡ run.held }
 {
-    run.printed(listing::list(run.sizes, words, contents, state, out, run.at))
+    let mut print = Printout::new(out, run.at);
+    listing::list(run.sizes, words, contents, state, &mut print);
+    run.printed(print.at)
 }
 
-// What is said of a line whose call left this volume and gave back `r`.
+// What is said of a line whose call left this volume and gave this back.
 pub fn tell(
     run: Run,
     line: Line,
@@ -153,23 +155,18 @@ pub fn tell(
     contents: &[u8],
     state: &[u32],
     out: &mut [u8],
-    r: u64,
+    given: Result<u32, Refusal>,
 ) -> Run
     ensures stands { (list : List ℕ) → standing result (volume words.now contents.now state.now)
-        ≡ (told two_widths (standing run (volume words.now contents.now state.now)) (said line list) (r % 2 ^ 32) (r / 2 ^ 32)).leaves }
+        ≡ (told two_widths (standing run (volume words.now contents.now state.now)) (said line list) (answer_of given) (result_unwrap_or given 0)).leaves }
     ensures prints { (list : List ℕ) → shown out.new result.at ≡ added out.old run.at
-        (told two_widths (standing run (volume words.now contents.now state.now)) (said line list) (r % 2 ^ 32) (r / 2 ^ 32)).prints }
+        (told two_widths (standing run (volume words.now contents.now state.now)) (said line list) (answer_of given) (result_unwrap_or given 0)).prints }
     ensures holds { result.held ≡ run.held }
 {
     match line {
-        Line::Format { sizes } => say_format(run, sizes, out, r),
-        Line::Write {
-            page: _,
-            slot: _,
-            fill: _,
-        } => say_done(run, out, r),
+        Line::Format { sizes } => say_format(run, sizes, out, given),
+        Line::Write { .. } => say_done(run, out, given),
         Line::List => say_list(run, words, contents, state, out),
-        Line::Malformed => refuse(run, out),
-        _ => say(run, out, r),
+        _ => say(run, out, given),
     }
 }

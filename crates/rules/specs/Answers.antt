@@ -8,8 +8,8 @@ use Rattle.sizes.specs.declared.Sizes.{Sizes}
 use Rattle.sizes.specs.Sizes.{list_ok, listed}
 use Rattle.sizes.specs.SizesLaws.{SizesFacts}
 use Rattle.record.specs.declared.Record.{Record}
-use Rattle.record.specs.declared.Slot.{Slot}
-use Rattle.record.specs.declared.Slot.TheVariants.{Blank, Holds}
+use Rattle.record.specs.Slot.{Slot}
+use Rattle.std.specs.Prelude.{None, Some}
 use Rattle.record.specs.Slot.{bytes_at, is_blank}
 use Rattle.record.specs.Flash.{Flash, flash}
 use Rattle.state.specs.State.{state_words, state_sound, in_flight, is_written}
@@ -98,15 +98,15 @@ pub record ReadMeans (layout : Layout) : Type 0 where
   pub lowest :
       (widths : Widths) (sizes : Sizes) (v : Volume) (page : ℕ) (out : List ℕ)
       → (read_outcome_in layout widths sizes v page out).answer ≡ 0
-      → (k : ℕ) × (r : Record) × (k < sizes.slots) × (slots_in layout v k ≡ Holds r) × (r.p ≡ page) × (r.v ≡ (pages_of v page).committed)
-      × ((j : ℕ) (q : Record) → j < k → slots_in layout v j ≡ Holds q → q.p ≡ page → ¬ (q.v ≡ (pages_of v page).committed))
+      → (k : ℕ) × (r : Record) × (k < sizes.slots) × (slots_in layout v k ≡ Some r) × (r.p ≡ page) × (r.v ≡ (pages_of v page).committed)
+      × ((j : ℕ) (q : Record) → j < k → slots_in layout v j ≡ Some q → q.p ≡ page → ¬ (q.v ≡ (pages_of v page).committed))
       × ((read_outcome_in layout widths sizes v page out).left ≡ bytes_at sizes.width v.flash.contents k)
   pub none :
       (widths : Widths) (sizes : Sizes) (v : Volume) (page : ℕ) (out : List ℕ)
       → (read_outcome_in layout widths sizes v page out).answer ≡ 14
       → (k : ℕ) (q : Record)
       → k < sizes.slots
-      → slots_in layout v k ≡ Holds q
+      → slots_in layout v k ≡ Some q
       → q.p ≡ page
       → ¬ (q.v ≡ (pages_of v page).committed)
 
@@ -114,15 +114,15 @@ pub record ReadMeans (layout : Layout) : Type 0 where
 
 -- a page with no record
 abbrev pub PageMissing : Sizes → (ℕ → Slot) → Type 0
-PageMissing sizes t = (p : ℕ) × (p < sizes.pages) × ((k : ℕ) (r : Record) → k < sizes.slots → t k ≡ Holds r → ¬ (r.p ≡ p))
+PageMissing sizes t = (p : ℕ) × (p < sizes.pages) × ((k : ℕ) (r : Record) → k < sizes.slots → t k ≡ Some r → ¬ (r.p ≡ p))
 
 -- two records with equal page and version that are no twins
 abbrev pub TwoAlike : Sizes → (ℕ → Slot) → (twin : ℕ → ℕ → Bool) → Type 0
-TwoAlike sizes t twin = (j : ℕ) × (k : ℕ) × (a : Record) × (b : Record) × (j < k) × (k < sizes.slots) × (t j ≡ Holds a) × (t k ≡ Holds b) × (a.p ≡ b.p) × (a.v ≡ b.v) × (twin j k ≡ false)
+TwoAlike sizes t twin = (j : ℕ) × (k : ℕ) × (a : Record) × (b : Record) × (j < k) × (k < sizes.slots) × (t j ≡ Some a) × (t k ≡ Some b) × (a.p ≡ b.p) × (a.v ≡ b.v) × (twin j k ≡ false)
 
 -- page p has a record at version n
 abbrev pub HasVersion : Sizes → (ℕ → Slot) → (p n : ℕ) → Type 0
-HasVersion sizes t p n = (k : ℕ) × (r : Record) × (k < sizes.slots) × (t k ≡ Holds r) × (r.p ≡ p) × (r.v ≡ n)
+HasVersion sizes t p n = (k : ℕ) × (r : Record) × (k < sizes.slots) × (t k ≡ Some r) × (r.p ≡ p) × (r.v ≡ n)
 
 abbrev pub OneOfSix : ℕ → Type 0
 OneOfSix n = (n ≡ 0) ⊎ ((n ≡ 1) ⊎ ((n ≡ 2) ⊎ ((n ≡ 3) ⊎ ((n ≡ 4) ⊎ (n ≡ 14)))))
@@ -171,7 +171,7 @@ pub record RecoverMeans : Type 0 where
   -- "Committed = hv(p), or else the c of p's highest record", by where the walk from p ends
   pub committed : (P S : ℕ) (t : ℕ → Slot) → table_sound P S t ≡ true → (p n : ℕ) → p < P → Walked (verdict S t) p ends.Committed n → committed_of P S t p ≡ highest_version_of S t p
   pub uncommitted :
-      (P S : ℕ) (t : ℕ → Slot) → table_sound P S t ≡ true → (p n : ℕ) (J : Record) → p < P → Walked (verdict S t) p ends.Uncommitted n → highest S t p ≡ Holds J → committed_of P S t p ≡ J.c
+      (P S : ℕ) (t : ℕ → Slot) → table_sound P S t ≡ true → (p n : ℕ) (J : Record) → p < P → Walked (verdict S t) p ends.Uncommitted n → highest S t p ≡ Some J → committed_of P S t p ≡ J.c
 
 -- "Recovery and suggest now read the contents too": of these they see only which slots are twins.
 pub record TwinsAlone : Type 0 where
@@ -219,14 +219,14 @@ pub record SimpleRecoverMeans : Type 0 where
       → ¬ (TwoAlike sizes (slots_in FourWords v) no_twins)
       × ¬ (PageMissing sizes (slots_in FourWords v))
       × ((p : ℕ) → p < sizes.pages → ¬ (RunsIntoRing (simple_verdict sizes.slots (slots_in FourWords v)) p))
-      × ((p : ℕ) × (p < sizes.pages) × (committed_slot_of sizes.pages sizes.slots (slots_in FourWords v) p ≡ Blank))
+      × ((p : ℕ) × (p < sizes.pages) × (committed_slot_of sizes.pages sizes.slots (slots_in FourWords v) p ≡ None))
   pub done :
       (widths : Widths) (sizes : Sizes) (v : Volume)
       → (simple_recover_outcome widths sizes v.flash.words v.state).answer ≡ 0
       → ¬ (TwoAlike sizes (slots_in FourWords v) no_twins)
       × ¬ (PageMissing sizes (slots_in FourWords v))
       × ((p : ℕ) → p < sizes.pages → ¬ (RunsIntoRing (simple_verdict sizes.slots (slots_in FourWords v)) p))
-      × ((p : ℕ) → p < sizes.pages → (r : Record) × (committed_slot_of sizes.pages sizes.slots (slots_in FourWords v) p ≡ Holds r))
+      × ((p : ℕ) → p < sizes.pages → (r : Record) × (committed_slot_of sizes.pages sizes.slots (slots_in FourWords v) p ≡ Some r))
   pub fills :
       (widths : Widths) (sizes : Sizes) (v : Volume)
       → (simple_recover_outcome widths sizes v.flash.words v.state).answer ≡ 0

@@ -1,7 +1,7 @@
 -- Document 02, wish 2: what a search for the exposed records finds, and what is looked at where they are those found.
 use Rattle.std.specs.Prelude.{ℕ, List, length, get_or}
 use Rattle.bounded.specs.Below.{some_below, list_below}
-use Rattle.record.specs.declared.Slot.{Slot}
+use Rattle.record.specs.Slot.{Slot}
 use Rattle.record.specs.Slot.{holds}
 use Rattle.state.specs.declared.PageState.{PageState}
 use Rattle.rules.specs.Permission.{is_exposed, Scene}

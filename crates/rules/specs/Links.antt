@@ -9,7 +9,7 @@ use Rattle.sizes.specs.declared.Layout.TheVariants.{FiveWords, FourWords}
 use Rattle.sizes.specs.declared.Sizes.{Sizes}
 use Rattle.sizes.specs.Sizes.{sizes_ok}
 use Rattle.record.specs.declared.Record.{Record}
-use Rattle.record.specs.declared.Slot.{Slot}
+use Rattle.record.specs.Slot.{Slot}
 use Rattle.state.specs.declared.PageState.{PageState}
 use Rattle.state.specs.State.{state_words}
 use Rattle.state.specs.Change.{at_rest}

@@ -4,7 +4,7 @@ use Rattle.bounded.specs.Below.{all_below, some_below}
 use Rattle.sizes.specs.declared.Sizes.{Sizes}
 use Rattle.sizes.specs.Sizes.{listed}
 use Rattle.record.specs.declared.Record.{Record}
-use Rattle.record.specs.declared.Slot.{Slot}
+use Rattle.record.specs.Slot.{Slot}
 use Rattle.record.specs.Slot.{holds, some_record, straddles}
 use Rattle.state.specs.declared.PageState.{PageState}
 use Rattle.state.specs.State.{in_flight}

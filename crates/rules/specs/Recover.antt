@@ -4,8 +4,8 @@ use Rattle.bounded.specs.Limits.{Widths}
 use Rattle.bounded.specs.Below.{all_below, some_below}
 use Rattle.outcome.specs.Outcome.{◌⇒◌otherwise◌, Outcome, settled}
 use Rattle.sizes.specs.declared.Sizes.{Sizes}
-use Rattle.record.specs.declared.Slot.{Slot}
-use Rattle.record.specs.declared.Slot.TheVariants.{Blank, Holds}
+use Rattle.record.specs.Slot.{Slot}
+use Rattle.std.specs.Prelude.{None, Some}
 use Rattle.state.specs.declared.PageState.{PageState}
 use Rattle.state.specs.State.{state_words}
 use Rattle.state.specs.Change.{at_rest}
@@ -28,8 +28,8 @@ links_of P S t = links_followed P (verdict S t)
 
 -- the back pointer in a slot; 0 where it is blank
 unfoldable pub back_pointer : Slot → ℕ
-back_pointer Blank = 0
-back_pointer (Holds r) = r.c
+back_pointer None = 0
+back_pointer (Some r) = r.c
 
 -- "Committed = hv(p), or else the c of p's highest record." (A walk gone astray is refused by 4.)
 unfoldable pub committed_by : End → Slot → ℕ

@@ -3,8 +3,8 @@
 use Rattle.std.specs.Prelude.{ℕ, List, Bool, cond, not, ◌&&◌, ◌||◌, ltb, eqb, length, get_or}
 use Rattle.bounded.specs.Below.{all_below}
 use Rattle.record.specs.declared.Record.{Record}
-use Rattle.record.specs.declared.Slot.{Slot}
-use Rattle.record.specs.declared.Slot.TheVariants.{Blank, Holds}
+use Rattle.record.specs.Slot.{Slot}
+use Rattle.std.specs.Prelude.{None, Some}
 use Rattle.record.specs.Slot.{holds, some_record, is_blank}
 use Rattle.state.specs.declared.PageState.{PageState}
 use Rattle.state.specs.Change.{at_rest}
@@ -25,8 +25,8 @@ simple_link_verdict S t J =
     cond (ltb J.nv (highest_version_of S t J.np)) Committed (cond (ltb (highest_version_of S t J.np) J.nv) Uncommitted (On J.np))
 
 unfoldable pub simple_slot_verdict : ℕ → (ℕ → Slot) → Slot → Verdict
-simple_slot_verdict S t Blank = Uncommitted
-simple_slot_verdict S t (Holds J) = simple_link_verdict S t J
+simple_slot_verdict S t None = Uncommitted
+simple_slot_verdict S t (Some J) = simple_link_verdict S t J
 
 -- the verdict of page p's highest record, and the walk from it
 unfoldable pub simple_verdict : ℕ → (ℕ → Slot) → ℕ → Verdict
@@ -37,7 +37,7 @@ simple_walk_of P S t p = follow P (simple_verdict S t) p
 
 -- the table of the records below version n
 unfoldable pub under : ℕ → (ℕ → Slot) → ℕ → Slot
-under n t k = cond (holds (λ r. ltb r.v n) (t k)) (t k) Blank
+under n t k = cond (holds (λ r. ltb r.v n) (t k)) (t k) None
 
 -- page p's record at "the second highest version"; blank where there is none
 unfoldable pub second : ℕ → (ℕ → Slot) → ℕ → Slot

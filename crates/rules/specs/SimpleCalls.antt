@@ -8,7 +8,7 @@ use Rattle.sizes.specs.declared.Layout.TheVariants.{FourWords}
 use Rattle.sizes.specs.declared.Sizes.{Sizes}
 use Rattle.sizes.specs.Sizes.{sizes_ok, words_fit_in, state_fits, list_ok}
 use Rattle.record.specs.declared.Record.{Record}
-use Rattle.record.specs.declared.Slot.{Slot}
+use Rattle.record.specs.Slot.{Slot}
 use Rattle.record.specs.Slot.{slot_in, planned_record, is_blank}
 use Rattle.record.specs.Flash.{Flash, Step, apply_in, apply_all_in}
 use Rattle.state.specs.declared.PageState.{PageState}

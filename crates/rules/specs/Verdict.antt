@@ -1,8 +1,8 @@
 -- One link's verdict: document 01, "Recovery", cases 1 to 3.
 use Rattle.std.specs.Prelude.{ℕ, Bool, cond, ltb}
 use Rattle.record.specs.declared.Record.{Record}
-use Rattle.record.specs.declared.Slot.{Slot}
-use Rattle.record.specs.declared.Slot.TheVariants.{Blank, Holds}
+use Rattle.record.specs.Slot.{Slot}
+use Rattle.std.specs.Prelude.{None, Some}
 use Rattle.record.specs.Slot.{some_record, straddles}
 use Rattle.table.specs.Table.{highest, highest_version_of}
 use Rattle.follow.specs.declared.Verdict.{Verdict}
@@ -22,8 +22,8 @@ link_verdict S t J =
 
 -- the verdict of the record that a slot holds; a blank slot, of a page without a record (answer 3), says uncommitted
 unfoldable pub slot_verdict : ℕ → (ℕ → Slot) → Slot → Verdict
-slot_verdict S t Blank = Uncommitted
-slot_verdict S t (Holds J) = link_verdict S t J
+slot_verdict S t None = Uncommitted
+slot_verdict S t (Some J) = link_verdict S t J
 
 -- the verdict of page p's highest record
 unfoldable pub verdict : ℕ → (ℕ → Slot) → ℕ → Verdict

@@ -1,4 +1,5 @@
 pub mod Memory
+pub mod Held
 pub mod MemoryLaws
 pub mod Enough
 pub mod Script

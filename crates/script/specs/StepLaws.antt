@@ -1,12 +1,14 @@
 -- Laws of a line's turn.
-use Rattle.std.specs.Prelude.{ℕ, ◌*◌, ◌-◌, ◌^◌, ◌/◌, ◌%◌, ◌≤◌, ◌<◌, min, ◌≡◌, List, Bool, true, false, eqb, length, take, drop}
+use Rattle.std.specs.Prelude.{Result, Ok, Err, ℕ, ◌*◌, ◌-◌, ◌≤◌, ◌<◌, min, ◌≡◌, List, Bool, true, false, eqb, length, take, drop}
 use Rattle.std.proofs.Common.{arith, ap, ◌∙◌, ne_eqb, eq-eqb}
 use Rattle.std.proofs.Math.Path.{sym}
 use Rattle.std.proofs.Math.Bool.{cond}
 use borrow.Rule.Slice.PartMut.{put_mid}
 use Rattle.bounded.specs.Limits.{Widths}
 use Rattle.bounded.specs.Choice.{on_test}
-use Rattle.outcome.specs.Outcome.{returned}
+use Rattle.std.specs.Result.{result_unwrap_or}
+use Rattle.outcome.specs.declared.Refusal.{Refusal}
+use Rattle.outcome.specs.Result.{answer_of, outcome_by}
 use Rattle.sizes.specs.declared.Sizes.{Sizes}
 use Rattle.line.specs.Line.{Said, on_format}
 use Rattle.rules.specs.Volume.{Volume, volume}
@@ -24,10 +26,11 @@ use Rattle.script.specs.Script.{volume_turn, sizes_for, in_front, line_turn, is_
 module _ (run s : Run) (m : Volume) (out out₁ : List ℕ) where
   -- a line's call, and what is said of it
   pub went_volume :
-      (widths : Widths) (z : Sizes) (says : Said) (r : ℕ) (m₁ : Volume) → returned r m₁ ≡ line_outcome widths z m says
-      → Went run s m₁ out out₁ (told widths (standing run m₁) says (r % 2 ^ 32) (r / 2 ^ 32)) → Went run s m₁ out out₁ (volume_turn widths z (standing run m) says)
+      (widths : Widths) (z : Sizes) (says : Said) (given : Result ℕ Refusal) (m₁ : Volume) → outcome_by 0 given m₁ ≡ line_outcome widths z m says
+      → Went run s m₁ out out₁ (told widths (standing run m₁) says (answer_of given) (result_unwrap_or given 0)) → Went run s m₁ out out₁ (volume_turn widths z (standing run m) says)
   unfolding volume_turn with_memory standing
-  went_volume widths z says r m₁ e h = rw (← e) h
+  went_volume widths z says (Ok second) m₁ e h = rw (← e) h
+  went_volume widths z says (Err refusal) m₁ e h = rw (← e) h
 
   -- a turn on the volume in front of memory, lent and put back
   pub went_in_front :
@@ -60,6 +63,10 @@ pub too_early : (pages : ℕ) (says : Said) → pages ≤ 0 → is_format says �
 unfolding in_time is_early
 too_early pages says h f = let q : eqb pages 0 ≡ true = eq-eqb pages 0 (omega arith) in rw (q, f)
 
+pub still_malformed : (pages : ℕ) → Said.Malformed ≡ in_time pages Said.Malformed
+unfolding in_time
+still_malformed pages = on_test (is_early pages Said.Malformed) (λ e. rw e) (λ e. rw e)
+
 -- a line after the end, and any other
 module _ (widths : Widths) (s : Standing) (says : Said) where
   over_turned : s.over ≡ true → turn widths s says ≡ idle_turn s
@@ -88,6 +95,14 @@ module _ (widths : Widths) (run : Run) (m : Volume) (out : List ℕ) (says : Sai
       → Went run s m₁ out out₁ (in_front widths z (standing run m) timely) → Went run s m₁ out out₁ (turn widths (standing run m) says)
   unfolding standing line_turn
   went_line s m₁ out₁ z timely o et ez h = rw (← line_turned widths (standing run m) says o, ← et, ← ez) h
+
+  -- a malformed one, or one that comes too early
+  pub went_malformed :
+      (s : Run) (out₁ : List ℕ) → run.over ≡ false → Said.Malformed ≡ in_time run.sizes.pages says
+      → Went run s m out out₁ (refused_turn (standing run m)) → Went run s m out out₁ (turn widths (standing run m) says)
+  unfolding standing
+  went_malformed s out₁ o et h =
+      rw (← line_turned widths (standing run m) says o, ← et, malformed_turned widths (standing run m) says) h
 
 -- "A refused later format leaves the volume as it was": everything is where it was.
 pub refused_format : (widths : Widths) (s : Standing) (z : Sizes) → ¬ (format_answer widths z (in_use z s.memory) ≡ 0) → (line_turn widths s (Said.Format z)).leaves ≡ s

@@ -4,11 +4,12 @@
 ghost use Rattle.std.specs.Prelude.{ℕ, ◌≡◌, List};
 ghost use Rattle.bounded.specs.Limits.{two_widths};
 ghost use Rattle.text.specs.Print.{shown, added};
-ghost use Rattle.line.specs.Line.{said};
+ghost use Rattle.line.specs.Line.{said, said_of};
 ghost use Rattle.rules.specs.Volume.{Volume, volume};
 ghost use Rattle.report.specs.Report.{standing};
 ghost use Rattle.script.specs.Script.{volume_turn, sizes_for, turn};
 ghost use Rattle.script.specs.StepLaws.{in_time};
+ghost use Rattle.script.specs.Held.{memory_of};
 
 use line::Line;
 use report::Run;
@@ -31,21 +32,16 @@ fn volume_step(
         (volume_turn two_widths sizes (standing run (volume words.old contents.old state.old)) (said line list.now)).prints }
     ensures holds { result.held ≡ run.held }
 {
-    let r = dispatch::call(sizes, line, list, words, contents, state);
-    report::tell(run, line, words, contents, state, out, r)
+    let given = dispatch::call(sizes, line, list, words, contents, state);
+    report::tell(run, line, words, contents, state, out, given)
 }
 
 // "a line other than format before a format has answered 0" is as a malformed one.
-fn in_time(pages: u32, line: Line) -> Line
-    ensures { (list : List ℕ) → said result list ≡ in_time pages (said line list) }
+fn in_time(pages: u32, line: Option<Line>) -> Option<Line>
+    ensures { (list : List ℕ) → said_of result list ≡ in_time pages (said_of line list) }
 {
-    if pages > 0 {
-        return line;
-    }
-    match line {
-        Line::Format { sizes: _ } => line,
-        _ => Line::Malformed,
-    }
+    let line = line?;
+    (pages > 0 || matches!(line, Line::Format { .. })).then_some(line)
 }
 
 // The sizes of the volume that a line works on: a format's own, else the run's.
@@ -58,42 +54,41 @@ fn sizes_for(run: Run, line: Line) -> Sizes
     }
 }
 
+// The memory that a script's volumes are in front of: slot words, contents and state words.
+#[derive(Drop)]
+pub struct Memory<'a> {
+    pub words: &'a mut [u32],
+    pub contents: &'a mut [u8],
+    pub state: &'a mut [u32],
+}
+
 // One line carried out, unless the run is over: it works on the front of memory that a volume of its sizes has. A buffer that lacks it has the wrong
 // length, which the call refuses.
-pub fn step(
-    run: Run,
-    line: Line,
-    list: &[u32],
-    words: &mut [u32],
-    contents: &mut [u8],
-    state: &mut [u32],
-    out: &mut [u8],
-) -> Run
-    ensures stands { standing result (volume words.new contents.new state.new)
-        ≡ (turn two_widths (standing run (volume words.old contents.old state.old)) (said line list.now)).leaves }
+pub fn step(run: Run, line: Option<Line>, list: &[u32], memory: &mut Memory, out: &mut [u8]) -> Run
+    ensures stands { standing result (memory_of memory.new)
+        ≡ (turn two_widths (standing run (memory_of memory.old)) (said_of line list.now)).leaves }
     ensures prints { shown out.new result.at ≡ added out.old run.at
-        (turn two_widths (standing run (volume words.old contents.old state.old)) (said line list.now)).prints }
+        (turn two_widths (standing run (memory_of memory.old)) (said_of line list.now)).prints }
     ensures holds { result.held ≡ run.held }
 {
     if run.over {
         return run;
     }
-    let says = in_time(run.sizes.pages, line);
+    let Some(says) = in_time(run.sizes.pages, line) else {
+        return report::refuse(run, out);
+    };
     let sizes = sizes_for(run, says);
-    let w = dispatch::least(5 * (sizes.slots as usize), words.len());
-    let b = dispatch::least(
-        (sizes.width as usize) * (sizes.slots as usize),
-        contents.len(),
-    );
-    let s = dispatch::least(4 * (sizes.pages as usize), state.len());
+    let w = (5 * (sizes.slots as usize)).min(memory.words.len());
+    let b = ((sizes.width as usize) * (sizes.slots as usize)).min(memory.contents.len());
+    let s = (4 * (sizes.pages as usize)).min(memory.state.len());
     volume_step(
         run,
         sizes,
         says,
         list,
-        &mut words[0..w],
-        &mut contents[0..b],
-        &mut state[0..s],
+        &mut memory.words[0..w],
+        &mut memory.contents[0..b],
+        &mut memory.state[0..s],
         out,
     )
 }

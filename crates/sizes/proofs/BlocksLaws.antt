@@ -67,13 +67,10 @@ module _ (S : ℕ) (starts : List ℕ) where
   unfolding block_at
   last_end i h = get_or-eq_default starts _ h
 
-  pub block_next : (i : ℕ) → i + 1 < length starts → ◌≡◌ {A = Block} (record { first = get_or starts i 0; end = get_or starts (i + 1) 0 }) (block_at S (named starts i))
+  -- as a block is read: an end that stands behind its start in the table, or is S where nothing stands there
+  pub block_read : (i : ℕ) {e : ℕ} → e ≡ get_or starts (i + 1) S → ◌≡◌ {A = Block} (record { first = get_or starts i 0; end = e }) (block_at S (named starts i))
   unfolding block_at
-  block_next i h = ap (λ (e : ℕ). record { first = get_or starts i 0; end = e }) (ap (λ (n : ℕ). get_or starts n 0) (add-one i) ∙ entry_there starts (suc i) 0 _ (omega arith))
-
-  pub block_last : (i : ℕ) → length starts ≤ i + 1 → ◌≡◌ {A = Block} (record { first = get_or starts i 0; end = S }) (block_at S (named starts i))
-  unfolding block_at
-  block_last i h = ap (λ (e : ℕ). record { first = get_or starts i 0; end = e }) (sym (get_or-eq_default starts _ (omega arith)))
+  block_read i h = ap (λ (e : ℕ). record { first = get_or starts i 0; end = e }) (h ∙ ap (λ (n : ℕ). get_or starts n S) (add-one i))
 
   pub block_has_slot : StartsFacts S starts → (i : ℕ) → i < length starts → (block_at S (named starts i)).first < (block_at S (named starts i)).end
   unfolding block_at

@@ -21,36 +21,24 @@ pub fn block_at(slots: u32, starts: &[u32], block: u32) -> Block
     ensures { result ≡ block_at slots (named starts.now block) }
 {
     let place = block as usize;
-    let first = starts[place];
-    if place + 1 < starts.len() {
-        return Block {
-            first,
-            end: starts[place + 1],
-        };
+    Block {
+        first: starts[place],
+        end: starts.get(place + 1).copied().unwrap_or(slots),
     }
-    Block { first, end: slots }
 }
 
 // No "table that breaks these rules, its length included": "the first is 0", and every block has a slot, which is that "they rise strictly, all are below S".
 pub fn starts_ok(slots: u32, starts: &[u32]) -> bool
     ensures { result ≡ starts_ok slots starts.now }
 {
-    if starts.len() < 1 {
+    if starts.is_empty() || starts.len() > MAX_BLOCKS || starts[0] != 0 {
         return false;
     }
-    if starts.len() > MAX_BLOCKS {
-        return false;
-    }
-    if starts[0] != 0 {
-        return false;
-    }
-    let mut i = 0;
-    while (i as usize) < starts.len() {
+    for i in 0..starts.len() as u32 {
         let block = block_at(slots, starts, i);
         if block.first >= block.end {
             return false;
         }
-        i += 1;
     }
     true
 }

@@ -55,10 +55,7 @@ impl Layout {
 pub fn width_ok(width: usize) -> bool
     ensures { result ≡ two_widths width }
 {
-    if width == 32 {
-        return true;
-    }
-    width == 64
+    width == 32 || width == 64
 }
 
 impl Sizes {
@@ -66,21 +63,15 @@ impl Sizes {
     pub fn are_ok(self) -> bool
         ensures { result ≡ sizes_ok two_widths self }
     {
-        if self.pages < 1 {
-            return false;
-        }
-        if self.pages > 256 {
-            return false;
-        }
-        if self.pages > self.slots {
-            return false;
-        }
-        if self.slots > 1024 {
-            return false;
-        }
-        width_ok(self.width as usize)
+        1 <= self.pages
+            && self.pages <= 256
+            && self.pages <= self.slots
+            && self.slots <= 1024
+            && width_ok(self.width as usize)
     }
 }
+
+// Kept: three tests of a length, each of a definition of its own: one with a factor would not say which buffer it is.
 
 // "The slot table has 5×S unsigned 32-bit words", or as many as the layout says
 pub fn words_fit(layout: Layout, slots: u32, words: &[u32]) -> bool
@@ -107,23 +98,14 @@ pub fn state_fits(pages: u32, state: &[u32]) -> bool
 pub fn state_ok(sizes: Sizes, state: &[u32]) -> bool
     ensures { result ≡ (sizes_ok two_widths sizes && state_fits sizes.pages state.now) }
 {
-    if !sizes.are_ok() {
-        return false;
-    }
-    state_fits(sizes.pages, state)
+    sizes.are_ok() && state_fits(sizes.pages, state)
 }
 
 // P, S, the width and the lengths of the words and the state are right.
 pub fn table_ok(layout: Layout, sizes: Sizes, words: &[u32], state: &[u32]) -> bool
     ensures { result ≡ (sizes_ok two_widths sizes && (words_fit_in layout sizes.slots words.now && state_fits sizes.pages state.now)) }
 {
-    if !sizes.are_ok() {
-        return false;
-    }
-    if !words_fit(layout, sizes.slots, words) {
-        return false;
-    }
-    state_fits(sizes.pages, state)
+    sizes.are_ok() && words_fit(layout, sizes.slots, words) && state_fits(sizes.pages, state)
 }
 
 // No "empty list, repeated entry, or a page or slot out of range", which is `bound` or above, in one pass: a mark stands for each
@@ -132,21 +114,15 @@ pub fn list_ok(bound: u32, list: &[u32]) -> bool
     requires { bound ≤ 1024 }
     ensures { result ≡ list_ok bound list.now }
 {
-    if list.len() < 1 {
+    if list.is_empty() {
         return false;
     }
     let mut marks = [0u8; 1024];
-    let mut i = 0;
-    while i < list.len() {
-        let entry = list[i];
-        if entry >= bound {
-            return false;
-        }
-        if marks[entry as usize] != 0 {
+    for &entry in list {
+        if entry >= bound || marks[entry as usize] != 0 {
             return false;
         }
         marks[entry as usize] = 1;
-        i += 1;
     }
     true
 }

@@ -7,6 +7,8 @@ ghost use Rattle.state.specs.Walk.{pages_in, Walkable, cycle_ended};
 
 use super::{page_at, put_page};
 
+// Kept: both walks go along the pages' links, which no range or slice has.
+
 // Every other page of the cycle is written: a write of the page completes it.
 pub fn completes(state: &[u32], page: u32) -> bool
     requires { Walkable (pages_in state.now) state.now page }

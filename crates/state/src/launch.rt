@@ -12,10 +12,7 @@ fn following(pages: &[u32], i: usize) -> u32
     requires { i < length pages.now }
     ensures { result ≡ following pages.now i }
 {
-    if i + 1 < pages.len() {
-        return pages[i + 1];
-    }
-    pages[0]
+    pages.get(i + 1).copied().unwrap_or(pages[0])
 }
 
 // "each page's used rises by 1, its next is the following page in the list (the last points to the first), written is 0"
@@ -23,12 +20,9 @@ pub fn launch_pages(state: &mut [u32], pages: &[u32])
     requires { (length state.old ≡ 4 * pages_in state.old) × Launchable (pages_in state.old) (state_at state.old) pages.now }
     ensures { state.new ≡ state_words (pages_in state.old) (launched pages.now (state_at state.old)) }
 {
-    let mut i = 0;
-    while i < pages.len() {
-        let page = pages[i];
+    for (i, &page) in pages.iter().enumerate() {
         let s = page_at(state, page);
         let next = following(pages, i);
         put_page(state, page, s.launched(next));
-        i += 1;
     }
 }

@@ -14,6 +14,7 @@ ghost use Rattle.state.specs.Walk.{ended_page};
 
 // One page's words: "the last committed version, the last used version, the next page in its current ring
 // (4,294,967,295: not in flight), and written (0 or 1)".
+// Kept: four words as C lends them, any 32 bits each: a state that is not sound has others in `next` and `written`.
 #[derive(Clone, Copy)]
 pub struct PageState {
     pub committed: u32,
@@ -86,10 +87,10 @@ impl PageState {
         ensures { result ≡ launched_page self next }
     {
         PageState {
-            committed: self.committed,
             used: self.used + 1,
-            next: next,
+            next,
             written: 0,
+            ..self
         }
     }
 
@@ -97,32 +98,22 @@ impl PageState {
     pub fn written_page(self) -> PageState
         ensures { result ≡ written_page self }
     {
-        PageState {
-            committed: self.committed,
-            used: self.used,
-            next: self.next,
-            written: 1,
-        }
+        PageState { written: 1, ..self }
     }
 
     // Out of flight, written 0; with committed = used where the cycle commits.
     pub fn ended(self, commits: bool) -> PageState
         ensures { result ≡ ended_page commits self }
     {
-        if commits {
-            return PageState::at_rest(self.used, self.used);
-        }
-        PageState::at_rest(self.committed, self.used)
+        let committed = if commits { self.used } else { self.committed };
+        PageState::at_rest(committed, self.used)
     }
 
     // "committed is at most used, used is at most 4,294,967,294"
     fn versions_sound(self) -> bool
         ensures { result ≡ versions_sound self }
     {
-        if self.committed > self.used {
-            return false;
-        }
-        self.used <= sizes::HIGHEST_VERSION
+        self.committed <= self.used && self.used <= sizes::HIGHEST_VERSION
     }
 
     // "a page in flight has committed below used, its next page is below P and also in flight"
@@ -130,42 +121,24 @@ impl PageState {
         requires { 4 * pages ≤ length state.now }
         ensures { result ≡ flight_sound pages (state_at state.now) self }
     {
-        if !self.in_flight() {
-            return true;
-        }
-        if self.committed >= self.used {
-            return false;
-        }
-        if self.next >= pages {
-            return false;
-        }
-        page_at(state, self.next).in_flight()
+        !self.in_flight()
+            || (self.committed < self.used
+                && self.next < pages
+                && page_at(state, self.next).in_flight())
     }
 
     // "written is 0 or 1, and 0 for a page not in flight"
     fn written_sound(self) -> bool
         ensures { result ≡ written_sound self }
     {
-        if self.written == 0 {
-            return true;
-        }
-        if self.written != 1 {
-            return false;
-        }
-        self.in_flight()
+        self.written == 0 || (self.written == 1 && self.in_flight())
     }
 
     // Both are in flight, with the same next page.
     fn shares_next(self, other: PageState) -> bool
         ensures { result ≡ share_next self other }
     {
-        if !self.in_flight() {
-            return false;
-        }
-        if !other.in_flight() {
-            return false;
-        }
-        self.next == other.next
+        self.in_flight() && other.in_flight() && self.next == other.next
     }
 }
 
@@ -174,25 +147,17 @@ fn page_sound(pages: u32, state: &[u32], page: u32) -> bool
     ensures { result ≡ page_sound pages (state_at state.now) page }
 {
     let s = page_at(state, page);
-    if !s.versions_sound() {
-        return false;
-    }
-    if !s.flight_sound(pages, state) {
-        return false;
-    }
-    s.written_sound()
+    s.versions_sound() && s.flight_sound(pages, state) && s.written_sound()
 }
 
 fn pages_sound(pages: u32, state: &[u32]) -> bool
     requires { 4 * pages ≤ length state.now }
     ensures { result ≡ all_below pages (page_sound pages (state_at state.now)) }
 {
-    let mut page = 0;
-    while page < pages {
+    for page in 0..pages {
         if !page_sound(pages, state, page) {
             return false;
         }
-        page += 1;
     }
     true
 }
@@ -203,12 +168,10 @@ fn next_apart(state: &[u32], page: u32) -> bool
     ensures { result ≡ all_below page (λ q. not (share_next (state_at state.now q) (state_at state.now page))) }
 {
     let s = page_at(state, page);
-    let mut lower = 0;
-    while lower < page {
+    for lower in 0..page {
         if page_at(state, lower).shares_next(s) {
             return false;
         }
-        lower += 1;
     }
     true
 }
@@ -217,12 +180,10 @@ fn nexts_apart(pages: u32, state: &[u32]) -> bool
     requires { 4 * pages ≤ length state.now }
     ensures { result ≡ nexts_apart pages (state_at state.now) }
 {
-    let mut page = 0;
-    while page < pages {
+    for page in 0..pages {
         if !next_apart(state, page) {
             return false;
         }
-        page += 1;
     }
     true
 }
@@ -232,8 +193,5 @@ pub fn state_sound(pages: u32, state: &[u32]) -> bool
     requires { 4 * pages ≤ length state.now }
     ensures { result ≡ state_sound pages (state_at state.now) }
 {
-    if !pages_sound(pages, state) {
-        return false;
-    }
-    nexts_apart(pages, state)
+    pages_sound(pages, state) && nexts_apart(pages, state)
 }

@@ -1,15 +1,14 @@
 -- The slots of each erasure as the code finds them: what one slot settles, and that a list that was noted is the definition's.
 use Rattle.std.specs.Prelude.{ℕ, ◌<◌, ◌≡◌, List, Bool, true, false, not, ◌&&◌}
-use Rattle.std.proofs.Common.{arith, sym, ◌∙◌, subst}
+use Rattle.std.proofs.Common.{arith, sym, ◌∙◌}
 use Rattle.std.proofs.Math.Path.{ap, fun_ext}
-use Rattle.bounded.specs.Below.{some_below}
+use Rattle.bounded.specs.Below.{some_below, list_below}
 use Rattle.bounded.specs.BelowLaws.{some_none, some_cong}
-use Rattle.bounded.specs.Noted.{Noted}
 use Rattle.sizes.specs.Blocks.{in_block}
 use Rattle.sizes.proofs.BlocksLaws.{inside_block}
 use Rattle.record.specs.declared.Record.{Record}
-use Rattle.record.specs.declared.Slot.{Slot}
-use Rattle.record.specs.declared.Slot.TheVariants.{Blank, Holds}
+use Rattle.record.specs.Slot.{Slot}
+use Rattle.std.specs.Prelude.{None, Some}
 use Rattle.record.specs.Slot.{slot_at, is_blank}
 use Rattle.record.specs.SlotLaws.{is_blank_exactly}
 use Rattle.record.specs.Flash.{Flash}
@@ -27,15 +26,15 @@ use Rattle.judge.specs.JudgeLaws.{blank_no_twin}
 -- ---- exposed and obsolete records
 
 module _ (t : ℕ → Slot) (st : ℕ → PageState) (k : ℕ) where
-  pub blank_not_spare : t k ≡ Blank → is_spare_exposed t st k ≡ false
+  pub blank_not_spare : t k ≡ None → is_spare_exposed t st k ≡ false
   unfolding is_spare_exposed
   blank_not_spare e = holds_none _ e
 
-  pub blank_not_obsolete : t k ≡ Blank → is_obsolete_at t st k ≡ false
+  pub blank_not_obsolete : t k ≡ None → is_obsolete_at t st k ≡ false
   unfolding is_obsolete_at
   blank_not_obsolete e = holds_none _ e
 
-  module _ {r : Record} (e : t k ≡ Holds r) where
+  module _ {r : Record} (e : t k ≡ Some r) where
     pub spare_record : is_spare_exposed t st k ≡ (is_exposed st r && not (is_current st r))
     unfolding is_spare_exposed
     spare_record = holds_record _ e
@@ -45,23 +44,22 @@ module _ (t : ℕ → Slot) (st : ℕ → PageState) (k : ℕ) where
     obsolete_record = holds_record _ e
 
 -- what is found is the exposed records: judging by it is the rule
-module _ (S : ℕ) (t : ℕ → Slot) (st : ℕ → PageState) {found list : List ℕ} {count : ℕ} where
-  pub obsolete_noted :
-      found ≡ exposed_slots S t st
-      → Noted (λ k. is_obsolete_at t st k && may_erase (by_found (untwinned S t st) found) k) S list count
-      → Noted (λ k. is_obsolete_at t st k && may_erase (untwinned S t st) k) S list count
-  obsolete_noted e n =
-      subst (λ (f : ℕ → Bool). Noted f S list count)
-      (fun_ext (λ k. ap (λ (b : Bool). is_obsolete_at t st k && b) (ap (λ (l : List ℕ). may_erase (by_found (untwinned S t st) l) k) e ∙ ap (λ (s : Scene). may_erase s k) (found_scene S t st no_twins))))
-      n
+pub obsolete_found :
+    (S : ℕ) (t : ℕ → Slot) (st : ℕ → PageState) {found : List ℕ}
+    → found ≡ exposed_slots S t st
+    → list_below S (λ k. is_obsolete_at t st k && may_erase (by_found (untwinned S t st) found) k) ≡ list_below S (λ k. is_obsolete_at t st k && may_erase (untwinned S t st) k)
+obsolete_found S t st e =
+    ap (list_below S)
+    (fun_ext (λ k. ap (λ (b : Bool). is_obsolete_at t st k && b) (ap (λ (l : List ℕ). may_erase (by_found (untwinned S t st) l) k) e ∙ ap (λ (s : Scene). may_erase s k) (found_scene S t st no_twins))))
 
 module _ (w : ℕ) (f : Flash) where
   -- an obsolete record's twins are listed with it: the old rule judges it
-  pub erasable_noted :
-      (S : ℕ) (st : ℕ → PageState) {list : List ℕ} {count : ℕ}
-      → Noted (λ k. is_obsolete_at (slot_at f.words) st k && may_erase (untwinned S (slot_at f.words) st) k) S list count
-      → Noted (is_erasable_obsolete (scene S (slot_at f.words) st (twins w f))) S list count
-  erasable_noted S st {list} {count} n = subst (λ (g : ℕ → Bool). Noted g S list count) (fun_ext (λ k. ap (λ (b : Bool). is_obsolete_at (slot_at f.words) st k && b) (sym (twins_apart (untwinned S (slot_at f.words) st) (twins w f) k)) ∙ sym (erasable_obsolete w S f st k))) n
+  pub erasable_listed :
+      (S : ℕ) (st : ℕ → PageState)
+      → list_below S (λ k. is_obsolete_at (slot_at f.words) st k && may_erase (untwinned S (slot_at f.words) st) k) ≡ list_below S (is_erasable_obsolete (scene S (slot_at f.words) st (twins w f)))
+  erasable_listed S st =
+      ap (list_below S)
+      (fun_ext (λ k. ap (λ (b : Bool). is_obsolete_at (slot_at f.words) st k && b) (sym (twins_apart (untwinned S (slot_at f.words) st) (twins w f) k)) ∙ sym (erasable_obsolete w S f st k)))
 
   -- ---- twins
 

@@ -1,10 +1,9 @@
 -- The three erasures: each blanks slots of the flash, which stays sound, and the three in a row are the sweep's.
-use Rattle.std.specs.Prelude.{ℕ, ◌<◌, ◌≡◌, List, Bool, true, length, get_or, take}
+use Rattle.std.specs.Prelude.{ℕ, ◌<◌, ◌≡◌, List, Bool, true, length, get_or}
 use Rattle.std.proofs.Common.{arith, sym, ◌∙◌, subst}
 use Rattle.std.proofs.Math.Path.{ap}
 use Rattle.bounded.specs.Limits.{Widths}
 use Rattle.bounded.specs.Below.{list_below}
-use Rattle.bounded.specs.Noted.{Noted}
 use Rattle.bounded.specs.Passing.{list_entry}
 use Rattle.sizes.specs.declared.Layout.TheVariants.{FiveWords}
 use Rattle.sizes.specs.declared.Sizes.{Sizes}
@@ -29,16 +28,16 @@ module _ (sizes : Sizes) (words contents : List ℕ) (q : ℕ → Bool) where
   abbrev pub Erased : Flash → Type 0
   Erased g = g ≡ apply_all sizes.width (flash words contents) (erase_steps (list_below sizes.slots q))
 
-  module _ {list : List ℕ} {count : ℕ} (noted : Noted q sizes.slots list count) where
-    -- the slots noted are in the flash,
-    pub noted_listed : SoundFlash sizes words contents → ListedIn FiveWords sizes.width words contents (take count list)
-    noted_listed s =
-        listed_in FiveWords sizes.width sizes.slots (flash words contents) (take count list) s.flash_sized
-        (subst (λ (l : List ℕ). (i : ℕ) → i < length l → get_or l i 0 < sizes.slots) (sym noted.noted) (λ i h. (list_entry q sizes.slots i h).0))
+  module _ {list : List ℕ} (chosen : list ≡ list_below sizes.slots q) where
+    -- the slots chosen are in the flash,
+    pub chosen_listed : SoundFlash sizes words contents → ListedIn FiveWords sizes.width words contents list
+    chosen_listed s =
+        listed_in FiveWords sizes.width sizes.slots (flash words contents) list s.flash_sized
+        (subst (λ (l : List ℕ). (i : ℕ) → i < length l → get_or l i 0 < sizes.slots) (sym chosen) (λ i h. (list_entry q sizes.slots i h).0))
 
     -- and, blanked, they are those that pass
-    pub noted_erased : {g : Flash} → g ≡ apply_all sizes.width (flash words contents) (erase_steps (take count list)) → Erased g
-    noted_erased e = e ∙ ap (λ (l : List ℕ). apply_all sizes.width (flash words contents) (erase_steps l)) noted.noted
+    pub chosen_erased : {g : Flash} → g ≡ apply_all sizes.width (flash words contents) (erase_steps list) → Erased g
+    chosen_erased e = e ∙ ap (λ (l : List ℕ). apply_all sizes.width (flash words contents) (erase_steps l)) chosen
 
   -- what is left is sound
   pub erased_sound : SoundFlash sizes words contents → {words' contents' : List ℕ} → Erased (flash words' contents') → SoundFlash sizes words' contents'

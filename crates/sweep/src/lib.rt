@@ -8,8 +8,7 @@ mod choice; // choice.rt: the slots that each of the three erases
 ghost use Rattle.std.specs.Prelude.{◌≡◌, ◌*◌, ◌≤◌, length};
 ghost use Rattle.bounded.specs.Limits.{two_widths};
 ghost use Rattle.bounded.specs.Below.{list_below};
-ghost use Rattle.outcome.specs.Outcome.{returned};
-ghost use Rattle.sizes.specs.declared.Layout.TheVariants.{FiveWords};
+ghost use Rattle.outcome.specs.Result.{ends};
 ghost use Rattle.record.specs.Slot.{slot_at};
 ghost use Rattle.record.specs.Flash.{flash, apply_all};
 ghost use Rattle.state.specs.State.{state_at};
@@ -19,22 +18,12 @@ ghost use Rattle.rules.specs.Volume.{volume};
 ghost use Rattle.rules.specs.Erase.{erase_steps};
 ghost use Rattle.upkeep.specs.Sweep.{is_spare_exposed, is_erasable_obsolete, is_higher_twin, without_obsolete, swept_twins, sweep_outcome};
 ghost use Rattle.judge.specs.Judgeable.{SoundFlash};
-ghost use Rattle.collect.specs.EraseLaws.{ListedIn};
 
+use noted::Slots;
+use outcome::Refusal;
 use sizes::{Layout, Sizes};
 
-// The listed slots blanked, in the list's order.
-fn blank_slots(width: u32, words: &mut [u32], contents: &mut [u8], list: &[u16])
-    requires listed_in { ListedIn FiveWords width words.old contents.old list.now }
-    requires width_bound { width ≤ 64 }
-    ensures { flash words.new contents.new ≡ apply_all width (flash words.old contents.old) (erase_steps list.now) }
-{
-    let mut i = 0;
-    while i < list.len() {
-        collect::blank_slot(Layout::FiveWords, width, words, contents, list[i] as u32);
-        i += 1;
-    }
-}
+// Kept: three functions, since each finds its list by another call with other buffers.
 
 // "first erases each exposed record other than one whose page is in flight with v = used"
 fn erase_exposed(sizes: Sizes, words: &mut [u32], contents: &mut [u8], state: &[u32])
@@ -44,9 +33,15 @@ fn erase_exposed(sizes: Sizes, words: &mut [u32], contents: &mut [u8], state: &[
         ≡ apply_all sizes.width (flash words.old contents.old)
         (erase_steps (list_below sizes.slots (is_spare_exposed (slot_at words.old) (state_at state.now)))) }
 {
-    let mut list = [0u16; 1024];
-    let count = choice::find_spare_exposed(sizes.slots, words, state, &mut list);
-    blank_slots(sizes.width, words, contents, &list[..count]);
+    let mut list = Slots::new();
+    choice::find_spare_exposed(sizes.slots, words, state, &mut list);
+    collect::blank_listed(
+        Layout::FiveWords,
+        sizes.width,
+        words,
+        contents,
+        list.as_slice(),
+    );
 }
 
 // "then each obsolete one that may then be erased, all judged as one list"
@@ -57,9 +52,15 @@ fn erase_obsolete(sizes: Sizes, words: &mut [u32], contents: &mut [u8], state: &
         ≡ apply_all sizes.width (flash words.old contents.old)
         (erase_steps (list_below sizes.slots (is_erasable_obsolete (scene_of sizes (volume words.old contents.old state.now))))) }
 {
-    let mut list = [0u16; 1024];
-    let count = choice::find_obsolete(sizes, words, state, &mut list);
-    blank_slots(sizes.width, words, contents, &list[..count]);
+    let mut list = Slots::new();
+    choice::find_obsolete(sizes, words, state, &mut list);
+    collect::blank_listed(
+        Layout::FiveWords,
+        sizes.width,
+        words,
+        contents,
+        list.as_slice(),
+    );
 }
 
 // "and of other twins keeps the lowest"
@@ -69,9 +70,15 @@ fn erase_twins(sizes: Sizes, words: &mut [u32], contents: &mut [u8])
         ≡ apply_all sizes.width (flash words.old contents.old)
         (erase_steps (list_below sizes.slots (is_higher_twin (twins sizes.width (flash words.old contents.old))))) }
 {
-    let mut list = [0u16; 1024];
-    let count = choice::find_twins(sizes, words, contents, &mut list);
-    blank_slots(sizes.width, words, contents, &list[..count]);
+    let mut list = Slots::new();
+    choice::find_twins(sizes, words, contents, &mut list);
+    collect::blank_listed(
+        Layout::FiveWords,
+        sizes.width,
+        words,
+        contents,
+        list.as_slice(),
+    );
 }
 
 // The three erasures: each list is found on what the erasures before it left.
@@ -88,15 +95,17 @@ fn sweep_flash(sizes: Sizes, words: &mut [u32], contents: &mut [u8], state: &[u3
 }
 
 // A full sweep.
-pub fn sweep(sizes: Sizes, words: &mut [u32], contents: &mut [u8], state: &[u32]) -> u64
-    ensures { returned result (flash words.new contents.new)
+pub fn sweep(
+    sizes: Sizes,
+    words: &mut [u32],
+    contents: &mut [u8],
+    state: &[u32],
+) -> Result<(), Refusal>
+    ensures { ends result (flash words.new contents.new)
         ≡ sweep_outcome two_widths sizes (volume words.old contents.old state.now) }
 {
     let fits = volume::volume_fits(Layout::FiveWords, sizes, words, contents, state);
-    let first = volume::judged(Layout::FiveWords, fits, sizes, words, state);
-    if first != 0 {
-        return outcome::reply(first, 0);
-    }
+    volume::judged(Layout::FiveWords, fits, sizes, words, state)?;
     sweep_flash(sizes, words, contents, state);
-    outcome::reply(0, 0)
+    Ok(())
 }

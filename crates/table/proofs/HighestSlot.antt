@@ -8,8 +8,8 @@ use Rattle.bounded.specs.Limits.{no_number}
 use Rattle.bounded.specs.Choice.{on_lt, on_eq, on_test, same_test}
 use Rattle.bounded.specs.Tabulate.{tabulate, tabulate_at, tabulate_cong, set_tabulate}
 use Rattle.record.specs.declared.Record.{Record}
-use Rattle.record.specs.declared.Slot.{Slot}
-use Rattle.record.specs.declared.Slot.TheVariants.{Blank, Holds}
+use Rattle.record.specs.Slot.{Slot}
+use Rattle.std.specs.Prelude.{None, Some}
 use Rattle.record.specs.Slot.{holds}
 use Rattle.record.specs.SlotLaws.{sound_facts, holds_exactly}
 use Rattle.table.specs.Table.{table_sound, of_page, above, better, raised, highest, has_record}
@@ -20,7 +20,7 @@ pub named_slot : (S : ℕ) (t : ℕ → Slot) (k : ℕ) → k < S → named S t 
 unfolding named
 named_slot S t k h = rw (lt-ltb k S h)
 
-pub named_none : (S : ℕ) (t : ℕ → Slot) (k : ℕ) → S ≤ k → named S t k ≡ Blank
+pub named_none : (S : ℕ) (t : ℕ → Slot) (k : ℕ) → S ≤ k → named S t k ≡ None
 unfolding named
 named_none S t k h = rw (le-ltb k S h)
 
@@ -46,7 +46,7 @@ module _ (S : ℕ) (t : ℕ → Slot) (p : ℕ) where
       later (inr e) = inr e
 
   -- the named slot holds a record
-  slot_holds_record : (n : ℕ) → highest_slot S n t p < S → (r : Record) × (highest n t p ≡ Holds r)
+  slot_holds_record : (n : ℕ) → highest_slot S n t p < S → (r : Record) × (highest n t p ≡ Some r)
   unfolding highest_slot highest raised
   slot_holds_record zero l = absurd (omega arith)
   slot_holds_record (suc n) l =
@@ -66,42 +66,42 @@ module _ (S : ℕ) (t : ℕ → Slot) (p : ℕ) where
   -- ---- one slot more
 
   -- it holds no record: nothing changes
-  pub highest_slot_blank : (n : ℕ) → t n ≡ Blank → highest_slot S (n + 1) t p ≡ highest_slot S n t p
+  pub highest_slot_blank : (n : ℕ) → t n ≡ None → highest_slot S (n + 1) t p ≡ highest_slot S n t p
   unfolding highest_slot holds
   highest_slot_blank n e = rw (add-one, highest_slot, e)
 
   -- a record of another page, or one no higher: nothing changes
-  pub highest_slot_stays : (n : ℕ) {r : Record} → t n ≡ Holds r → better p (highest n t p) r ≡ false → highest_slot S (n + 1) t p ≡ highest_slot S n t p
+  pub highest_slot_stays : (n : ℕ) {r : Record} → t n ≡ Some r → better p (highest n t p) r ≡ false → highest_slot S (n + 1) t p ≡ highest_slot S n t p
   unfolding highest_slot holds
   highest_slot_stays n e b = rw (add-one, highest_slot, e, holds, b)
 
-  pub highest_slot_taken : (n : ℕ) {r : Record} → t n ≡ Holds r → better p (highest n t p) r ≡ true → highest_slot S (n + 1) t p ≡ n
+  pub highest_slot_taken : (n : ℕ) {r : Record} → t n ≡ Some r → better p (highest n t p) r ≡ true → highest_slot S (n + 1) t p ≡ n
   unfolding highest_slot holds
   highest_slot_taken n e b = rw (add-one, highest_slot, e, holds, b)
 
 -- In a sound table a record's page is below P,
-pub page_below : (P S : ℕ) (t : ℕ → Slot) (k : ℕ) (r : Record) → table_sound P S t ≡ true → k < S → t k ≡ Holds r → r.p < P
+pub page_below : (P S : ℕ) (t : ℕ → Slot) (k : ℕ) (r : Record) → table_sound P S t ≡ true → k < S → t k ≡ Some r → r.p < P
 page_below P S t k r sound h e = (sound_facts P r (sound_at t P S k sound h e)).page_below
 
 -- and no page from P on has a record.
-pub beyond_blank : (P S : ℕ) (t : ℕ → Slot) → table_sound P S t ≡ true → (p : ℕ) → P ≤ p → highest S t p ≡ Blank
+pub beyond_blank : (P S : ℕ) (t : ℕ → Slot) → table_sound P S t ≡ true → (p : ℕ) → P ≤ p → highest S t p ≡ None
 beyond_blank P S t sound p h = by (highest S t p) refl
   where
-    by : (s : Slot) → highest S t p ≡ s → highest S t p ≡ Blank
-    by Blank e = e
-    by (Holds r) e =
+    by : (s : Slot) → highest S t p ≡ s → highest S t p ≡ None
+    by None e = e
+    by (Some r) e =
         let k = highest_held t p S (highest_is t p S) e in
         let f = page_below P S t k.0 r sound k.1 k.2 in
         let q = highest_page t p S (highest_is t p S) e in
         absurd (omega arith)
 
 -- A slot of a sound table whose record would have no page is blank.
-pub no_page_blank : (P S : ℕ) (t : ℕ → Slot) (k : ℕ) → table_sound P S t ≡ true → k < S → P ≤ 256 → ((r : Record) → t k ≡ Holds r → r.p ≡ no_number) → t k ≡ Blank
+pub no_page_blank : (P S : ℕ) (t : ℕ → Slot) (k : ℕ) → table_sound P S t ≡ true → k < S → P ≤ 256 → ((r : Record) → t k ≡ Some r → r.p ≡ no_number) → t k ≡ None
 no_page_blank P S t k sound h m f = by (t k) refl
   where
-    by : (s : Slot) → t k ≡ s → t k ≡ Blank
-    by Blank e = e
-    by (Holds r) e =
+    by : (s : Slot) → t k ≡ s → t k ≡ None
+    by None e = e
+    by (Some r) e =
         let l = page_below P S t k r sound h e in
         let n = f r e in
         absurd (omega arith)
@@ -118,17 +118,17 @@ module _ (S : ℕ) (t : ℕ → Slot) (n k : ℕ) where
   unfolding better of_page
   own_page p r {b} e h = rw (eq-eqb r.p p e) (subst (λ (x : ℕ). above (highest k t x) r ≡ b) e h)
 
-  pub highest_blank : t k ≡ Blank → tabulate n (highest_slot S k t) ≡ tabulate n (highest_slot S (k + 1) t)
+  pub highest_blank : t k ≡ None → tabulate n (highest_slot S k t) ≡ tabulate n (highest_slot S (k + 1) t)
   highest_blank e =
       tabulate_cong n (highest_slot S k t) (highest_slot S (k + 1) t) (λ p h. sym (highest_slot_blank S t p k e))
 
-  pub highest_kept : (r : Record) → t k ≡ Holds r → above (highest k t r.p) r ≡ false → tabulate n (highest_slot S k t) ≡ tabulate n (highest_slot S (k + 1) t)
+  pub highest_kept : (r : Record) → t k ≡ Some r → above (highest k t r.p) r ≡ false → tabulate n (highest_slot S k t) ≡ tabulate n (highest_slot S (k + 1) t)
   highest_kept r e a =
       tabulate_cong n (highest_slot S k t) (highest_slot S (k + 1) t)
       (λ p h. sym (highest_slot_stays S t p k e (on_eq r.p p (λ q. own_page p r q a) (λ d. other_page p r d))))
 
   -- a record that is above its page's highest takes its place
-  pub highest_raised : (r : Record) → t k ≡ Holds r → r.p < n → above (highest k t r.p) r ≡ true → set (tabulate n (highest_slot S k t)) r.p k ≡ tabulate n (highest_slot S (k + 1) t)
+  pub highest_raised : (r : Record) → t k ≡ Some r → r.p < n → above (highest k t r.p) r ≡ true → set (tabulate n (highest_slot S k t)) r.p k ≡ tabulate n (highest_slot S (k + 1) t)
   highest_raised r e h a =
       set_tabulate n r.p k (highest_slot S k t) (highest_slot S (k + 1) t) h
       (sym (highest_slot_taken S t r.p k e (own_page r.p r refl a)))

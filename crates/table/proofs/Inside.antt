@@ -12,7 +12,7 @@ use Rattle.sizes.specs.declared.Layout.{Layout}
 use Rattle.sizes.specs.declared.Layout.TheVariants.{FiveWords, FourWords}
 use Rattle.sizes.specs.Sizes.{stride_of}
 use Rattle.record.specs.declared.Record.{Record}
-use Rattle.record.specs.declared.Slot.TheVariants.{Holds}
+use Rattle.std.specs.Prelude.{Some}
 use Rattle.record.specs.Slot.{decoded, blank_in, slot_from, slot_in, holds}
 use Rattle.table.specs.Table.{of_version}
 use Rattle.table.proofs.TableLaws.{holds_of, of_version_lem}
@@ -55,5 +55,5 @@ module _ (layout : Layout) (words : List ℕ) (k p v : ℕ) (inside : stride_of 
   other_version d = on_test (holds (of_version p v) (slot_in layout words k)) (λ e. absurd (d (held_words e).1)) (λ e. e)
 
 -- a record's first word is its page
-pub first_word : (layout : Layout) (words : List ℕ) (k : ℕ) (r : Record) → stride_of layout * k + stride_of layout ≤ length words → slot_in layout words k ≡ Holds r → get_or words (stride_of layout * k) 0 ≡ r.p
+pub first_word : (layout : Layout) (words : List ℕ) (k : ℕ) (r : Record) → stride_of layout * k + stride_of layout ≤ length words → slot_in layout words k ≡ Some r → get_or words (stride_of layout * k) 0 ≡ r.p
 first_word layout words k r inside e = (held_words layout words k r.p r.v inside (holds_of (of_version r.p r.v) e ((of_version_lem r.p r.v r).1 (refl, refl)))).0

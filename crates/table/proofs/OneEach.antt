@@ -9,8 +9,8 @@ use Rattle.bounded.specs.PartsLaws.{part_join_parts, length_join_parts}
 use Rattle.sizes.specs.declared.Layout.{Layout}
 use Rattle.sizes.specs.Sizes.{stride_of}
 use Rattle.record.specs.declared.Record.{Record}
-use Rattle.record.specs.declared.Slot.{Slot}
-use Rattle.record.specs.declared.Slot.TheVariants.{Blank, Holds}
+use Rattle.record.specs.Slot.{Slot}
+use Rattle.std.specs.Prelude.{None, Some}
 use Rattle.record.specs.Slot.{encoded, slot_from, slot_in, blank_record, record_sound, slot_sound}
 use Rattle.record.specs.SlotLaws.{encoded_length, Storable, slot_decoded, slot_of_none}
 use Rattle.table.specs.Given.{one_each}
@@ -28,10 +28,10 @@ module _ (layout : Layout) (P S : ℕ) (records : ℕ → Record) where
   unfolding slot_in one_each
   slot_is k h = ap (slot_from layout) (part_join_parts (stride_of layout) S k (λ k. encoded layout (cond (ltb k P) (records k) blank_record)) (λ j. encoded_length layout (cond (ltb j P) (records j) blank_record)) h)
 
-  pub slot_of_page : (k : ℕ) → k < S → k < P → Storable layout (records k) → slot_in layout (one_each layout P S records) k ≡ Holds (records k)
+  pub slot_of_page : (k : ℕ) → k < S → k < P → Storable layout (records k) → slot_in layout (one_each layout P S records) k ≡ Some (records k)
   slot_of_page k h l most = slot_is k h ∙ rw (lt-ltb k P l) (slot_decoded layout (records k) most)
 
-  pub slot_beyond : (k : ℕ) → k < S → P ≤ k → slot_in layout (one_each layout P S records) k ≡ Blank
+  pub slot_beyond : (k : ℕ) → k < S → P ≤ k → slot_in layout (one_each layout P S records) k ≡ None
   slot_beyond k h l = slot_is k h ∙ rw (le-ltb k P l) (slot_of_none layout)
 
 -- ---- the table
@@ -39,8 +39,8 @@ module _ (layout : Layout) (P S : ℕ) (records : ℕ → Record) where
 -- slot k below P holds record k, which is of page k; the others are blank
 pub record OneEach (P S : ℕ) (t : ℕ → Slot) (records : ℕ → Record) : Type 0 where
   pub room : P ≤ S
-  pub each : (k : ℕ) → k < P → t k ≡ Holds (records k)
-  pub others : (k : ℕ) → k < S → P ≤ k → t k ≡ Blank
+  pub each : (k : ℕ) → k < P → t k ≡ Some (records k)
+  pub others : (k : ℕ) → k < S → P ≤ k → t k ≡ None
   pub own_page : (k : ℕ) → k < P → (records k).p ≡ k
 
 pub words_one_each : (layout : Layout) (P S : ℕ) (records : ℕ → Record) → P ≤ S → ((k : ℕ) → k < P → (records k).p ≡ k) → ((k : ℕ) → k < P → Storable layout (records k)) → OneEach P S (slot_in layout (one_each layout P S records)) records
@@ -51,10 +51,10 @@ module _ {P S : ℕ} {t : ℕ → Slot} {records : ℕ → Record} (given : OneE
   open given use {room, each, others, own_page}
 
   -- a record that a slot holds is that of its page, and the page is the slot's number
-  pub held_is : (k : ℕ) (r : Record) → k < S → t k ≡ Holds r → (k < P) × (r ≡ records k)
+  pub held_is : (k : ℕ) (r : Record) → k < S → t k ≡ Some r → (k < P) × (r ≡ records k)
   held_is k r h e = on_lt k P (λ l. (l, let f = each k l in cc)) (λ l. absurd (blank_holds (others k h l) e))
 
-  pub held_page : (k : ℕ) (r : Record) → k < S → t k ≡ Holds r → r.p ≡ k
+  pub held_page : (k : ℕ) (r : Record) → k < S → t k ≡ Some r → r.p ≡ k
   held_page k r h e = let w = held_is k r h e in ap (λ (x : Record). x.p) w.1 ∙ own_page k w.0
 
   pub each_sound : ((k : ℕ) → k < P → record_sound P (records k) ≡ true) → table_sound P S t ≡ true
@@ -80,10 +80,10 @@ module _ {P S : ℕ} {t : ℕ → Slot} {records : ℕ → Record} (given : OneE
   all_have = all_of (has_record S t) P has_own
 
   -- a page's only record is its highest
-  pub highest_own : (p : ℕ) → p < P → highest S t p ≡ Holds (records p)
+  pub highest_own : (p : ℕ) → p < P → highest S t p ≡ Some (records p)
   highest_own p h =
       let w = (highest_exists t p S).0 (has_own p h) in
       let k = highest_held t p S (highest_is t p S) w.1 in
       let i = held_is k.0 w.0 k.1 k.2 in
       let q : k.0 ≡ p = sym (held_page k.0 w.0 k.1 k.2) ∙ highest_page t p S (highest_is t p S) w.1 in
-      w.1 ∙ ap Holds (i.1 ∙ ap records q)
+      w.1 ∙ ap Some (i.1 ∙ ap records q)

@@ -6,22 +6,22 @@ use Rattle.bounded.specs.BelowLaws.{max_above, max_bound}
 use Rattle.bounded.specs.Limits.{highest_version}
 use Rattle.bounded.specs.Tabulate.{tabulate, tabulate_cong, raise_tabulate}
 use Rattle.record.specs.declared.Record.{Record}
-use Rattle.record.specs.declared.Slot.{Slot}
-use Rattle.record.specs.declared.Slot.TheVariants.{Blank, Holds}
+use Rattle.record.specs.Slot.{Slot}
+use Rattle.std.specs.Prelude.{None, Some}
 use Rattle.record.specs.Slot.{record_sound}
 use Rattle.record.specs.SlotLaws.{sound_facts}
 use Rattle.table.specs.Table.{table_sound, mentioned, used_of}
 use Rattle.table.proofs.TableLaws.{sound_at}
 
 -- "all v with that p and all nv with that np" are at most used,
-pub used_above_version : (S : ℕ) (t : ℕ → Slot) (k : ℕ) (r : Record) → k < S → t k ≡ Holds r → r.v ≤ used_of S t r.p
+pub used_above_version : (S : ℕ) (t : ℕ → Slot) (k : ℕ) (r : Record) → k < S → t k ≡ Some r → r.v ≤ used_of S t r.p
 unfolding used_of mentioned
 used_above_version S t k r h e =
     let a = max_above (λ k. mentioned r.p (t k)) S k h in
     let b : mentioned r.p (t k) ≡ max r.v (cond (eqb r.np r.p) r.nv 0) = rw (e, mentioned, eq-eqb r.p r.p refl) in
     omega arith
 
-pub used_above_next : (S : ℕ) (t : ℕ → Slot) (k : ℕ) (r : Record) → k < S → t k ≡ Holds r → r.nv ≤ used_of S t r.np
+pub used_above_next : (S : ℕ) (t : ℕ → Slot) (k : ℕ) (r : Record) → k < S → t k ≡ Some r → r.nv ≤ used_of S t r.np
 unfolding used_of mentioned
 used_above_next S t k r h e =
     let a = max_above (λ k. mentioned r.np (t k)) S k h in
@@ -38,16 +38,16 @@ used_most P S t p sound =
     most true n h = h
     most false n h = omega arith
 
-    mentioned_most : (s : Slot) → ((r : Record) → s ≡ Holds r → record_sound P r ≡ true) → mentioned p s ≤ highest_version
-    mentioned_most Blank ok = omega arith
-    mentioned_most (Holds r) ok =
+    mentioned_most : (s : Slot) → ((r : Record) → s ≡ Some r → record_sound P r ≡ true) → mentioned p s ≤ highest_version
+    mentioned_most None ok = omega arith
+    mentioned_most (Some r) ok =
         let f = sound_facts P r (ok r refl) in
         let a = most (eqb r.p p) r.v f.v_most in
         let b = most (eqb r.np p) r.nv f.nv_most in
         omega arith
 
 -- a slot that mentions no page
-pub used_blank : (n k : ℕ) (t : ℕ → Slot) → t k ≡ Blank → tabulate n (used_of k t) ≡ tabulate n (used_of (k + 1) t)
+pub used_blank : (n k : ℕ) (t : ℕ → Slot) → t k ≡ None → tabulate n (used_of k t) ≡ tabulate n (used_of (k + 1) t)
 unfolding used_of max_below mentioned
 used_blank n k t e =
     tabulate_cong n (used_of k t) (used_of (k + 1) t)
@@ -56,7 +56,7 @@ used_blank n k t e =
 -- a slot's record raises its page to v and its next page to nv
 pub used_raised :
     (n k : ℕ) (t : ℕ → Slot) (r : Record) (a b : List ℕ)
-    → t k ≡ Holds r
+    → t k ≡ Some r
     → r.p < n
     → r.np < n
     → a ≡ set (tabulate n (used_of k t)) r.p (max (get_or (tabulate n (used_of k t)) r.p 0) r.v)

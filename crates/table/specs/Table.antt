@@ -2,8 +2,8 @@
 use Rattle.std.specs.Prelude.{ℕ, zero, suc, max, Bool, true, false, cond, ◌&&◌, ltb, eqb}
 use Rattle.bounded.specs.Below.{all_below, some_below, first_below, max_below}
 use Rattle.record.specs.declared.Record.{Record}
-use Rattle.record.specs.declared.Slot.{Slot}
-use Rattle.record.specs.declared.Slot.TheVariants.{Blank, Holds}
+use Rattle.record.specs.Slot.{Slot}
+use Rattle.std.specs.Prelude.{None, Some}
 use Rattle.record.specs.Slot.{slot_sound, holds, some_record}
 
 -- no "slot neither blank nor sound"
@@ -20,8 +20,8 @@ of_version p v r = eqb r.p p && eqb r.v v
 
 -- "two records with equal page and version"
 unfoldable pub clash : Slot → Slot → Bool
-clash a Blank = false
-clash a (Holds r) = holds (of_version r.p r.v) a
+clash a None = false
+clash a (Some r) = holds (of_version r.p r.v) a
 
 unfoldable pub some_clash : ℕ → (ℕ → Slot) → Bool
 some_clash S t = some_below S (λ k. some_below k (λ j. clash (t j) (t k)))
@@ -40,8 +40,8 @@ has_version S t p v = ltb (lowest_slot S t p v) S
 
 -- a record whose version is above what stands in `best`
 unfoldable pub above : Slot → Record → Bool
-above Blank r = true
-above (Holds best) r = ltb best.v r.v
+above None r = true
+above (Some best) r = ltb best.v r.v
 
 -- a record of page p above `best`
 unfoldable pub better : ℕ → Slot → Record → Bool
@@ -53,13 +53,13 @@ raised p best slot = cond (holds (better p best) slot) slot best
 
 -- the highest record of page p in the slots below n, as a slot; blank where there is none
 unfoldable pub highest : ℕ → (ℕ → Slot) → ℕ → Slot
-highest zero t p = Blank
+highest zero t p = None
 highest (suc n) t p = raised p (highest n t p) (t n)
 
 -- the version in a slot; 0 where it is blank
 unfoldable pub version_in : Slot → ℕ
-version_in Blank = 0
-version_in (Holds r) = r.v
+version_in None = 0
+version_in (Some r) = r.v
 
 -- "hv(p) is the highest version of p in the table."
 unfoldable pub highest_version_of : ℕ → (ℕ → Slot) → ℕ → ℕ
@@ -67,8 +67,8 @@ highest_version_of S t p = version_in (highest S t p)
 
 -- the highest version that a slot mentions for page p: its v where p is its page, its nv where np is; 0 where it does not
 unfoldable pub mentioned : ℕ → Slot → ℕ
-mentioned p Blank = 0
-mentioned p (Holds r) = max (cond (eqb r.p p) r.v 0) (cond (eqb r.np p) r.nv 0)
+mentioned p None = 0
+mentioned p (Some r) = max (cond (eqb r.p p) r.v 0) (cond (eqb r.np p) r.nv 0)
 
 -- "Used = the highest of all v with that p and all nv with that np."
 unfoldable pub used_of : ℕ → (ℕ → Slot) → ℕ → ℕ

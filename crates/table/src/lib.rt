@@ -7,7 +7,7 @@ pub mod used; // used.rt: the used versions of all pages
 ghost use Rattle.std.specs.Prelude.{◌≡◌, ◌+◌, ◌*◌, ◌≤◌, ◌<◌, length, true, false};
 ghost use Rattle.bounded.specs.Limits.{no_number};
 ghost use Rattle.record.specs.declared.Record.{Record};
-ghost use Rattle.record.specs.declared.Slot.TheVariants.{Holds};
+ghost use Rattle.std.specs.Prelude.{Some};
 ghost use Rattle.record.specs.Slot.{slot_in, holds};
 ghost use Rattle.sizes.specs.Sizes.{stride_of};
 ghost use Rattle.bounded.specs.Tabulate.{tabulate};
@@ -22,12 +22,10 @@ pub fn table_sound(layout: Layout, sizes: Sizes, words: &[u32]) -> bool
     requires { stride_of layout * sizes.slots ≤ length words.now }
     ensures { result ≡ table_sound sizes.pages sizes.slots (slot_in layout words.now) }
 {
-    let mut k = 0;
-    while k < sizes.slots {
-        if !record::slot_in(layout, words, k).is_sound(sizes.pages) {
+    for k in 0..sizes.slots {
+        if !record::slot_sound(record::slot_in(layout, words, k), sizes.pages) {
             return false;
         }
-        k += 1;
     }
     true
 }
@@ -36,13 +34,10 @@ pub fn table_sound(layout: Layout, sizes: Sizes, words: &[u32]) -> bool
 pub fn holds_version(slot: Slot, page: u32, version: u32) -> bool
     ensures { result ≡ holds (of_version page version) slot }
 {
-    let Slot::Holds(record) = slot else {
+    let Some(record) = slot else {
         return false;
     };
-    if record.p != page {
-        return false;
-    }
-    record.v == version
+    record.p == page && record.v == version
 }
 
 // The slot's first two words are the page and the version: where they are not, it holds no record of the two.
@@ -51,13 +46,7 @@ fn names_version(layout: Layout, words: &[u32], slot: u32, page: u32, version: u
     ensures { result ≡ false → holds (of_version page version) (slot_in layout words.now slot) ≡ false }
 {
     let at = layout.stride() * (slot as usize);
-    if words[at] != page {
-        return false;
-    }
-    if words[at + 1] != version {
-        return false;
-    }
-    true
+    words[at] == page && words[at + 1] == version
 }
 
 // "the lowest slot holding the page at" a version; the number of slots where there is none.
@@ -65,14 +54,12 @@ pub fn lowest_slot(layout: Layout, slots: u32, words: &[u32], page: u32, version
     requires { stride_of layout * slots ≤ length words.now }
     ensures { result ≡ lowest_slot slots (slot_in layout words.now) page version }
 {
-    let mut k = 0;
-    while k < slots {
-        if names_version(layout, words, k, page, version) {
-            if holds_version(record::slot_in(layout, words, k), page, version) {
-                return k;
-            }
+    for k in 0..slots {
+        if names_version(layout, words, k, page, version)
+            && holds_version(record::slot_in(layout, words, k), page, version)
+        {
+            return k;
         }
-        k += 1;
     }
     slots
 }
@@ -83,7 +70,7 @@ pub fn named_slot(layout: Layout, slots: u32, words: &[u32], slot: u32) -> Slot
     ensures { result ≡ named slots (slot_in layout words.now) slot }
 {
     if slot >= slots {
-        return Slot::Blank;
+        return None;
     }
     record::slot_in(layout, words, slot)
 }
@@ -92,7 +79,7 @@ pub fn named_slot(layout: Layout, slots: u32, words: &[u32], slot: u32) -> Slot
 pub fn is_above(best: Slot, record: Record) -> bool
     ensures { result ≡ above best «record» }
 {
-    let Slot::Holds(held) = best else {
+    let Some(held) = best else {
         return true;
     };
     held.v < record.v
@@ -101,7 +88,7 @@ pub fn is_above(best: Slot, record: Record) -> bool
 // The slot's first word, where a record has its page, is that of a blank slot: then it holds no sound record.
 pub fn names_no_page(layout: Layout, words: &[u32], slot: u32) -> bool
     requires { stride_of layout * slot + stride_of layout ≤ length words.now }
-    ensures { result ≡ true → (r : Record) → slot_in layout words.now slot ≡ Holds r → r.p ≡ no_number }
+    ensures { result ≡ true → (r : Record) → slot_in layout words.now slot ≡ Some r → r.p ≡ no_number }
 {
     let at = layout.stride() * (slot as usize);
     words[at] == sizes::NO_NUMBER
@@ -119,7 +106,7 @@ fn raise_highest(layout: Layout, sizes: Sizes, words: &[u32], k: u32, top: &mut 
     if names_no_page(layout, words, k) {
         return;
     }
-    let Slot::Holds(record) = record::slot_in(layout, words, k) else {
+    let Some(record) = record::slot_in(layout, words, k) else {
         return;
     };
     let p = record.p as usize;
@@ -136,9 +123,7 @@ pub fn highest_slots(layout: Layout, sizes: Sizes, words: &[u32], top: &mut [u32
     ensures { top.new ≡ tabulate 256 (highest_slot sizes.slots sizes.slots (slot_in layout words.now)) }
 {
     *top = [sizes.slots; 256];
-    let mut k = 0;
-    while k < sizes.slots {
+    for k in 0..sizes.slots {
         raise_highest(layout, sizes, words, k, top);
-        k += 1;
     }
 }

@@ -6,7 +6,6 @@ ghost use Rattle.record.specs.Slot.{slot_in};
 ghost use Rattle.sizes.specs.Sizes.{stride_of};
 ghost use Rattle.table.specs.Table.{table_sound, used_of};
 
-use record::Slot;
 use sizes::{Layout, Sizes};
 
 // The page's entry becomes at least the version.
@@ -15,9 +14,7 @@ fn raise_entry(used: &mut [u32; 256], page: u32, version: u32)
     ensures { used.new ≡ set used.old page (max (get_or used.old page 0) version) }
 {
     let p = page as usize;
-    if used[p] < version {
-        used[p] = version;
-    }
+    used[p] = used[p].max(version);
 }
 
 // What slot k mentions: v for its page, nv for its next page.
@@ -32,7 +29,7 @@ fn raise_mentioned(layout: Layout, sizes: Sizes, words: &[u32], k: u32, used: &m
     if super::names_no_page(layout, words, k) {
         return;
     }
-    let Slot::Holds(record) = record::slot_in(layout, words, k) else {
+    let Some(record) = record::slot_in(layout, words, k) else {
         return;
     };
     raise_entry(used, record.p, record.v);
@@ -47,9 +44,7 @@ pub fn used_versions(layout: Layout, sizes: Sizes, words: &[u32], used: &mut [u3
     ensures { used.new ≡ tabulate 256 (used_of sizes.slots (slot_in layout words.now)) }
 {
     *used = [0; 256];
-    let mut k = 0;
-    while k < sizes.slots {
+    for k in 0..sizes.slots {
         raise_mentioned(layout, sizes, words, k, used);
-        k += 1;
     }
 }

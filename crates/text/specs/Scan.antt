@@ -1,12 +1,9 @@
 -- What stands at the front of a text: a given text, or a decimal number. A text is its bytes.
-use Rattle.std.specs.Prelude.{ℕ, zero, suc, ◌+◌, ◌*◌, ◌-◌, List, [], ◌∷◌, Bool, cond, ◌&&◌, leb, eqb, drop}
+use Rattle.std.specs.Prelude.{ℕ, zero, suc, ◌+◌, ◌*◌, ◌-◌, List, [], ◌∷◌, Bool, cond, ◌&&◌, leb, eqb, Option as Given, Some, None}
 use Prim.Native.Char.{code}
 use Prim.Native.String.{String, [] as empty, ◌∷◌ as ◌then◌}
 use Rattle.std.proofs.Math.Option.{Option, none, some}
-use Rattle.text.specs.declared.scan.Place.{Place}
-use Rattle.text.specs.declared.scan.Place.TheVariants.{At, Nowhere}
-use Rattle.text.specs.declared.scan.Number.{Number}
-use Rattle.text.specs.declared.scan.Number.TheVariants.{Is, Not}
+use denote.Ref.{Bor}
 
 -- a text of ASCII characters as its bytes
 unfoldable pub bytes : String → List ℕ
@@ -50,12 +47,7 @@ number_from n value (b ∷ s) = cond (is_digit b) (number_from (suc n) (10 * val
 unfoldable pub number : List ℕ → Option Scanned
 number s = number_from 0 0 s
 
--- what is behind a place in a line
-unfoldable pub rest_at : List ℕ → Place → Option (List ℕ)
-rest_at line (At place) = some (drop place line)
-rest_at line Nowhere = none
-
--- the number that ends at a place in a line, with what is behind it
-unfoldable pub number_at : List ℕ → Number → Option Scanned
-number_at line (Is value end) = some (scanned value (drop end line))
-number_at line Not = none
+-- what the program gives back of a number: its value, and what is behind it
+abbrev pub scanned_of : Given (ℕ × Bor (List ℕ)) → Option Scanned
+scanned_of None = none
+scanned_of (Some n) = some (scanned n.0 n.1.now)

@@ -1,35 +1,16 @@
--- Laws of scanning: a text and a number read byte by byte.
-use Rattle.std.specs.Prelude.{ℕ, suc, ◌+◌, ◌*◌, ◌-◌, ◌≤◌, ◌<◌, ◌≡◌, List, [], ◌∷◌, Bool, cond, length, get_or, drop}
+-- Laws of scanning: a number read byte by byte, and a text that stands in front.
+use Rattle.std.specs.Prelude.{ℕ, suc, refl, take, ◌&&◌, ◌+◌, ◌*◌, ◌-◌, ◌≤◌, ◌<◌, ◌≡◌, List, [], ◌∷◌, Bool, cond, length, get_or, drop}
 use Rattle.std.proofs.Common.{arith, ◌∙◌}
-use Rattle.std.proofs.Math.Numerals.{add-one}
-use Rattle.std.proofs.Math.Path.{sym}
+use Rattle.std.proofs.Math.Path.{sym, ap}
+use Rattle.std.proofs.lemmas.Bool.{false≢true}
+use Rattle.std.specs.Cmp.Lexicographic.{pointwise}
 use Rattle.std.proofs.Math.Option.{Option, none, some}
 use Rattle.std.proofs.Math.Bool.{true, false}
-use Rattle.std.proofs.Math.Dec.{leb}
-use Rattle.std.proofs.Math.ListN.{drop_of_length-le}
-use Rattle.std.proofs.Math.Seq.{drop-cons}
-use Rattle.bounded.specs.Choice.{on_lt, on_test, both_right}
-use borrow.Author.Tests.{ne_eqb, eq-eqb, le-leb, lt-leb, leb-true}
-use Rattle.text.specs.Scan.{behind, max_number, is_digit, end_number, number_from}
-
--- Behind a text: nowhere where the line ends first or a byte differs, further on where one agrees.
-module _ (text line : List ℕ) (i place : ℕ) where
-  pub behind_all : length text ≤ i → behind (drop i text) (drop place line) ≡ some (drop place line)
-  unfolding behind
-  behind_all h = rw (drop_of_length-le text h)
-
-  pub behind_short : i < length text → length line ≤ place → behind (drop i text) (drop place line) ≡ none
-  unfolding behind
-  behind_short h l = rw (drop-cons text i 0 h, drop_of_length-le line l)
-
-  module _ (h : i < length text) (l : place < length line) where
-    pub behind_other : ¬ (get_or line place 0 ≡ get_or text i 0) → behind (drop i text) (drop place line) ≡ none
-    unfolding behind
-    behind_other d = rw (drop-cons text i 0 h, drop-cons line place 0 l, ne_eqb _ _ d)
-
-    pub behind_next : get_or line place 0 ≡ get_or text i 0 → behind (drop i text) (drop place line) ≡ behind (drop (i + 1) text) (drop (place + 1) line)
-    unfolding behind
-    behind_next e = rw (add-one i, add-one place, drop-cons text i 0 h, drop-cons line place 0 l, eq-eqb _ _ e)
+use Rattle.std.proofs.Math.Dec.{leb, eqb}
+use Rattle.std.proofs.Math.ListN.{length-drop}
+use Rattle.bounded.specs.Choice.{on_test, both_left, both_right}
+use borrow.Author.Tests.{le-leb, lt-leb, leb-true}
+use Rattle.text.specs.Scan.{behind, max_number, is_digit, end_number, number_from, number, scanned}
 
 -- none either way
 both_none : {A : Type 0} {x y : Option A} (b : Bool) → x ≡ none → y ≡ none → cond b x y ≡ none
@@ -43,52 +24,65 @@ number_over n value [] h = rw (lt-leb _ _ h)
 number_over n value (b ∷ s) h =
     both_none (is_digit b) (number_over (suc n) (10 * value + (b - 48)) s (omega arith)) (let e : leb value max_number ≡ false = lt-leb _ _ h in rw e)
 
--- The value with one digit more; above the highest it stays as it is.
-unfoldable pub grown_by : (value digit : ℕ) → ℕ
-grown_by value digit = cond (leb value max_number) (10 * value + digit) value
+-- a digit stands at the front
+abbrev pub DigitFirst : List ℕ → Type 0
+DigitFirst s = (0 < length s) × (48 ≤ get_or s 0 0) × (get_or s 0 0 ≤ 57)
 
--- A number goes on at a digit, and ends at another byte or with the line.
-module _ (line : List ℕ) (n value i : ℕ) where
-  pub number_ends : length line ≤ i → number_from n value (drop i line) ≡ end_number n value (drop i line)
-  unfolding number_from
-  number_ends h = rw (drop_of_length-le line h)
+module _ (n value : ℕ) where
+  -- A number goes on at a digit,
+  pub number_on : (s : List ℕ) → DigitFirst s → number_from n value s ≡ number_from (suc n) (10 * value + (get_or s 0 0 - 48)) (drop 1 s)
+  unfolding number_from is_digit
+  number_on [] h = absurd (omega arith)
+  number_on (b ∷ s) h = rw (le-leb _ _ h.1, le-leb _ _ h.2)
 
-  module _ (h : i < length line) where
-    pub number_stops : is_digit (get_or line i 0) ≡ false → number_from n value (drop i line) ≡ end_number n value (drop i line)
-    unfolding number_from
-    number_stops e = rw (drop-cons line i 0 h, e)
+  -- and ends elsewhere.
+  pub number_off : (s : List ℕ) → ¬ DigitFirst s → number_from n value s ≡ end_number n value s
+  unfolding number_from is_digit
+  number_off [] h = refl
+  number_off (b ∷ s) h =
+      on_test (leb 48 b && leb b 57) (λ t. absurd (h (omega arith, leb-true _ _ (both_left (leb 48 b) (leb b 57) t), leb-true _ _ (both_right (leb 48 b) (leb b 57) t)))) (λ f. rw f)
 
-    pub number_goes_on : is_digit (get_or line i 0) ≡ true → number_from n value (drop i line) ≡ number_from (suc n) (grown_by value (get_or line i 0 - 48)) (drop (suc i) line)
-    unfolding number_from grown_by
-    number_goes_on e =
-        rw (drop-cons line i 0 h, e)
-        (on_lt max_number value
-        (λ (q : max_number < value).
-        let o : leb value max_number ≡ false = lt-leb _ _ q in
-        rw o
-        (number_over n (10 * value + (get_or line i 0 - 48)) (drop (suc i) line) (omega arith) ∙ sym (number_over n value (drop (suc i) line) q)))
-        (λ (q : value ≤ max_number). let o : leb value max_number ≡ true = le-leb _ _ q in rw o))
+  -- Without a digit it is none,
+  pub number_none : (s : List ℕ) → n ≤ 0 → ¬ DigitFirst s → number_from n value s ≡ none
+  unfolding end_number
+  number_none s z h = let e : n ≡ 0 = omega arith in number_off s h ∙ rw e
 
-pub digit_highest : (byte : ℕ) → is_digit byte ≡ true → byte ≤ 57
-unfolding is_digit
-digit_highest byte t = leb-true byte 57 (both_right (leb 48 byte) (leb byte 57) t)
+  -- and behind one it is there up to the highest.
+  pub number_ended : (s : List ℕ) → 0 < n → value ≤ 4294967295 → ¬ DigitFirst s → number_from n value s ≡ some (scanned value s)
+  unfolding end_number max_number
+  number_ended s p q h = let e : n ≡ suc (n - 1) = omega arith in number_off s h ∙ rw (e, le-leb _ _ q)
 
--- A digit's value by its byte, where 10 says that the byte is none.
-module _ (byte digit : ℕ) (e : digit ≡ cond (is_digit byte) (byte - 48) 10) where
-  pub no_digit_lem : 9 < digit → is_digit byte ≡ false
-  no_digit_lem h =
-      on_test (is_digit byte) (λ t. let k : digit ≡ byte - 48 = rw t at e in absurd (omega (arith, digit_highest byte t))) (λ f. f)
+-- The number at the front of a text goes on behind each digit passed, as long as it is not above the highest.
+module _ (text rest : List ℕ) (value : ℕ) (shorter : length rest ≤ length text) (goes : number text ≡ number_from (length text - length rest) value rest) (digit : DigitFirst rest) where
+  pub too_high : 4294967295 < 10 * value + (get_or rest 0 0 - 48) → number text ≡ none
+  unfolding max_number
+  too_high h = goes ∙ number_on (length text - length rest) value rest digit ∙ number_over (length text - length rest) _ (drop 1 rest) h
 
-  pub is_digit_lem : digit ≤ 9 → is_digit byte ≡ true
-  is_digit_lem h = on_test (is_digit byte) (λ t. t) (λ f. let k : digit ≡ 10 = rw f at e in absurd (omega arith))
+  pub one_more : (more : List ℕ) (next : ℕ) → more ≡ drop 1 rest → next ≡ 10 * value + (get_or rest 0 0 - 48) → (length more ≤ length text) × (number text ≡ number_from (length text - length more) next more)
+  one_more more next e q =
+      let n = length-drop 1 rest in
+      let k : length text - length (drop 1 rest) ≡ suc (length text - length rest) = omega arith in
+      rw (e, q, k) (omega arith, goes ∙ number_on (length text - length rest) value rest digit)
 
-  pub digit_value : digit ≤ 9 → digit ≡ byte - 48
-  digit_value h = rw (is_digit_lem h) at e
+-- A text that stands in front or not, by its bytes compared.
+in_front : (text s : List ℕ) → pointwise eqb (take (length text) s) text ≡ true → behind text s ≡ some (drop (length text) s)
+unfolding behind
+in_front [] s h = refl
+in_front (t ∷ text) [] h = absurd (false≢true h)
+in_front (t ∷ text) (b ∷ s) h =
+    on_test (eqb b t) (λ e. rw e (in_front text s (rw e at h))) (λ e. absurd (false≢true (rw e at h)))
 
--- a number goes on at byte i, i - at bytes behind its first
-pub number_next :
-    (line : List ℕ) (at value i digit more : ℕ) → at ≤ i → i < length line → digit ≡ cond (is_digit (get_or line i 0)) (get_or line i 0 - 48) 10 → digit ≤ 9
-    → more ≡ grown_by value digit → number_from (i - at) value (drop i line) ≡ number_from (i + 1 - at) more (drop (i + 1) line)
-number_next line at value i digit more a h e d g =
-    let n : i + 1 - at ≡ suc (i - at) = omega arith in
-    rw (n, add-one i, g, digit_value (get_or line i 0) digit e d) (number_goes_on line (i - at) value i h (is_digit_lem (get_or line i 0) digit e d))
+not_in_front : (text s : List ℕ) → pointwise eqb (take (length text) s) text ≡ false → behind text s ≡ none
+unfolding behind
+not_in_front [] s h = absurd (false≢true (sym h))
+not_in_front (t ∷ text) [] h = refl
+not_in_front (t ∷ text) (b ∷ s) h =
+    on_test (eqb b t) (λ e. rw e (not_in_front text s (rw e at h))) (λ e. rw e)
+
+-- What `strip_prefix` gives back is what is behind the text.
+module _ (text s : List ℕ) where
+  pub not_stripped : pointwise eqb (take (length text) s) text ≡ false → behind text s ≡ none
+  not_stripped h = not_in_front text s h
+
+  pub stripped : {rest : List ℕ} → (pointwise eqb (take (length text) s) text ≡ true) × (rest ≡ drop (length text) s) × (length rest + length text ≡ length s) → behind text s ≡ some rest
+  stripped h = in_front text s h.0 ∙ ap some (sym h.1)

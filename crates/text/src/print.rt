@@ -1,59 +1,83 @@
-// Text put into a lent buffer: each function answers the place after what it put. What does not fit is left out.
+// Text put into a lent buffer. What does not fit is left out.
 ghost use Rattle.std.specs.Prelude.{◌≡◌, ◌∷◌, [], ◌++◌, length, drop};
 ghost use Rattle.text.specs.Print.{shown, added, decimal_in, decimal};
+ghost use Rattle.text.specs.Puts.{Puts};
 
+// A byte put at a place of a buffer: the place after it.
 pub fn put(out: &mut [u8], at: usize, byte: u8) -> usize
     ensures { shown out.new result ≡ added out.old at (byte ∷ []) }
 {
     if at < out.len() {
         out[at] = byte;
-        return at + 1;
+        at + 1
+    } else {
+        at
     }
-    at
-}
-
-pub fn put_text(out: &mut [u8], at: usize, text: &[u8]) -> usize
-    ensures { shown out.new result ≡ added out.old at text.now }
-{
-    let mut place = at;
-    let mut i = 0;
-    while i < text.len() {
-        place = put(out, place, text[i]);
-        i += 1;
-    }
-    place
 }
 
 // The digits of n at the end of `digits`: the place of the first.
+// Kept: of `write!` a clause knows the bytes only where its result is Ok, and of no writer's result that it is.
 fn digits_of(digits: &mut [u8], n: u32) -> usize
     ensures { drop result digits.new ≡ decimal_in (length digits.old) n }
 {
     let mut rest = n;
-    let mut i = digits.len();
-    while i > 0 {
-        i -= 1;
+    for i in (0..digits.len()).rev() {
         digits[i] = 48 + ((rest % 10) as u8);
         if rest < 10 {
             return i;
         }
         rest /= 10;
     }
-    i
+    0
 }
 
-// A number in decimal.
-pub fn put_number(out: &mut [u8], at: usize, n: u32) -> usize
-    ensures { shown out.new result ≡ added out.old at (decimal n) }
-{
-    let mut digits = [0u8; 10];
-    let first = digits_of(&mut digits, n);
-    put_text(out, at, &digits[first..10])
+// What is printed: the buffer that is lent for it, and the place behind what is put into it.
+#[derive(Drop)]
+pub struct Printout<'a> {
+    pub out: &'a mut [u8],
+    pub at: usize,
 }
 
-// A name and a number.
-pub fn put_field(out: &mut [u8], at: usize, name: &[u8], n: u32) -> usize
-    ensures { shown out.new result ≡ added out.old at (name.now ++ decimal n) }
-{
-    let next = put_text(out, at, name);
-    put_number(out, next, n)
+impl<'a> Printout<'a> {
+    // A printout that goes on at a place of a buffer.
+    pub fn new(out: &'a mut [u8], at: usize) -> Printout<'a>
+        ensures same_buffer { result.out.ghost_name ≡ out.entry.ghost_name }
+        ensures holds { result.out.now ≡ out.old }
+        ensures place { result.at ≡ at }
+    {
+        Printout { out, at }
+    }
+
+    // A byte.
+    pub fn put(&mut self, byte: u8)
+        ensures { Puts self.old self.new (byte ∷ []) }
+    {
+        self.at = put(self.out, self.at, byte);
+    }
+
+    // A text.
+    pub fn put_text(&mut self, text: &[u8])
+        ensures { Puts self.old self.new text.now }
+    {
+        for &byte in text {
+            self.put(byte);
+        }
+    }
+
+    // A number in decimal.
+    pub fn put_number(&mut self, n: u32)
+        ensures { Puts self.old self.new (decimal n) }
+    {
+        let mut digits = [0u8; 10];
+        let first = digits_of(&mut digits, n);
+        self.put_text(&digits[first..]);
+    }
+
+    // A name and a number.
+    pub fn put_field(&mut self, name: &[u8], n: u32)
+        ensures { Puts self.old self.new (name.now ++ decimal n) }
+    {
+        self.put_text(name);
+        self.put_number(n);
+    }
 }

@@ -3,7 +3,7 @@
 
 ghost use Rattle.std.specs.Prelude.{◌≡◌, true, ◌<◌};
 ghost use Rattle.bounded.specs.Limits.{two_widths};
-ghost use Rattle.outcome.specs.Outcome.{returned};
+ghost use Rattle.outcome.specs.Result.{answer_of, outcome_by};
 ghost use Rattle.state.specs.State.{state_at};
 ghost use Rattle.state.specs.Walk.{pages_in, Walkable};
 ghost use Rattle.rules.specs.Volume.{volume};
@@ -12,24 +12,26 @@ ghost use Rattle.rules.specs.laws.Chains.{SpansIn, page_answer, write_own};
 ghost use Rattle.record.specs.Slot.{slot_in};
 ghost use Rattle.table.specs.Table.{table_sound};
 
+use outcome::Refusal;
 use record::Record;
 use sizes::{Layout, Sizes};
 use state::PageState;
 
 // Conditions 9, 10 and 11, by the page's state and whether the slot is blank.
-fn page_answer(page: PageState, blank: bool) -> u32
-    ensures { result ≡ page_answer page blank }
+#[tactic(auto, unfolding(rules::specs::laws::Chains::page_answer))]
+fn may_go(page: PageState, blank: bool) -> Result<(), Refusal>
+    ensures { answer_of result ≡ page_answer page blank }
 {
     if !page.in_flight() {
-        return 9;
+        return Err(Refusal::PageNotInFlight);
     }
     if page.is_written() {
-        return 10;
+        return Err(Refusal::PageWritten);
     }
     if !blank {
-        return 11;
+        return Err(Refusal::SlotNotBlank);
     }
-    0
+    Ok(())
 }
 
 // "a record would be buried": never one with a back pointer.
@@ -46,39 +48,33 @@ fn would_bury(layout: Layout, sizes: Sizes, words: &[u32], state: &[u32], page: 
 }
 
 // A write's own conditions, behind those that it shares: 6, 9, 10, 11 and 16.
-fn own_answer(
+fn may_store(
     layout: Layout,
     sizes: Sizes,
     words: &[u32],
     state: &[u32],
     page: u32,
     slot: u32,
-) -> u32
+) -> Result<(), Refusal>
     requires spans_in { SpansIn layout sizes.pages sizes.slots words.now state.now }
     requires words_value { table_sound sizes.pages sizes.slots (slot_in layout words.now) ≡ true }
-    ensures { result ≡ write_own layout sizes.pages sizes.slots words.now state.now page slot }
+    ensures { answer_of result ≡ write_own layout sizes.pages sizes.slots words.now state.now page slot }
 {
-    if page >= sizes.pages {
-        return 6;
+    if page >= sizes.pages || slot >= sizes.slots {
+        return Err(Refusal::WrongList);
     }
-    if slot >= sizes.slots {
-        return 6;
-    }
-    let first = page_answer(
+    may_go(
         state::page_at(state, page),
-        record::slot_in(layout, words, slot).is_blank(),
-    );
-    if first != 0 {
-        return first;
-    }
+        record::slot_in(layout, words, slot).is_none(),
+    )?;
     if would_bury(layout, sizes, words, state, page) {
-        return 16;
+        return Err(Refusal::WouldBury);
     }
-    0
+    Ok(())
 }
 
-// The number back of a write: the first refusal that holds, or 0.
-fn write_answer(
+// A write is refused by the first condition that holds.
+fn may_write(
     layout: Layout,
     sizes: Sizes,
     words: &[u32],
@@ -87,15 +83,12 @@ fn write_answer(
     page: u32,
     slot: u32,
     bytes: &[u8],
-) -> u32
-    ensures { result ≡ write_answer_in layout two_widths sizes (volume words.now contents.now state.now) page slot bytes.now }
+) -> Result<(), Refusal>
+    ensures { answer_of result ≡ write_answer_in layout two_widths sizes (volume words.now contents.now state.now) page slot bytes.now }
 {
     let fits = volume::slice_fits(layout, sizes, words, contents, state, bytes.len());
-    let first = volume::judged(layout, fits, sizes, words, state);
-    if first != 0 {
-        return first;
-    }
-    own_answer(layout, sizes, words, state, page, slot)
+    volume::judged(layout, fits, sizes, words, state)?;
+    may_store(layout, sizes, words, state, page, slot)
 }
 
 // "the planned record has v = used of p, c = committed of p, np = next, nv = used of np"; without a back pointer c is 0
@@ -122,14 +115,11 @@ pub fn write(
     page: u32,
     slot: u32,
     bytes: &[u8],
-) -> u64
-    ensures { returned result (volume words.new contents.new state.new)
+) -> Result<u32, Refusal>
+    ensures { outcome_by 0 result (volume words.new contents.new state.new)
         ≡ write_outcome_in layout two_widths sizes (volume words.old contents.old state.old) page slot bytes.now }
 {
-    let answer = write_answer(layout, sizes, words, contents, state, page, slot, bytes);
-    if answer != 0 {
-        return outcome::reply(answer, 0);
-    }
+    may_write(layout, sizes, words, contents, state, page, slot, bytes)?;
     record::flash::put_slot(
         layout,
         words,
@@ -138,8 +128,6 @@ pub fn write(
         plan_of(layout, state, page),
         bytes,
     );
-    if state::cycle::write_page(state, page) {
-        return outcome::reply(0, 1);
-    }
-    outcome::reply(0, 0)
+    let done = state::cycle::write_page(state, page);
+    Ok(u32::from(done))
 }

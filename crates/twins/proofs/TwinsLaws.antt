@@ -7,9 +7,9 @@ use Rattle.bounded.specs.Below.{some_below}
 use Rattle.bounded.specs.Choice.{on_lt, on_eq, on_test, never, both, both_left, both_right, not_no, same_test}
 use Rattle.bounded.specs.BelowLaws.{all_at, all_of, some_of, some_none, some_not_at}
 use Rattle.record.specs.declared.Record.{Record}
-use Rattle.record.specs.declared.Slot.{Slot}
-use Rattle.record.specs.declared.Slot.TheVariants.{Blank, Holds}
-use Rattle.record.specs.Slot.{holds, slot_at, bytes_at}
+use Rattle.record.specs.Slot.{Slot}
+use Rattle.std.specs.Prelude.{None, Some}
+use Rattle.record.specs.Slot.{slot_at, bytes_at}
 use Rattle.record.specs.SlotLaws.{holds_exactly, holds_one}
 use Rattle.record.specs.Flash.{Flash}
 use Rattle.table.specs.Given.{given}
@@ -41,15 +41,15 @@ same_words_lem a b = (
 )
 
 -- both slots hold it
-pub same_record_lem : (a b : Slot) → (same_record a b ≡ true) ↔ ((r : Record) × (a ≡ Holds r) × (b ≡ Holds r))
+pub same_record_lem : (a b : Slot) → (same_record a b ≡ true) ↔ ((r : Record) × (a ≡ Some r) × (b ≡ Some r))
 unfolding same_record
-same_record_lem a Blank = (λ e. absurd (false≢true e), λ w. absurd (blank_holds refl w.2))
-same_record_lem a (Holds r) = (
-  λ e. let h = (holds_exactly (same_words r) a).0 e in (r, h.1 ∙ ap Holds (sym ((same_words_lem r h.0).0 h.2)), refl),
+same_record_lem a None = (λ e. absurd (false≢true e), λ w. absurd (blank_holds refl w.2))
+same_record_lem a (Some r) = (
+  λ e. let h = (holds_exactly (same_words r) a).0 e in (r, h.1 ∙ ap Some (sym ((same_words_lem r h.0).0 h.2)), refl),
   λ w. holds_of (same_words r) w.1 ((same_words_lem r w.0).1 (one w.2)),
 )
   where
-    one : {a b : Record} → Holds a ≡ Holds b → a ≡ b
+    one : {a b : Record} → Some a ≡ Some b → a ≡ b
     one e = cc
 
 -- "… and bytes": w of them are equal,
@@ -95,11 +95,11 @@ module _ (w : ℕ) (f : Flash) where
   )
 
   -- twins hold one record, whatever their bytes' number
-  pub twins_hold : (j k : ℕ) → twins w f j k ≡ true → (r : Record) × (slot_at f.words j ≡ Holds r) × (slot_at f.words k ≡ Holds r)
+  pub twins_hold : (j k : ℕ) → twins w f j k ≡ true → (r : Record) × (slot_at f.words j ≡ Some r) × (slot_at f.words k ≡ Some r)
   twins_hold j k e = (same_record_lem (slot_at f.words j) (slot_at f.words k)).0 ((twins_are j k).0 e).0
 
   -- a slot that holds a record is its own twin
-  pub twins_self : (k : ℕ) {r : Record} → slot_at f.words k ≡ Holds r → twins w f k k ≡ true
+  pub twins_self : (k : ℕ) {r : Record} → slot_at f.words k ≡ Some r → twins w f k k ≡ true
   twins_self k {r} e =
       (twins_are k k).1
       ((same_record_lem (slot_at f.words k) (slot_at f.words k)).1 (r, e, e), (bytes_agree w (bytes_at w f.contents k) (bytes_at w f.contents k)).1 (λ i h. refl))

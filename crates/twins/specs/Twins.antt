@@ -2,8 +2,8 @@
 use Rattle.std.specs.Prelude.{ℕ, List, Bool, false, not, ◌&&◌, eqb, get_or}
 use Rattle.bounded.specs.Below.{all_below, some_below}
 use Rattle.record.specs.declared.Record.{Record}
-use Rattle.record.specs.declared.Slot.{Slot}
-use Rattle.record.specs.declared.Slot.TheVariants.{Blank, Holds}
+use Rattle.record.specs.Slot.{Slot}
+use Rattle.std.specs.Prelude.{None, Some}
 use Rattle.record.specs.Slot.{holds, slot_at, bytes_at}
 use Rattle.record.specs.Flash.{Flash}
 use Rattle.table.specs.Table.{clash}
@@ -14,8 +14,8 @@ same_words a b = eqb a.p b.p && (eqb a.v b.v && (eqb a.c b.c && (eqb a.np b.np &
 
 -- both slots hold records, equal in all words: a blank slot is no twin
 unfoldable pub same_record : Slot → Slot → Bool
-same_record a Blank = false
-same_record a (Holds r) = holds (same_words r) a
+same_record a None = false
+same_record a (Some r) = holds (same_words r) a
 
 -- "… and bytes", w of them
 unfoldable pub has_same_bytes : ℕ → (a b : List ℕ) → Bool

@@ -4,40 +4,21 @@
 ghost use Rattle.std.specs.Prelude.{◌≡◌, ◌+◌, ◌*◌, ◌≤◌, length};
 ghost use Rattle.record.specs.Slot.{bytes_at};
 ghost use Rattle.record.specs.Flash.{flash};
-ghost use Rattle.twins.specs.Twins.{same_words, same_record, has_same_bytes, twins};
+ghost use Rattle.twins.specs.Twins.{same_record, has_same_bytes, twins};
 
-use record::{Record, Slot};
-
-// The records are equal in all words.
-fn same_words(a: Record, b: Record) -> bool
-    ensures { result ≡ same_words a b }
-{
-    if a.p != b.p {
-        return false;
-    }
-    if a.v != b.v {
-        return false;
-    }
-    if a.c != b.c {
-        return false;
-    }
-    if a.np != b.np {
-        return false;
-    }
-    a.nv == b.nv
-}
+use record::Slot;
 
 // Both slots hold records, equal in all words.
 fn same_record(a: Slot, b: Slot) -> bool
     ensures { result ≡ same_record a b }
 {
-    let Slot::Holds(other) = b else {
+    let Some(other) = b else {
         return false;
     };
-    let Slot::Holds(record) = a else {
+    let Some(record) = a else {
         return false;
     };
-    same_words(other, record)
+    other == record
 }
 
 // The bytes of two slots, `width` each, are equal.
@@ -49,12 +30,11 @@ fn same_bytes(width: u32, contents: &[u8], j: u32, k: u32) -> bool
     let w = width as usize;
     let a = w * (j as usize);
     let b = w * (k as usize);
-    let mut i = 0;
-    while i < w {
+    // Kept: a loop, for `==` of two slices calls memcmp, and the archive needs memcpy and memset alone.
+    for i in 0..w {
         if contents[a + i] != contents[b + i] {
             return false;
         }
-        i += 1;
     }
     true
 }
@@ -67,8 +47,6 @@ pub fn are_twins(width: u32, words: &[u32], contents: &[u8], j: u32, k: u32) -> 
     requires width_in_bounds_2 { width * k + width ≤ length contents.now }
     ensures { result ≡ twins width (flash words.now contents.now) j k }
 {
-    if !same_record(record::slot_at(words, j), record::slot_at(words, k)) {
-        return false;
-    }
-    same_bytes(width, contents, j, k)
+    same_record(record::slot_at(words, j), record::slot_at(words, k))
+        && same_bytes(width, contents, j, k)
 }

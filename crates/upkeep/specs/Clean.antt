@@ -7,8 +7,8 @@ use Rattle.sizes.specs.declared.Block.{Block}
 use Rattle.sizes.specs.declared.Sizes.{Sizes}
 use Rattle.sizes.specs.Blocks.{starts_ok, NamedBlock, block_ok, block_at, in_block}
 use Rattle.record.specs.declared.Record.{Record}
-use Rattle.record.specs.declared.Slot.{Slot}
-use Rattle.record.specs.declared.Slot.TheVariants.{Blank, Holds}
+use Rattle.record.specs.Slot.{Slot}
+use Rattle.std.specs.Prelude.{None, Some}
 use Rattle.record.specs.Slot.{slot_at, bytes_at, is_blank, blank_record}
 use Rattle.record.specs.Flash.{Flash, Step, apply_all}
 use Rattle.state.specs.State.{state_sound}
@@ -40,8 +40,8 @@ blank_outside S t inside = list_below S (λ k. is_blank (t k) && not (inside k))
 
 -- the record in a slot
 unfoldable pub record_in : Slot → Record
-record_in Blank = blank_record
-record_in (Holds r) = r
+record_in None = blank_record
+record_in (Some r) = r
 
 -- slot k's record "with contents" to slot j
 unfoldable pub copy_step : ℕ → Flash → (k j : ℕ) → Step

@@ -6,7 +6,7 @@ use Rattle.sizes.specs.declared.Block.{Block}
 use Rattle.sizes.specs.declared.Sizes.{Sizes}
 use Rattle.sizes.specs.Blocks.{starts_ok, NamedBlock, block_ok, block_at, in_block}
 use Rattle.record.specs.declared.Record.{Record}
-use Rattle.record.specs.declared.Slot.TheVariants.{Blank, Holds}
+use Rattle.std.specs.Prelude.{None, Some}
 use Rattle.record.specs.Slot.{slot_at, bytes_at, is_blank}
 use Rattle.record.specs.Flash.{Flash, Step}
 use Rattle.state.specs.State.{state_sound}
@@ -17,28 +17,28 @@ use Rattle.upkeep.specs.Clean.{record_in, clean_from, clean_to, clean_copies, cl
 
 -- slot k of the flash f holds the record, with the contents that slot j of the flash g has
 abbrev pub HoldsAt : Sizes → Flash → ℕ → Record → Flash → ℕ → Type 0
-HoldsAt sizes f k r g j = (slot_at f.words k ≡ Holds r) × (bytes_at sizes.width f.contents k ≡ bytes_at sizes.width g.contents j)
+HoldsAt sizes f k r g j = (slot_at f.words k ≡ Some r) × (bytes_at sizes.width f.contents k ≡ bytes_at sizes.width g.contents j)
 
 -- the flash `after` a cleaning of the block, of a volume
 pub record Leaves (sizes : Sizes) (v : Volume) (block : Block) (after : Flash) : Type 0 where
   -- "the block's slots are blanked"
-  pub block_blank : (k : ℕ) → k < sizes.slots → in_block block k ≡ true → (slot_at after.words k ≡ Blank) × (bytes_at sizes.width after.contents k ≡ replicate sizes.width 255)
+  pub block_blank : (k : ℕ) → k < sizes.slots → in_block block k ≡ true → (slot_at after.words k ≡ None) × (bytes_at sizes.width after.contents k ≡ replicate sizes.width 255)
   -- every other slot that held a record is as it was
-  pub others_stay : (k : ℕ) (r : Record) → k < sizes.slots → in_block block k ≡ false → slots_of v k ≡ Holds r → HoldsAt sizes after k r v.flash k
+  pub others_stay : (k : ℕ) (r : Record) → k < sizes.slots → in_block block k ≡ false → slots_of v k ≡ Some r → HoldsAt sizes after k r v.flash k
   -- every other slot that is blank then is as it was
   pub blank_stays :
       (k : ℕ)
       → k < sizes.slots
       → in_block block k ≡ false
-      → slot_at after.words k ≡ Blank
-      → (slots_of v k ≡ Blank) × (bytes_at sizes.width after.contents k ≡ bytes_at sizes.width v.flash.contents k)
+      → slot_at after.words k ≡ None
+      → (slots_of v k ≡ None) × (bytes_at sizes.width after.contents k ≡ bytes_at sizes.width v.flash.contents k)
   -- a record that is there then was there, with its contents
-  pub none_new : (k : ℕ) (r : Record) → k < sizes.slots → slot_at after.words k ≡ Holds r → (j : ℕ) × (j < sizes.slots) × HoldsAt sizes v.flash j r after k
+  pub none_new : (k : ℕ) (r : Record) → k < sizes.slots → slot_at after.words k ≡ Some r → (j : ℕ) × (j < sizes.slots) × HoldsAt sizes v.flash j r after k
   -- a record that was there is there then, with its contents, outside the block, or the old rule allows to erase it
   pub stays_or_erasable :
       (k : ℕ) (r : Record)
       → k < sizes.slots
-      → slots_of v k ≡ Holds r
+      → slots_of v k ≡ Some r
       → ((j : ℕ) × (j < sizes.slots) × (in_block block j ≡ false) × HoldsAt sizes after j r v.flash k) ⊎ (may_erase (scene_of sizes v) k ≡ true)
 
 -- after every accepted cleaning, of any volume, by any table of blocks and with any widths allowed

@@ -5,7 +5,7 @@ use Rattle.bounded.specs.Parts.{join_parts}
 use Rattle.outcome.specs.Outcome.{Outcome}
 use Rattle.sizes.specs.declared.Sizes.{Sizes}
 use Rattle.sizes.specs.Sizes.{listed}
-use Rattle.record.specs.declared.Slot.TheVariants.{Blank}
+use Rattle.std.specs.Prelude.{None}
 use Rattle.record.specs.Slot.{slot_at, bytes_at}
 use Rattle.record.specs.Flash.{Flash}
 use Rattle.state.specs.State.{state_at}
@@ -28,7 +28,7 @@ pub record EachFilling (slots : List ℕ) : Type 0 where
 
 -- In a filling the chosen slots are blank, and every other slot is as it was.
 pub record Fills (sizes : Sizes) (f : Flash) (slots : List ℕ) (q : ℕ → Bool) (k : ℕ) : Type 0 where
-  pub absent : listed slots k ≡ true → q k ≡ true → slot_at (filled_with sizes.width f (passing q slots)).words k ≡ Blank
+  pub absent : listed slots k ≡ true → q k ≡ true → slot_at (filled_with sizes.width f (passing q slots)).words k ≡ None
   pub present :
       (listed slots k ≡ false) ⊎ (q k ≡ false)
       → (slot_at (filled_with sizes.width f (passing q slots)).words k ≡ slot_at f.words k)

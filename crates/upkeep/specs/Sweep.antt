@@ -5,7 +5,7 @@ use Rattle.bounded.specs.Limits.{Widths}
 use Rattle.bounded.specs.Below.{some_below, list_below}
 use Rattle.outcome.specs.Outcome.{◌⇒◌otherwise◌, Outcome, settled}
 use Rattle.sizes.specs.declared.Sizes.{Sizes}
-use Rattle.record.specs.declared.Slot.{Slot}
+use Rattle.record.specs.Slot.{Slot}
 use Rattle.record.specs.Slot.{holds}
 use Rattle.record.specs.Flash.{Flash, Step, apply_all}
 use Rattle.state.specs.declared.PageState.{PageState}

@@ -3,7 +3,7 @@ use Rattle.std.specs.Prelude.{ℕ, ◌≡◌, ◌⊎◌, List, [], Bool, not, �
 use Rattle.bounded.specs.Limits.{Widths}
 use Rattle.bounded.specs.Below.{list_below}
 use Rattle.sizes.specs.declared.Sizes.{Sizes}
-use Rattle.record.specs.declared.Slot.{Slot}
+use Rattle.record.specs.Slot.{Slot}
 use Rattle.record.specs.Slot.{slot_at, is_blank}
 use Rattle.record.specs.Flash.{Flash}
 use Rattle.rules.specs.Volume.{Volume, slots_of, pages_of}

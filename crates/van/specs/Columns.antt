@@ -1,19 +1,10 @@
 -- Laws of the columns of a line, as they are put.
-use Rattle.std.specs.Prelude.{ℕ, zero, suc, ◌+◌, ◌-◌, ◌/◌, ◌%◌, ◌≤◌, ◌<◌, ◌≡◌, refl, List, [], ◌∷◌, ◌++◌, length}
-use Rattle.std.proofs.Common.{arith, sym, append_assoc}
+use Rattle.std.specs.Prelude.{ℕ, zero, suc, ◌/◌, ◌%◌, ◌<◌, ◌≡◌, refl, List, [], ◌∷◌, ◌++◌, length, Option, None, Some}
+use Rattle.std.specs.Option.{SomeIff, unwrap_or}
+use Rattle.std.proofs.Common.{arith, sym, ◌∙◌, append_assoc}
 use Rattle.text.specs.Print.{shown, added, decimal}
 use Rattle.text.specs.PrintLaws.{decimal_room, all_put}
 use Rattle.fleet.specs.Page.{mean_whole, mean_remainder, blanks, column, mean_line}
-
--- ---- blanks, one after the other
-
-pub blanks_more : (i to : ℕ) → i < to → blanks (to - i) ≡ (32 ∷ []) ++ blanks (to - (i + 1))
-unfolding blanks
-blanks_more i to h = let e : to - i ≡ suc (to - (i + 1)) = omega arith in rw e
-
-pub blanks_none : (i to : ℕ) → to ≤ i → blanks (to - i) ≡ []
-unfolding blanks
-blanks_none i to h = let e : to - i ≡ 0 = omega arith in rw e
 
 -- ---- the digits of a number
 
@@ -40,6 +31,15 @@ pub remainder_some : (total n : ℕ) → ¬ (n ≡ 0) → total % n ≡ mean_rem
 unfolding mean_remainder
 remainder_some total zero h = absurd (h refl)
 remainder_some total (suc n) h = refl
+
+-- … as a quotient and a remainder that are there where the divisor is not 0
+pub whole_or : (total n : ℕ) (quotient : Option ℕ) → SomeIff quotient (0 < n) (total / n) → unwrap_or quotient 0 ≡ mean_whole total n
+whole_or total n None h = whole_none total n (omega (arith, h))
+whole_or total n (Some q) h = h.1 ∙ whole_some total n (λ e. omega (arith, h.0))
+
+pub remainder_or : (total n : ℕ) (rest : Option ℕ) → SomeIff rest (0 < n) (total % n) → unwrap_or rest 0 ≡ mean_remainder total n
+remainder_or total n None h = remainder_none total n (omega (arith, h))
+remainder_or total n (Some r) h = h.1 ∙ remainder_some total n (λ e. omega (arith, h.0))
 
 -- its line, put piece by piece
 pub mean_line_lem :

@@ -1,13 +1,14 @@
 -- The first volume of some input, and those behind it.
-use Rattle.std.specs.Prelude.{ℕ, suc, ◌+◌, ◌≤◌, ◌<◌, ◌≡◌, List, [], ◌∷◌, true, false, cond, length}
-use Rattle.std.proofs.Common.{arith, drop_of_length-le}
-use Rattle.std.proofs.Math.ListN.{drop, length-drop}
-use Rattle.std.proofs.Math.Seq.{drop-drop, drop-length}
+use Rattle.std.specs.Prelude.{ℕ, suc, ◌≤◌, ◌<◌, ◌≡◌, List, ◌∷◌, true, false, cond, length, Result}
+use Rattle.std.proofs.Common.{arith}
+use Rattle.std.proofs.Math.ListN.{drop}
+use Rattle.std.proofs.Math.Seq.{drop-length}
 use Rattle.bounded.specs.Limits.{Widths, two_widths}
 use Rattle.bounded.specs.Choice.{on_test}
 use Rattle.sizes.specs.declared.Sizes.{Sizes}
-use Rattle.fleet.specs.declared.Entry.{Entry}
-use Rattle.fleet.specs.declared.Entry.TheVariants.{Refused}
+use Rattle.outcome.specs.declared.Refusal.{Refusal}
+use Rattle.fleet.specs.declared.Figures.{Figures}
+use Rattle.fleet.specs.Entry.{Entry, comes_to, Refused}
 use Rattle.fleet.specs.Figures.{entry_of}
 use Rattle.fleet.specs.Input.{sizes_at, volume_length, flash_at, is_whole, entries_of}
 use Rattle.fleet.proofs.InputLaws.{whole_facts, entries_whole, entries_broken, reading_shown}
@@ -15,8 +16,17 @@ use Rattle.fleet.specs.PageLaws.{SmallEntry}
 use Rattle.fleet.proofs.PageLaws.{entry_small}
 use Rattle.van.specs.declared.input.First.{First}
 
--- what it comes to, and how far to go on: to the end of the input, where it "ends the reading"
-unfoldable pub first_of : Widths → List ℕ → First
+-- what it comes to, and how far to go on
+pub record Reading : Type 0 where
+  pub entry : Entry
+  pub length : ℕ
+
+-- what is given back that says so
+abbrev pub reads : First → Reading
+reads first = record { entry = comes_to first.entry; length = first.length }
+
+-- … to the end of the input, where it "ends the reading"
+unfoldable pub first_of : Widths → List ℕ → Reading
 first_of widths input =
     record {
       entry = cond (is_whole widths input) (entry_of widths (sizes_at input) (flash_at input)) (Refused 1);
@@ -29,8 +39,8 @@ module _ (input : List ℕ) where
   first_cut e = rw e
 
   pub first_whole :
-      is_whole two_widths input ≡ true → (entry : Entry) (z : Sizes) (n : ℕ) → entry ≡ entry_of two_widths (sizes_at input) (flash_at input) → z ≡ sizes_at input → n ≡ volume_length z
-      → record { entry = entry; length = n } ≡ first_of two_widths input
+      is_whole two_widths input ≡ true → (entry : Result Figures Refusal) (z : Sizes) (n : ℕ) → comes_to entry ≡ entry_of two_widths (sizes_at input) (flash_at input) → z ≡ sizes_at input → n ≡ volume_length z
+      → reads (record { entry = entry; length = n }) ≡ first_of two_widths input
   unfolding first_of
   first_whole e entry z n a b l = rw (e, a, l, b)
 
@@ -48,18 +58,11 @@ module _ (input : List ℕ) where
 
 -- ---- the volumes, one after the other
 
-module _ (widths : Widths) (n at : ℕ) (input : List ℕ) where
-  pub entries_none : length input ≤ at → entries_of widths n (drop at input) ≡ []
-  entries_none h = rw (drop_of_length-le input h) ((reading_shown widths).ends n)
-
-  -- the one that begins at `at`, and those behind it
-  pub entries_next :
-      at < length input
-      → entries_of widths (suc n) (drop at input) ≡ (first_of widths (drop at input)).entry ∷ entries_of widths n (drop (at + (first_of widths (drop at input)).length) input)
+module _ (widths : Widths) (n : ℕ) where
+  -- the one in front, and those behind it
+  pub entries_next : (input : List ℕ) → 0 < length input → entries_of widths (suc n) input ≡ (first_of widths input).entry ∷ entries_of widths n (drop (first_of widths input).length input)
   unfolding first_of
-  entries_next h =
-      let here = drop at input in
-      let some = length-drop at input in
-      on_test (is_whole widths here)
-      (λ e. rw (entries_whole widths n here e, e, drop-drop (volume_length (sizes_at here)) at input))
-      (λ e. rw (entries_broken widths n here (omega arith) e, e, ← drop-drop (length here) at input, drop-length here, (reading_shown widths).ends n))
+  entries_next input some =
+      on_test (is_whole widths input)
+      (λ e. rw (entries_whole widths n input e, e))
+      (λ e. rw (entries_broken widths n input some e, e, drop-length input, (reading_shown widths).ends n))

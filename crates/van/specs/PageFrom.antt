@@ -2,8 +2,7 @@
 use Rattle.std.specs.Prelude.{ℕ, suc, ◌+◌, ◌≡◌, refl, List, [], ◌∷◌, ◌++◌, length}
 use Rattle.std.proofs.Common.{arith, sym, ap, ◌∙◌, append_assoc}
 use Rattle.bounded.specs.Limits.{Widths}
-use Rattle.fleet.specs.declared.Entry.{Entry}
-use Rattle.fleet.specs.declared.Entry.TheVariants.{Counted, Refused}
+use Rattle.fleet.specs.Entry.{Entry, Counted, Refused}
 use Rattle.fleet.specs.Input.{entries_of}
 use Rattle.fleet.specs.Page.{counted, sum_of, totals, volume_line, volume_lines, totals_line, mean_line, page_lines, as_text, van_page}
 use Rattle.van.specs.declared.tally.Tally.{Tally}
@@ -25,6 +24,11 @@ tally_of p o e n v = record { totals = record { pages = p; obsolete = o; exposed
 
 same_tally : {p o e n v p' o' e' n' v' : ℕ} → p ≡ p' → o ≡ o' → e ≡ e' → n ≡ n' → v ≡ v' → tally_of p o e n v ≡ tally_of p' o' e' n' v'
 same_tally a b c d f = rw (a, b, c, d, f)
+
+-- one that counts nothing
+pub none_is : (t : Tally) → ((t.totals.pages ≡ 0) × ((t.totals.obsolete ≡ 0) × ((t.totals.exposed ≡ 0) × (t.totals.needed ≡ 0)))) × (t.volumes ≡ 0) → t ≡ none_yet
+unfolding none_yet
+none_is t h = same_tally h.0.0 h.0.1.0 h.0.1.1.0 h.0.1.1.1 h.1
 
 -- it has the sums of the figures counted, and their number
 tallied_is :

@@ -1,5 +1,6 @@
 -- Laws of the volume at the front of the input, as it is read.
-use Rattle.std.specs.Prelude.{ℕ, ◌+◌, ◌*◌, ◌-◌, ◌≤◌, ◌≡◌, List, true, false, not, leb, ltb, length, get_or, take, drop}
+use Rattle.std.specs.Prelude.{ℕ, ◌+◌, ◌*◌, ◌-◌, ◌≤◌, ◌≡◌, List, [], ◌∷◌, true, false, not, leb, ltb, length, get_or, take, drop}
+use Rattle.std.specs.Int.{w32, from_le_bytes}
 use Rattle.std.proofs.Common.{arith, sym, ap, ◌∙◌}
 use borrow.Author.Tests.{lt-ltb, le-ltb, le-leb, lt-leb}
 use Rattle.bounded.specs.Limits.{two_widths}
@@ -17,13 +18,19 @@ use Rattle.fleet.specs.Shown.{announced_by}
 -- ---- words
 
 -- the four bytes of a word
-pub word_is :
+word_is :
     (bytes : List ℕ) (i : ℕ)
     → word_at bytes i ≡ get_or bytes (4 * i) 0 + 256 * (get_or bytes (4 * i + 1) 0 + 256 * (get_or bytes (4 * i + 2) 0 + 256 * get_or bytes (4 * i + 3) 0))
 unfolding word_at word_of
 word_is bytes i =
     let e : 4 * i + 0 ≡ 4 * i = omega arith in
     rw (part_at 4 i bytes 0 0 (omega arith), part_at 4 i bytes 1 0 (omega arith), part_at 4 i bytes 2 0 (omega arith), part_at 4 i bytes 3 0 (omega arith), e)
+
+-- as they are taken together, "lowest byte first"
+pub word_from :
+    (bytes : List ℕ) (i : ℕ)
+    → from_le_bytes w32 (get_or bytes (4 * i) 0 ∷ get_or bytes (4 * i + 1) 0 ∷ get_or bytes (4 * i + 2) 0 ∷ get_or bytes (4 * i + 3) 0 ∷ []) ≡ word_at bytes i
+word_from bytes i = let e = word_is bytes i in omega arith
 
 -- words that are all stored are their table
 pub all_stored : (f : ℕ → ℕ) (words : List ℕ) (n : ℕ) → n ≡ length words → stored f n words ≡ tabulate (length words) f

@@ -1,8 +1,7 @@
 -- What is added up over the volumes that are counted, and the two lines that are printed of it.
 use Rattle.std.specs.Prelude.{ℕ, ◌+◌, ◌*◌, ◌≤◌, List, [], ◌∷◌, ◌++◌}
 use Rattle.fleet.specs.declared.Figures.{Figures}
-use Rattle.fleet.specs.declared.Entry.{Entry}
-use Rattle.fleet.specs.declared.Entry.TheVariants.{Counted, Refused}
+use Rattle.fleet.specs.Entry.{Entry, Counted, Refused}
 use Rattle.fleet.specs.Page.{totals_line, mean_line}
 use Rattle.fleet.specs.PageLaws.{most_counted, Within}
 use Rattle.van.specs.declared.tally.Tally.{Tally}

@@ -1,8 +1,7 @@
 -- The totals stay small: no figure of a volume is more than 1,024.
 use Rattle.std.specs.Prelude.{ℕ, ◌+◌, ◌≤◌}
 use Rattle.std.proofs.Common.{arith}
-use Rattle.fleet.specs.declared.Entry.{Entry}
-use Rattle.fleet.specs.declared.Entry.TheVariants.{Counted, Refused}
+use Rattle.fleet.specs.Entry.{Entry, Counted, Refused}
 use Rattle.fleet.specs.PageLaws.{SmallEntry}
 use Rattle.van.specs.declared.tally.Tally.{Tally}
 use Rattle.van.specs.Tally.{together, none_yet, tallied_with, TallyFew}

@@ -3,29 +3,24 @@
 ghost use Rattle.std.specs.Prelude.{◌≡◌, true, ◌+◌, ◌*◌, ◌≤◌, length};
 ghost use Rattle.bounded.specs.Limits.{two_widths};
 ghost use Rattle.bounded.specs.Tabulate.{tabulate};
+ghost use Rattle.fleet.specs.Entry.{comes_to};
 ghost use Rattle.fleet.specs.Figures.{entry_of};
 ghost use Rattle.fleet.specs.InputLaws.{longest_volume};
 ghost use Rattle.fleet.specs.Shown.{announced_by};
 ghost use Rattle.fleet.specs.Input.{word_at, sizes_at, volume_length, flash_at, sizes_taken, is_whole};
-ghost use Rattle.van.specs.First.{first_of};
+ghost use Rattle.van.specs.First.{reads, first_of};
 
-use fleet::Entry;
+use fleet::Figures;
+use outcome::Refusal;
 use sizes::Sizes;
 
-// "32 bits lowest byte first"
-fn word_of(a: u8, b: u8, c: u8, d: u8) -> u32
-    ensures { result ≡ a + 256 * (b + 256 * (c + 256 * d)) }
-{
-    (a as u32) + 256 * ((b as u32) + 256 * ((c as u32) + 256 * (d as u32)))
-}
-
-// Word i of some bytes.
+// Word i of some bytes, "32 bits lowest byte first".
 fn word_at(bytes: &[u8], i: usize) -> u32
     requires { 4 * i + 4 ≤ length bytes.now }
     ensures { result ≡ word_at bytes.now i }
 {
     let at = 4 * i;
-    word_of(bytes[at], bytes[at + 1], bytes[at + 2], bytes[at + 3])
+    u32::from_le_bytes([bytes[at], bytes[at + 1], bytes[at + 2], bytes[at + 3]])
 }
 
 // "each P, S, the width"
@@ -33,13 +28,10 @@ fn sizes_at(input: &[u8]) -> Sizes
     requires { 12 ≤ length input.now }
     ensures { result ≡ sizes_at input.now }
 {
-    let pages = word_at(input, 0);
-    let slots = word_at(input, 1);
-    let width = word_at(input, 2);
     Sizes {
-        pages,
-        slots,
-        width,
+        pages: word_at(input, 0),
+        slots: word_at(input, 1),
+        width: word_at(input, 2),
     }
 }
 
@@ -47,13 +39,7 @@ fn sizes_at(input: &[u8]) -> Sizes
 fn sizes_taken(sizes: Sizes) -> bool
     ensures { result ≡ sizes_taken two_widths sizes }
 {
-    if !sizes.are_ok() {
-        return false;
-    }
-    if sizes.width == 64 {
-        return sizes.slots <= 512;
-    }
-    true
+    sizes.are_ok() && !(sizes.width == 64 && sizes.slots > 512)
 }
 
 // How many bytes a volume has.
@@ -72,10 +58,11 @@ pub fn announced(input: &[u8]) -> usize
     ensures bounded { (12 ≤ result) × (result ≤ longest_volume) }
 {
     let sizes = sizes_at(input);
-    if !sizes_taken(sizes) {
-        return 12;
+    if sizes_taken(sizes) {
+        volume_length(sizes)
+    } else {
+        12
     }
-    volume_length(sizes)
 }
 
 // The input begins with a volume that has right sizes and is not "cut short".
@@ -86,10 +73,7 @@ fn is_whole(input: &[u8]) -> bool
         return false;
     }
     let sizes = sizes_at(input);
-    if !sizes_taken(sizes) {
-        return false;
-    }
-    volume_length(sizes) <= input.len()
+    sizes_taken(sizes) && volume_length(sizes) <= input.len()
 }
 
 // "the table's words", behind P, S and the width.
@@ -97,18 +81,16 @@ fn read_words(input: &[u8], words: &mut [u32])
     requires { 12 + 4 * length words.old ≤ length input.now }
     ensures { words.new ≡ tabulate (length words.old) (λ i. word_at input.now (3 + i)) }
 {
-    let mut i = 0;
-    while i < words.len() {
-        words[i] = word_at(input, 3 + i);
-        i += 1;
+    for (i, word) in words.iter_mut().enumerate() {
+        *word = word_at(input, 3 + i);
     }
 }
 
 // What a whole volume at the front comes to; `words` is as long as its table. Its contents are lent where they stand.
-fn entry_in(input: &[u8], words: &mut [u32]) -> Entry
+fn entry_in(input: &[u8], words: &mut [u32]) -> Result<Figures, Refusal>
     requires input_value { is_whole two_widths input.now ≡ true }
     requires words_len { length words.old ≡ 5 * (sizes_at input.now).slots }
-    ensures { result ≡ entry_of two_widths (sizes_at input.now) (flash_at input.now) }
+    ensures { comes_to result ≡ entry_of two_widths (sizes_at input.now) (flash_at input.now) }
 {
     read_words(input, words);
     let sizes = sizes_at(input);
@@ -118,9 +100,9 @@ fn entry_in(input: &[u8], words: &mut [u32]) -> Entry
 }
 
 // What a whole volume at the front comes to.
-fn entry_at(input: &[u8]) -> Entry
+fn entry_at(input: &[u8]) -> Result<Figures, Refusal>
     requires { is_whole two_widths input.now ≡ true }
-    ensures { result ≡ entry_of two_widths (sizes_at input.now) (flash_at input.now) }
+    ensures { comes_to result ≡ entry_of two_widths (sizes_at input.now) (flash_at input.now) }
 {
     let sizes = sizes_at(input);
     let w = 5 * (sizes.slots as usize);
@@ -132,21 +114,22 @@ fn entry_at(input: &[u8]) -> Entry
 // What the first volume of some input comes to, and how far to go on.
 #[derive(Clone, Copy)]
 pub struct First {
-    pub entry: Entry,
+    pub entry: Result<Figures, Refusal>,
     pub length: usize,
 }
 
 // "A volume with wrong sizes … or cut short prints … 1 … and ends the reading": it goes on at the end of the input.
 pub fn first_of(input: &[u8]) -> First
-    ensures { result ≡ first_of two_widths input.now }
+    ensures { reads result ≡ first_of two_widths input.now }
 {
     if !is_whole(input) {
         return First {
-            entry: Entry::Refused { answer: 1 },
+            entry: Err(Refusal::WrongSize),
             length: input.len(),
         };
     }
-    let entry = entry_at(input);
-    let length = volume_length(sizes_at(input));
-    First { entry, length }
+    First {
+        entry: entry_at(input),
+        length: volume_length(sizes_at(input)),
+    }
 }

@@ -9,33 +9,34 @@ pub mod tally; // tally.rt: what is added up
 ghost use Rattle.std.specs.Prelude.{◌≡◌, ℕ};
 ghost use Rattle.bounded.specs.Limits.{Widths, two_widths};
 ghost use Rattle.text.specs.Print.{shown, added};
-ghost use Rattle.record.specs.declared.Slot.{Slot};
+ghost use Rattle.record.specs.Slot.{Slot};
 ghost use Rattle.state.specs.declared.PageState.{PageState};
 ghost use Rattle.fleet.specs.Page.{van_page};
 ghost use Rattle.fleet.specs.Shown.{FiguresShown, EntriesShown, ReadingShown, PagesShown, EnoughRead, RoomEnough};
 ghost use Rattle.fleet.specs.Cases.{PagesComputed};
 
+use tally::Tally;
+use text::print::Printout;
+
 // What is printed for an input.
 pub fn page(input: &[u8], out: &mut [u8]) -> usize
     ensures { shown out.new result ≡ added out.old 0 (van_page two_widths input.now) }
 {
-    let mut tally = tally::none_yet();
-    let mut place = 0;
-    let mut at = 0;
-    let mut number: u32 = 1;
-    while at < input.len() {
-        // "a 33rd is not read"
-        if number > 32 {
-            return lines::put_end(out, place, tally);
+    let mut tally = Tally::default();
+    let mut printed = Printout::new(out, 0);
+    let mut rest = input;
+    // "a 33rd is not read"
+    for number in 1..33 {
+        if rest.is_empty() {
+            break;
         }
-        let first = input::first_of(&input[at..]);
-        let entry = first.entry;
-        place = lines::put_volume(out, place, number, entry);
-        tally = tally.with(entry);
-        at += first.length;
-        number += 1;
+        let first = input::first_of(rest);
+        lines::put_volume(&mut printed, number, first.entry);
+        tally = tally.with(first.entry);
+        rest = &rest[first.length..];
     }
-    lines::put_end(out, place, tally)
+    lines::put_end(&mut printed, tally);
+    printed.at
 }
 
 // Document 02, wish 13, what is shown: of every table and state, that the figures tell each page and record once; of every volume, that it is counted by the state that recovery gives, or refused by its

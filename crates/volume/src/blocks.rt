@@ -2,15 +2,17 @@
 
 ghost use Rattle.std.specs.Prelude.{◌≡◌};
 ghost use Rattle.bounded.specs.Limits.{two_widths};
-ghost use Rattle.outcome.specs.Outcome.{returned};
+ghost use Rattle.outcome.specs.Result.{answer_of, ends};
 ghost use Rattle.sizes.specs.Blocks.{named};
 ghost use Rattle.rules.specs.Volume.{volume};
 ghost use Rattle.rules.specs.CheckBlocks.{check_blocks_outcome};
 ghost use Rattle.rules.specs.laws.Chains.{block_judged};
 
+use outcome::Refusal;
 use sizes::{Layout, Sizes, blocks};
 
-// Conditions 1, 17, 2, 5 and 6, which the calls on a block share: the first that holds, or 0.
+// Conditions 1, 17, 2, 5 and 6, which the calls on a block share: refused by the first that holds.
+#[tactic(auto, unfolding(rules::specs::laws::Chains::block_judged))]
 pub fn judged(
     sizes: Sizes,
     words: &[u32],
@@ -18,34 +20,32 @@ pub fn judged(
     state: &[u32],
     starts: &[u32],
     block: u32,
-) -> u32
-    ensures { result ≡ block_judged two_widths sizes (volume words.now contents.now state.now) (named starts.now block) }
+) -> Result<(), Refusal>
+    ensures { answer_of result ≡ block_judged two_widths sizes (volume words.now contents.now state.now) (named starts.now block) }
 {
     if !super::volume_fits(Layout::FiveWords, sizes, words, contents, state) {
-        return 1;
+        return Err(Refusal::WrongSize);
     }
     if !blocks::starts_ok(sizes.slots, starts) {
-        return 17;
+        return Err(Refusal::WrongBlocks);
     }
-    let first = super::judged(Layout::FiveWords, true, sizes, words, state);
-    if first != 0 {
-        return first;
-    }
+    super::judged(Layout::FiveWords, true, sizes, words, state)?;
     if !blocks::block_ok(starts, block) {
-        return 6;
+        return Err(Refusal::WrongList);
     }
-    0
+    Ok(())
 }
 
 // Check a table of blocks, for loading.
-pub fn check(sizes: Sizes, starts: &[u32]) -> u64
-    ensures { returned result tt ≡ check_blocks_outcome two_widths sizes starts.now }
+#[tactic(auto, unfolding(rules::specs::CheckBlocks::check_blocks_answer, rules::specs::CheckBlocks::check_blocks_outcome, outcome::specs::Outcome::settled))]
+pub fn check(sizes: Sizes, starts: &[u32]) -> Result<(), Refusal>
+    ensures { ends result tt ≡ check_blocks_outcome two_widths sizes starts.now }
 {
     if !sizes.are_ok() {
-        return outcome::reply(1, 0);
+        return Err(Refusal::WrongSize);
     }
     if !blocks::starts_ok(sizes.slots, starts) {
-        return outcome::reply(17, 0);
+        return Err(Refusal::WrongBlocks);
     }
-    outcome::reply(0, 0)
+    Ok(())
 }

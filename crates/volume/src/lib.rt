@@ -7,7 +7,7 @@ pub mod blocks; // blocks.rt: a block of it, by the lent table
 ghost use Rattle.std.specs.Prelude.{◌≡◌, true, ◌&&◌, ◌+◌, ◌*◌, ◌≤◌, eqb, length};
 ghost use Rattle.bounded.specs.Limits.{two_widths};
 ghost use Rattle.bounded.specs.Parts.{put_part};
-ghost use Rattle.outcome.specs.Outcome.{returned};
+ghost use Rattle.outcome.specs.Result.{answer_of, ends};
 ghost use Rattle.state.specs.State.{state_words};
 ghost use Rattle.state.specs.Change.{fresh_state};
 ghost use Rattle.sizes.specs.Sizes.{stride_of};
@@ -16,10 +16,12 @@ ghost use Rattle.rules.specs.Format.{formatted_words, formatted_contents, format
 ghost use Rattle.rules.specs.laws.Chains.{judged_in, SpansIn};
 ghost use Rattle.volume.specs.FormatLaws.{fresh_words, fresh_bytes};
 
+use outcome::Refusal;
 use record::{Record, flash};
 use sizes::{Layout, Sizes};
 
 // P, S, the width and the lengths of a volume's buffers are right.
+#[tactic(auto, unfolding(rules::specs::Volume::volume_fits_in))]
 pub fn volume_fits(
     layout: Layout,
     sizes: Sizes,
@@ -29,16 +31,10 @@ pub fn volume_fits(
 ) -> bool
     ensures { result ≡ volume_fits_in layout two_widths sizes (volume words.now contents.now state.now) }
 {
-    if !sizes.are_ok() {
-        return false;
-    }
-    if !sizes::words_fit(layout, sizes.slots, words) {
-        return false;
-    }
-    if !sizes::contents_fit(sizes.width, sizes.slots, contents) {
-        return false;
-    }
-    sizes::state_fits(sizes.pages, state)
+    sizes.are_ok()
+        && sizes::words_fit(layout, sizes.slots, words)
+        && sizes::contents_fit(sizes.width, sizes.slots, contents)
+        && sizes::state_fits(sizes.pages, state)
 }
 
 // … and so is the length of a slice for one slot's bytes.
@@ -52,27 +48,31 @@ pub fn slice_fits(
 ) -> bool
     ensures { result ≡ (volume_fits_in layout two_widths sizes (volume words.now contents.now state.now) && eqb length sizes.width) }
 {
-    if !volume_fits(layout, sizes, words, contents, state) {
-        return false;
-    }
-    length == sizes.width as usize
+    volume_fits(layout, sizes, words, contents, state) && length == sizes.width as usize
 }
 
-// Conditions 1, 2 and 5, which the calls on a whole volume share: the lengths, as `fits` says, then every slot, then the state; 0 where none holds.
-pub fn judged(layout: Layout, fits: bool, sizes: Sizes, words: &[u32], state: &[u32]) -> u32
+// Conditions 1, 2 and 5, which the calls on a whole volume share: the lengths, as `fits` says, then every slot, then the state.
+#[tactic(auto, unfolding(rules::specs::laws::Chains::judged_in))]
+pub fn judged(
+    layout: Layout,
+    fits: bool,
+    sizes: Sizes,
+    words: &[u32],
+    state: &[u32],
+) -> Result<(), Refusal>
     requires { fits ≡ true → SpansIn layout sizes.pages sizes.slots words.now state.now }
-    ensures { result ≡ judged_in layout fits sizes.pages sizes.slots words.now state.now }
+    ensures { answer_of result ≡ judged_in layout fits sizes.pages sizes.slots words.now state.now }
 {
     if !fits {
-        return 1;
+        return Err(Refusal::WrongSize);
     }
     if !table::table_sound(layout, sizes, words) {
-        return 2;
+        return Err(Refusal::SlotUnsound);
     }
     if !state::state_sound(sizes.pages, state) {
-        return 5;
+        return Err(Refusal::StateUnsound);
     }
-    0
+    Ok(())
 }
 
 // One slot as format leaves it: a page's record with zero bytes, or blank with bytes 255.
@@ -83,20 +83,12 @@ fn format_slot(layout: Layout, sizes: Sizes, words: &mut [u32], contents: &mut [
     ensures words_after { words.new ≡ put_part (stride_of layout) slot (fresh_words layout sizes.pages slot) words.old }
     ensures contents_after { contents.new ≡ put_part sizes.width slot (fresh_bytes sizes.width sizes.pages slot) contents.old }
 {
-    if slot < sizes.pages {
-        let record = Record::formatted(slot);
-        flash::fill_slot(layout, sizes.width, words, contents, slot, record, 0);
-        return;
-    }
-    flash::fill_slot(
-        layout,
-        sizes.width,
-        words,
-        contents,
-        slot,
-        Record::BLANK,
-        255,
-    );
+    let (record, byte) = if slot < sizes.pages {
+        (Record::formatted(slot), 0)
+    } else {
+        (Record::BLANK, 255)
+    };
+    flash::fill_slot(layout, sizes.width, words, contents, slot, record, byte);
 }
 
 // Every slot as format leaves it.
@@ -107,10 +99,8 @@ fn format_flash(layout: Layout, sizes: Sizes, words: &mut [u32], contents: &mut 
     ensures words_after { words.new ≡ formatted_words layout sizes }
     ensures contents_after { contents.new ≡ formatted_contents sizes }
 {
-    let mut k = 0;
-    while k < sizes.slots {
+    for k in 0..sizes.slots {
         format_slot(layout, sizes, words, contents, k);
-        k += 1;
     }
 }
 
@@ -119,10 +109,8 @@ fn format_state(pages: u32, state: &mut [u32])
     requires { length state.old ≡ 4 * pages }
     ensures { state.new ≡ state_words pages fresh_state }
 {
-    let mut p = 0;
-    while p < pages {
+    for p in 0..pages {
         state::put_page(state, p, state::PageState::at_rest(0, 0));
-        p += 1;
     }
 }
 
@@ -133,14 +121,14 @@ pub fn format(
     words: &mut [u32],
     contents: &mut [u8],
     state: &mut [u32],
-) -> u64
-    ensures { returned result (volume words.new contents.new state.new)
+) -> Result<(), Refusal>
+    ensures { ends result (volume words.new contents.new state.new)
         ≡ format_outcome_in layout two_widths sizes (volume words.old contents.old state.old) }
 {
     if !volume_fits(layout, sizes, words, contents, state) {
-        return outcome::reply(1, 0);
+        return Err(Refusal::WrongSize);
     }
     format_flash(layout, sizes, words, contents);
     format_state(sizes.pages, state);
-    outcome::reply(0, 0)
+    Ok(())
 }

@@ -13,7 +13,7 @@ use Rattle.sizes.specs.Sizes.{listed}
 use Rattle.sizes.specs.Blocks.{NamedBlock, block_at}
 use Rattle.sizes.specs.Lists.{list_facts}
 use Rattle.record.specs.declared.Record.{Record}
-use Rattle.record.specs.declared.Slot.TheVariants.{Holds}
+use Rattle.std.specs.Prelude.{Some}
 use Rattle.record.specs.Slot.{slot_at, bytes_at}
 use Rattle.record.specs.SlotLaws.{holds_one}
 use Rattle.record.specs.Flash.{Flash, Step, apply_all_in}
@@ -76,8 +76,8 @@ erase_spares widths sizes v slots fits e =
     allowed :
         (k : ℕ) (r : Record)
         → Memᴰ k slots
-        → slot_at v.flash.words k ≡ Holds r
-        → ((j : ℕ) × (j < sizes.slots) × ¬ (Memᴰ j slots) × (slot_at v.flash.words j ≡ Holds r) × (bytes_at sizes.width v.flash.contents j ≡ bytes_at sizes.width v.flash.contents k)) ⊎ Permitted (HeldIn FiveWords sizes.width sizes.slots v.flash) (state_at v.state) r
+        → slot_at v.flash.words k ≡ Some r
+        → ((j : ℕ) × (j < sizes.slots) × ¬ (Memᴰ j slots) × (slot_at v.flash.words j ≡ Some r) × (bytes_at sizes.width v.flash.contents j ≡ bytes_at sizes.width v.flash.contents k)) ⊎ Permitted (HeldIn FiveWords sizes.width sizes.slots v.flash) (state_at v.state) r
     allowed k r m h =
         let i = member_at slots k m in
         let p = (may_erase_all_lem (scene_of sizes v) slots).0 (erase_tests widths sizes v slots e).permitted i.0 i.1 in
@@ -99,7 +99,7 @@ module _ (w S : ℕ) (st : ℕ → PageState) (f : Flash) (sized : SizedIn FiveW
           fewer = λ r d h. on_eq h.0 j
               (λ q. let u = ready.unaltered k (Memᴰ.head refl) in
               let same = holds_one (ap (slot_at next.words) (sym q) ∙ h.2) there.0 in
-              (k, source.source_below, u.same_slot ∙ source.holds_it ∙ ap Holds (sym same), u.same_bytes ∙ sym there.1 ∙ ap (bytes_at w next.contents) (sym q) ∙ h.3))
+              (k, source.source_below, u.same_slot ∙ source.holds_it ∙ ap Some (sym same), u.same_bytes ∙ sym there.1 ∙ ap (bytes_at w next.contents) (sym q) ∙ h.3))
               (λ d. let s = copy_elsewhere w S f sized g ready.size k j source below h.0 d in (h.0, h.1, sym s.same_slot ∙ h.2, sym s.same_bytes ∙ h.3));
           finds_before = finds_in_slots S (slot_at g.words) (bytes_at w g.contents);
           finds = finds_in_slots S (slot_at next.words) (bytes_at w next.contents);
@@ -119,7 +119,7 @@ module _ (w S : ℕ) (st : ℕ → PageState) (f : Flash) (sized : SizedIn FiveW
       next : Flash
       next = first w S f sized g b k from j to ready
 
-      there : (slot_at next.words j ≡ Holds source.held) × (bytes_at w next.contents j ≡ bytes_at w f.contents k)
+      there : (slot_at next.words j ≡ Some source.held) × (bytes_at w next.contents j ≡ bytes_at w f.contents k)
       there = copy_there w S f sized g ready.size k j source below
 
   -- the copies, each a stage by itself, and then the stages behind them
@@ -183,8 +183,8 @@ clean_spares widths sizes v block fits e =
     allowed :
         (k : ℕ) (r : Record)
         → Memᴰ k (clean.block_slots sizes v b size a.table a.room)
-        → slot_at g.words k ≡ Holds r
-        → ((j : ℕ) × (j < S) × ¬ (Memᴰ j (clean.block_slots sizes v b size a.table a.room)) × (slot_at g.words j ≡ Holds r) × (bytes_at w g.contents j ≡ bytes_at w g.contents k)) ⊎ Permitted (HeldIn FiveWords w S g) st r
+        → slot_at g.words k ≡ Some r
+        → ((j : ℕ) × (j < S) × ¬ (Memᴰ j (clean.block_slots sizes v b size a.table a.room)) × (slot_at g.words j ≡ Some r) × (bytes_at w g.contents j ≡ bytes_at w g.contents k)) ⊎ Permitted (HeldIn FiveWords w S g) st r
     allowed k r m h =
         let i = clean.block_member sizes v b size a.table a.room k m in
         let s = clean.copies_inside sizes v b size a.table k i.1 in

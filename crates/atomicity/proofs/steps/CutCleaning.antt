@@ -13,7 +13,7 @@ use Rattle.sizes.specs.declared.Layout.TheVariants.{FiveWords}
 use Rattle.sizes.specs.declared.Sizes.{Sizes}
 use Rattle.sizes.specs.Blocks.{in_block}
 use Rattle.record.specs.declared.Record.{Record}
-use Rattle.record.specs.declared.Slot.TheVariants.{Holds}
+use Rattle.std.specs.Prelude.{Some}
 use Rattle.record.specs.Slot.{slot_at}
 use Rattle.record.specs.Flash.{Flash, Step, apply_all_in, apply_all}
 use Rattle.record.specs.FlashLaws.{SizedIn, SameSlot, apply_append, blanks_sized, blanks_listed, blanks_unlisted}
@@ -73,25 +73,25 @@ module _ (sizes : Sizes) (v : Volume) (block : Block) where
   pub record CutLeaves (g : Flash) : Type 0 where
     pub sized : SizedIn FiveWords sizes.width sizes.slots g
     -- a record that is there was there, with its contents,
-    pub none_new : (k : ℕ) (r : Record) → k < sizes.slots → slot_at g.words k ≡ Holds r → (j : ℕ) × (j < sizes.slots) × HoldsAt sizes v.flash j r g k
+    pub none_new : (k : ℕ) (r : Record) → k < sizes.slots → slot_at g.words k ≡ Some r → (j : ℕ) × (j < sizes.slots) × HoldsAt sizes v.flash j r g k
     -- one that was there is there, or the old rule allows to erase it,
     pub stays_or_erasable :
         (k : ℕ) (r : Record)
         → k < sizes.slots
-        → slot_at v.flash.words k ≡ Holds r
+        → slot_at v.flash.words k ≡ Some r
         → ((j : ℕ) × (j < sizes.slots) × HoldsAt sizes g j r v.flash k) ⊎ (erasable sizes v k ≡ true)
     -- and a slot of the block that holds one is as it was
-    pub inside_same : (k : ℕ) (r : Record) → in_block block k ≡ true → slot_at g.words k ≡ Holds r → SameSlot FiveWords sizes.width v.flash g k
+    pub inside_same : (k : ℕ) (r : Record) → in_block block k ≡ true → slot_at g.words k ≡ Some r → SameSlot FiveWords sizes.width v.flash g k
 
   -- the first n copies stand
   pub record FirstStand (n : ℕ) (g : Flash) : Type 0 where
     pub most : n ≤ length (clean_from sizes v block)
     pub first_left : CutLeaves g
     pub block_same : (k : ℕ) → in_block block k ≡ true → SameSlot FiveWords sizes.width v.flash g k
-    pub held_same : (k : ℕ) (r : Record) → slot_at v.flash.words k ≡ Holds r → SameSlot FiveWords sizes.width v.flash g k
+    pub held_same : (k : ℕ) (r : Record) → slot_at v.flash.words k ≡ Some r → SameSlot FiveWords sizes.width v.flash g k
     pub copy_stands :
         (k : ℕ) (r : Record)
-        → slot_at v.flash.words k ≡ Holds r
+        → slot_at v.flash.words k ≡ Some r
         → Memᴰ k (take n (clean_from sizes v block))
         → (j : ℕ) × (j < sizes.slots) × (in_block block j ≡ false) × HoldsAt sizes g j r v.flash k
     pub behind_same : (k : ℕ) → Memᴰ k (drop n (clean_to sizes v block)) → SameSlot FiveWords sizes.width v.flash g k
@@ -103,7 +103,7 @@ module _ (sizes : Sizes) (v : Volume) (block : Block) where
         (k : ℕ) (r : Record)
         → k < sizes.slots
         → in_block block k ≡ true
-        → slot_at v.flash.words k ≡ Holds r
+        → slot_at v.flash.words k ≡ Some r
         → ((j : ℕ) × (j < sizes.slots) × (in_block block j ≡ false) × HoldsAt sizes g j r v.flash k) ⊎ (erasable sizes v k ≡ true)
 
   module _ (size : SizedIn FiveWords sizes.width sizes.slots v.flash) (sound : table_sound sizes.pages sizes.slots (slot_at v.flash.words) ≡ true)
@@ -138,7 +138,7 @@ module _ (sizes : Sizes) (v : Volume) (block : Block) where
       inside_some : (k : ℕ) → in_block block k ≡ true → SameSlot FiveWords w v.flash some k
       inside_some k i = untargeted k (λ m. never i (clean.free_outside_block sizes v block size sound k (front_member n to k m)))
 
-      held_some : (k : ℕ) (r : Record) → slot_at v.flash.words k ≡ Holds r → SameSlot FiveWords w v.flash some k
+      held_some : (k : ℕ) (r : Record) → slot_at v.flash.words k ≡ Some r → SameSlot FiveWords w v.flash some k
       held_some k r e = untargeted k (λ m. clean.no_target sizes v block size sound k r e (front_member n to k m))
 
       first_stand : FirstStand n some
@@ -193,7 +193,7 @@ module _ (sizes : Sizes) (v : Volume) (block : Block) where
       outside_same : (k : ℕ) → in_block block k ≡ false → SameSlot FiveWords w stood blanked k
       outside_same k o = unlisted k (λ m. never (member k m).1 o)
 
-      held_same : (k : ℕ) (r : Record) → slot_at blanked.words k ≡ Holds r → SameSlot FiveWords w stood blanked k
+      held_same : (k : ℕ) (r : Record) → slot_at blanked.words k ≡ Some r → SameSlot FiveWords w stood blanked k
       held_same k r e =
           ⊎_elim
           (λ m. absurd (blank_holds (blanks_listed FiveWords w S part stood k stood_sized within m).slot_blank e))
@@ -204,7 +204,7 @@ module _ (sizes : Sizes) (v : Volume) (block : Block) where
           (k : ℕ) (r : Record)
           → k < S
           → in_block block k ≡ true
-          → slot_at v.flash.words k ≡ Holds r
+          → slot_at v.flash.words k ≡ Some r
           → ((j : ℕ) × (j < S) × (in_block block j ≡ false) × HoldsAt sizes blanked j r v.flash k) ⊎ (erasable sizes v k ≡ true)
       outside k r h i e =
           ⊎_elim

@@ -8,8 +8,8 @@ use Rattle.bounded.specs.Choice.{on_test}
 use Rattle.bounded.specs.Members.{listed?}
 use Rattle.sizes.specs.declared.Layout.{Layout}
 use Rattle.record.specs.declared.Record.{Record}
-use Rattle.record.specs.declared.Slot.{Slot}
-use Rattle.record.specs.declared.Slot.TheVariants.{Holds}
+use Rattle.record.specs.Slot.{Slot}
+use Rattle.std.specs.Prelude.{Some}
 use Rattle.record.specs.Slot.{slot_in, bytes_at}
 use Rattle.record.specs.Flash.{Flash, Step, apply_all_in}
 use Rattle.record.specs.FlashLaws.{SizedIn, SameSlot, blanks_sized, blanks_listed, blanks_unlisted}
@@ -95,10 +95,10 @@ pub record Blankable (K : Keeping) (w S : ℕ) (st : ℕ → PageState) (f : Fla
   pub allowed :
       (k : ℕ) (r : Record)
       → Memᴰ k slots
-      → slot_in K.layout f.words k ≡ Holds r
-      → ((j : ℕ) × (j < S) × ¬ (Memᴰ j slots) × (slot_in K.layout f.words j ≡ Holds r) × (bytes_at w f.contents j ≡ bytes_at w f.contents k)) ⊎ K.Permitted (HeldIn K.layout w S f) st r
+      → slot_in K.layout f.words k ≡ Some r
+      → ((j : ℕ) × (j < S) × ¬ (Memᴰ j slots) × (slot_in K.layout f.words j ≡ Some r) × (bytes_at w f.contents j ≡ bytes_at w f.contents k)) ⊎ K.Permitted (HeldIn K.layout w S f) st r
   -- what the slots keep to they do with fewer records
-  pub apart_fewer : (t t' : ℕ → Slot) → ((k : ℕ) (r : Record) → t' k ≡ Holds r → t k ≡ Holds r) → K.Apart S t → K.Apart S t'
+  pub apart_fewer : (t t' : ℕ → Slot) → ((k : ℕ) (r : Record) → t' k ≡ Some r → t k ≡ Some r) → K.Apart S t → K.Apart S t'
 
 module _ (K : Keeping) (w S : ℕ) (st : ℕ → PageState) (f : Flash) (size : SizedIn K.layout w S f) (slots : List ℕ) (free : Blankable K w S st f slots) where
   module _ (part : List ℕ) (listed : (k : ℕ) → Memᴰ k part → Memᴰ k slots) where
@@ -112,7 +112,7 @@ module _ (K : Keeping) (w S : ℕ) (st : ℕ → PageState) (f : Flash) (size : 
     stays k n = blanks_unlisted K.layout w S part f k size within n
 
     -- a slot that holds a record then held it before
-    held_before : (k : ℕ) (r : Record) → slot_in K.layout blanked.words k ≡ Holds r → (slot_in K.layout f.words k ≡ Holds r) × (bytes_at w blanked.contents k ≡ bytes_at w f.contents k)
+    held_before : (k : ℕ) (r : Record) → slot_in K.layout blanked.words k ≡ Some r → (slot_in K.layout f.words k ≡ Some r) × (bytes_at w blanked.contents k ≡ bytes_at w f.contents k)
     held_before k r e =
         ⊎_elim
         (λ m. absurd (blank_holds (blanks_listed K.layout w S part f k size within m).slot_blank e))

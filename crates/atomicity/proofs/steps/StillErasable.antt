@@ -5,8 +5,8 @@ use Rattle.std.proofs.Math.Decide.{ℕ_discrete}
 use Rattle.bounded.specs.Choice.{on_lt, never}
 use Rattle.bounded.specs.Limits.{highest_version}
 use Rattle.record.specs.declared.Record.{Record}
-use Rattle.record.specs.declared.Slot.{Slot}
-use Rattle.record.specs.declared.Slot.TheVariants.{Holds}
+use Rattle.record.specs.Slot.{Slot}
+use Rattle.std.specs.Prelude.{Some}
 use Rattle.record.specs.SlotLaws.{Straddles, sound_facts}
 use Rattle.state.specs.declared.PageState.{PageState}
 use Rattle.state.specs.State.{in_flight}
@@ -20,7 +20,7 @@ use Rattle.protocol.specs.Permitted.{Needed, Permitted}
 use Rattle.atomicity.proofs.steps.Sparing.{Pairs, ErasedBy}
 
 -- a slot whose record may be erased, over the set, may be
-pub permitted_may_erase : (S : ℕ) (t : ℕ → Slot) (bytes : ℕ → List ℕ) (st : ℕ → PageState) (twin : ℕ → ℕ → Bool) (k : ℕ) (r : Record) → t k ≡ Holds r → Permitted (InSlots S t bytes) st r → may_erase (scene S t st twin) k ≡ true
+pub permitted_may_erase : (S : ℕ) (t : ℕ → Slot) (bytes : ℕ → List ℕ) (st : ℕ → PageState) (twin : ℕ → ℕ → Bool) (k : ℕ) (r : Record) → t k ≡ Some r → Permitted (InSlots S t bytes) st r → may_erase (scene S t st twin) k ≡ true
 permitted_may_erase S t bytes st twin k r e p = (slot_laws.may_erase_exactly S t st twin k).1 (r, e, over p)
   where
     needed : (K : Record) → slots.Needed S t st K → Needed (InSlots S t bytes) (comm_of st) K

@@ -10,8 +10,8 @@ use Rattle.sizes.specs.declared.Layout.{Layout}
 use Rattle.sizes.specs.declared.Sizes.{Sizes}
 use Rattle.sizes.specs.Blocks.{NamedBlock}
 use Rattle.record.specs.declared.Record.{Record}
-use Rattle.record.specs.declared.Slot.{Slot}
-use Rattle.record.specs.declared.Slot.TheVariants.{Holds}
+use Rattle.record.specs.Slot.{Slot}
+use Rattle.std.specs.Prelude.{Some}
 use Rattle.record.specs.Slot.{slot_in, is_blank, record_sound}
 use Rattle.record.specs.SlotLaws.{Storable}
 use Rattle.record.specs.Flash.{Flash, Step, apply_in, apply_all_in}
@@ -117,7 +117,7 @@ pub record Theory (F : Family) : Type 1 where
   pub Apart : (S : ℕ) → (ℕ → Slot) → Type 0
   pub apart_at_first : (S : ℕ) (t : ℕ → Slot) → NoTwins S t → Apart S t
   pub apart_stored :
-      (S : ℕ) (t : ℕ → Slot) (k : ℕ) (r : Record) → ((j : ℕ) (x : Record) → j < S → t j ≡ Holds x → x.p ≡ r.p → x.v ≡ r.v → ⊥) → Apart S t → Apart S (update t k (Holds r))
+      (S : ℕ) (t : ℕ → Slot) (k : ℕ) (r : Record) → ((j : ℕ) (x : Record) → j < S → t j ≡ Some x → x.p ≡ r.p → x.v ≡ r.v → ⊥) → Apart S t → Apart S (update t k (Some r))
   pub Permitted : Pairs → (ℕ → PageState) → Record → Type 0
   pub fewer : (P : ℕ) (R R' : Pairs) (st : ℕ → PageState) (kept : ℕ → List ℕ) → ErasedBy Permitted R R' st → Core R (comm_of st) P kept → Core R' (comm_of st) P kept
   pub live_fewer :

@@ -4,7 +4,7 @@ use Rattle.std.proofs.Common.{sym, ap, ◌∙◌, subst}
 use Rattle.bounded.specs.Choice.{on_test}
 use Rattle.sizes.specs.declared.Sizes.{Sizes}
 use Rattle.record.specs.declared.Record.{Record}
-use Rattle.record.specs.declared.Slot.TheVariants.{Blank}
+use Rattle.std.specs.Prelude.{None}
 use Rattle.record.specs.Slot.{slot_in, bytes_at}
 use Rattle.record.specs.SlotLaws.{Storable}
 use Rattle.record.specs.Flash.{Flash, Step, apply_in}
@@ -30,7 +30,7 @@ use Rattle.atomicity.proofs.steps.Storing.{store_adds, store_table}
 
 module _ {F : Family} (T : Theory F) (sizes : Sizes) (f : Flash) (size : SizedIn F.layout sizes.width sizes.slots f) (st : ℕ → PageState) (m : Model) (l : Live T sizes f st m)
     (page slot : ℕ) (bytes : List ℕ) (y : Flies sizes.pages st page) (unwritten : is_written (st page) ≡ false)
-    (inside : slot < sizes.slots) (whole : length bytes ≡ sizes.width) (free : slot_in F.layout f.words slot ≡ Blank)
+    (inside : slot < sizes.slots) (whole : length bytes ≡ sizes.width) (free : slot_in F.layout f.words slot ≡ None)
     (fresh : T.Fresh (Held F sizes.width sizes.slots f) st page) where
   abbrev view : View Record
   view = pointing_view T.back

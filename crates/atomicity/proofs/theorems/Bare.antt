@@ -14,8 +14,8 @@ use Rattle.bounded.specs.Members.{list_none, count_more, count_stays, count_spli
 use Rattle.sizes.specs.declared.Layout.TheVariants.{FiveWords}
 use Rattle.sizes.specs.Sizes.{listed}
 use Rattle.record.specs.declared.Record.{Record}
-use Rattle.record.specs.declared.Slot.{Slot}
-use Rattle.record.specs.declared.Slot.TheVariants.{Blank, Holds}
+use Rattle.record.specs.Slot.{Slot}
+use Rattle.std.specs.Prelude.{None, Some}
 use Rattle.record.specs.Slot.{holds, slot_at, bytes_at, is_blank}
 use Rattle.record.specs.SlotLaws.{sound_facts, holds_exactly, holds_one}
 use Rattle.record.specs.Flash.{Flash}
@@ -44,10 +44,10 @@ module _
   t = slot_at f.words
 
   -- a slot's record with its contents
-  pair : (k : ℕ) (r : Record) → k < S → t k ≡ Holds r → HeldIn FiveWords w S f r (bytes_at w f.contents k)
+  pair : (k : ℕ) (r : Record) → k < S → t k ≡ Some r → HeldIn FiveWords w S f r (bytes_at w f.contents k)
   pair k r h e = (k, h, e, refl)
 
-  page_below : (k : ℕ) (r : Record) → k < S → t k ≡ Holds r → r.p < P
+  page_below : (k : ℕ) (r : Record) → k < S → t k ≡ Some r → r.p < P
   page_below k r h e = (sound_facts P r (core.all_sound r _ (pair k r h e))).page_below
 
   -- ---- which records there are
@@ -57,14 +57,14 @@ module _
   unpermitted k h = neither_right (twin_outside (scene S t st (twins w f)) (listed (k ∷ [])) k) (may_erase (scene S t st (twins w f)) k) (bare k h)
 
   -- an exposed one is of a page in flight at its used version,
-  exposed_current : (k : ℕ) (r : Record) → k < S → t k ≡ Holds r → Exposed st r → (in_flight (st r.p) ≡ true) × (r.v ≡ (st r.p).used)
+  exposed_current : (k : ℕ) (r : Record) → k < S → t k ≡ Some r → Exposed st r → (in_flight (st r.p) ≡ true) × (r.v ≡ (st r.p).used)
   exposed_current k r h e x =
       on_test (in_flight (st r.p))
       (λ y. on_eq r.v (st r.p).used (λ q. (y, q)) (λ d. absurd (never ((may_erase_exactly S t st (twins w f) k).1 (r, e, inr (x, λ c. d c.1))) (unpermitted k h))))
       (λ n. absurd (never ((may_erase_exactly S t st (twins w f) k).1 (r, e, inr (x, λ c. never c.0 n))) (unpermitted k h)))
 
   -- which is written
-  exposed_written : (k : ℕ) (r : Record) → k < S → t k ≡ Holds r → Exposed st r → is_written (st r.p) ≡ true
+  exposed_written : (k : ℕ) (r : Record) → k < S → t k ≡ Some r → Exposed st r → is_written (st r.p) ≡ true
   exposed_written k r h e x =
       let c = exposed_current k r h e x in
       on_test (is_written (st r.p))
@@ -72,14 +72,14 @@ module _
       (λ n. absurd (live.unwritten_absent r.p (page_below k r h e) c.0 n r _ (pair k r h e) (refl, c.1)))
 
   -- so it is the planned one,
-  exposed_planned : (k : ℕ) (r : Record) → k < S → t k ≡ Holds r → Exposed st r → r ≡ plan record_view st r.p
+  exposed_planned : (k : ℕ) (r : Record) → k < S → t k ≡ Some r → Exposed st r → r ≡ plan record_view st r.p
   exposed_planned k r h e x =
       let c = exposed_current k r h e x in
       let s = live.written_stored r.p (page_below k r h e) c.0 (exposed_written k r h e x) in
       (core.one_record r (plan record_view st r.p) _ s.0 (pair k r h e) s.1 (sym (planned_record_page r.p _ _ _ _)) (c.1 ∙ sym (planned_record_version r.p _ _ _ _))).0
 
   -- whose link no record straddles: no version is above the used one. So no obsolete record is needed, and there is none.
-  pub none_obsolete : (k : ℕ) (r : Record) → k < S → t k ≡ Holds r → r.v < (st r.p).committed → ⊥
+  pub none_obsolete : (k : ℕ) (r : Record) → k < S → t k ≡ Some r → r.v < (st r.p).committed → ⊥
   none_obsolete k r h e l =
       let n = obsolete_needed S t st (twins w f) k e ((obsolete_exactly st r).1 l) (unpermitted k h) in
       let s = n.supports in
@@ -95,7 +95,7 @@ module _
       omega arith
 
   -- every record is committed, or of a written page in flight, at its used version
-  kinds : (k : ℕ) (r : Record) → k < S → t k ≡ Holds r → (r.v ≡ (st r.p).committed) ⊎ ((in_flight (st r.p) ≡ true) × (is_written (st r.p) ≡ true) × (r.v ≡ (st r.p).used))
+  kinds : (k : ℕ) (r : Record) → k < S → t k ≡ Some r → (r.v ≡ (st r.p).committed) ⊎ ((in_flight (st r.p) ≡ true) × (is_written (st r.p) ≡ true) × (r.v ≡ (st r.p).used))
   kinds k r h e =
       on_lt r.v (st r.p).committed
       (λ l. absurd (none_obsolete k r h e l))
@@ -104,14 +104,14 @@ module _
       (λ g. inl (omega arith)))
 
   -- and no two slots hold one of the same page and version
-  one_slot : (j k : ℕ) (a b : Record) → j < S → k < S → t j ≡ Holds a → t k ≡ Holds b → a.p ≡ b.p → a.v ≡ b.v → j ≡ k
+  one_slot : (j k : ℕ) (a b : Record) → j < S → k < S → t j ≡ Some a → t k ≡ Some b → a.p ≡ b.p → a.v ≡ b.v → j ≡ k
   unfolding may_erase_alone listed some_below
   one_slot j k a b hj hk ea eb p v =
       on_eq j k
       (λ q. q)
       (λ d. let same = core.one_record a b _ _ (pair j a hj ea) (pair k b hk eb) p v in
       let whole = bytes_whole w S f size in
-      let twin = (twins_exactly w f j k (whole j hj) (whole k hk)).1 (a, ea, eb ∙ ap Holds (sym same.0), same.1) in
+      let twin = (twins_exactly w f j k (whole j hj) (whole k hk)).1 (a, ea, eb ∙ ap Some (sym same.0), same.1) in
       absurd (never ((may_erase_from_lem (scene S t st (twins w f)) (listed (k ∷ [])) k).1 (inl (j, hj, twin, ne_eqb k j (λ q. d (sym q))))) (bare k hk)))
 
   -- ---- counted page by page
@@ -178,7 +178,7 @@ module _
       let xp = eqb-true x.0.p m x.2 in
       one_slot j k x.0 r b l x.1 held (xp ∙ sym p) (of_used m x.0 xp (uncommitted j x.0 x.1 (both_right (holds (λ r. eqb r.p m) (t j)) _ f)) (kinds j x.0 b x.1) ∙ sym v))
     where
-      uncommitted : (j : ℕ) (r : Record) → t j ≡ Holds r → not (holds (λ r. eqb r.v (st r.p).committed) (t j)) ≡ true → ¬ (r.v ≡ (st r.p).committed)
+      uncommitted : (j : ℕ) (r : Record) → t j ≡ Some r → not (holds (λ r. eqb r.v (st r.p).committed) (t j)) ≡ true → ¬ (r.v ≡ (st r.p).committed)
       uncommitted j r e n q = never n (not_yes (holds_of (λ r. eqb r.v (st r.p).committed) e (eq-eqb r.v _ q)))
 
       of_used : (m : ℕ) (r : Record) → r.p ≡ m → ¬ (r.v ≡ (st r.p).committed) → (r.v ≡ (st r.p).committed) ⊎ ((in_flight (st r.p) ≡ true) × (is_written (st r.p) ≡ true) × (r.v ≡ (st r.p).used)) → r.v ≡ (st m).used
@@ -192,7 +192,7 @@ module _
       (λ y. let x = (holds_exactly (λ r. eqb r.p m) (t j)).0 y in rw (y, by j x.0 x.1 (eqb-true x.0.p m x.2) (kinds j x.0 l x.1)))
       (λ n. rw n)))
     where
-      by : (j : ℕ) (r : Record) → t j ≡ Holds r → r.p ≡ m → (r.v ≡ (st r.p).committed) ⊎ ((in_flight (st r.p) ≡ true) × (is_written (st r.p) ≡ true) × (r.v ≡ (st r.p).used)) → holds (λ r. eqb r.v (st r.p).committed) (t j) ≡ true
+      by : (j : ℕ) (r : Record) → t j ≡ Some r → r.p ≡ m → (r.v ≡ (st r.p).committed) ⊎ ((in_flight (st r.p) ≡ true) × (is_written (st r.p) ≡ true) × (r.v ≡ (st r.p).used)) → holds (λ r. eqb r.v (st r.p).committed) (t j) ≡ true
       by j r f p (inl q) = holds_of (λ r. eqb r.v (st r.p).committed) f (eq-eqb r.v _ q)
       by j r f p (inr x) = absurd (never (both (ap (λ (p : ℕ). in_flight (st p)) (sym p) ∙ x.0) (ap (λ (p : ℕ). is_written (st p)) (sym p) ∙ x.1)) e)
 
@@ -206,12 +206,12 @@ module _
       omega arith
     where
       below_too : (s : Slot) → (holds (λ r. ltb r.p (suc m)) s && holds (λ r. ltb r.p m) s) ≡ holds (λ r. ltb r.p m) s
-      below_too Blank = refl
-      below_too (Holds r) = on_lt r.p m (λ l. rw (lt-ltb r.p m l, lt-ltb r.p (suc m) (omega arith))) (λ l. rw (le-ltb r.p m l) (on_test (ltb r.p (suc m)) (λ e. rw e) (λ e. rw e)))
+      below_too None = refl
+      below_too (Some r) = on_lt r.p m (λ l. rw (lt-ltb r.p m l, lt-ltb r.p (suc m) (omega arith))) (λ l. rw (le-ltb r.p m l) (on_test (ltb r.p (suc m)) (λ e. rw e) (λ e. rw e)))
 
       just_of : (s : Slot) → (holds (λ r. ltb r.p (suc m)) s && not (holds (λ r. ltb r.p m) s)) ≡ holds (λ r. eqb r.p m) s
-      just_of Blank = refl
-      just_of (Holds r) =
+      just_of None = refl
+      just_of (Some r) =
           on_lt r.p m
           (λ l. rw (lt-ltb r.p m l, lt-ltb r.p (suc m) (omega arith), ne_eqb r.p m (λ q. omega arith)))
           (λ l. on_eq r.p m
@@ -223,8 +223,8 @@ module _
   up_to zero h = ap length (list_none _ S (λ k l. none (t k)))
     where
       none : (s : Slot) → holds (λ r. ltb r.p 0) s ≡ false
-      none Blank = refl
-      none (Holds r) = le-ltb r.p 0 (omega arith)
+      none None = refl
+      none (Some r) = le-ltb r.p 0 (omega arith)
   up_to (suc m) h =
       let rest = up_to m (omega arith) in
       let more = one_more_lem m in
@@ -238,6 +238,6 @@ module _
   unfolding records_in written_pages count below_page is_blank holds
   bare_count = count_same _ (below_page P) S (λ k h. all_below_lem (t k) (λ r e. page_below k r h e)) ∙ up_to P (omega arith)
     where
-      all_below_lem : (s : Slot) → ((r : Record) → s ≡ Holds r → r.p < P) → not (is_blank s) ≡ holds (λ r. ltb r.p P) s
-      all_below_lem Blank g = refl
-      all_below_lem (Holds r) g = sym (lt-ltb r.p P (g r refl))
+      all_below_lem : (s : Slot) → ((r : Record) → s ≡ Some r → r.p < P) → not (is_blank s) ≡ holds (λ r. ltb r.p P) s
+      all_below_lem None g = refl
+      all_below_lem (Some r) g = sym (lt-ltb r.p P (g r refl))

@@ -14,8 +14,8 @@ use Rattle.sizes.specs.declared.Layout.TheVariants.{FiveWords}
 use Rattle.sizes.specs.declared.Sizes.{Sizes}
 use Rattle.sizes.specs.Blocks.{in_block}
 use Rattle.record.specs.declared.Record.{Record}
-use Rattle.record.specs.declared.Slot.{Slot}
-use Rattle.record.specs.declared.Slot.TheVariants.{Blank, Holds}
+use Rattle.record.specs.Slot.{Slot}
+use Rattle.std.specs.Prelude.{None, Some}
 use Rattle.record.specs.Slot.{slot_at, bytes_at, is_blank}
 use Rattle.record.specs.SlotLaws.{is_blank_exactly, not_blank_exactly}
 use Rattle.record.specs.FlashLaws.{SizedIn, SameSlot}
@@ -50,13 +50,13 @@ module _ (sizes : Sizes) (v : Volume) (block : Block) where
   unfolding clean_to blank_outside
   to_rises = list_rises _ sizes.slots
 
-  to_facts : (k : ℕ) → Memᴰ k (clean_to sizes v block) → (k < sizes.slots) × (slot_at v.flash.words k ≡ Blank) × (in_block block k ≡ false)
+  to_facts : (k : ℕ) → Memᴰ k (clean_to sizes v block) → (k < sizes.slots) × (slot_at v.flash.words k ≡ None) × (in_block block k ≡ false)
   unfolding clean_to blank_outside
   to_facts k m =
       let p = (list_members (λ k. is_blank (slot_at v.flash.words k) && not (in_block block k)) sizes.slots k).0 m in
       (p.0, (is_blank_exactly (slot_at v.flash.words k)).0 (both_left (is_blank (slot_at v.flash.words k)) (not (in_block block k)) p.1), not-true (in_block block k) (both_right (is_blank (slot_at v.flash.words k)) (not (in_block block k)) p.1))
 
-  to_of : (k : ℕ) → k < sizes.slots → slot_at v.flash.words k ≡ Blank → in_block block k ≡ false → Memᴰ k (clean_to sizes v block)
+  to_of : (k : ℕ) → k < sizes.slots → slot_at v.flash.words k ≡ None → in_block block k ≡ false → Memᴰ k (clean_to sizes v block)
   unfolding clean_to blank_outside
   to_of k h e o = (list_members (λ k. is_blank (slot_at v.flash.words k) && not (in_block block k)) sizes.slots k).1 (h, both ((is_blank_exactly (slot_at v.flash.words k)).1 e) (not_no o))
 
@@ -93,7 +93,7 @@ module _
   t' = slot_at u.flash.words
 
   -- a slot that holds a copy of what k held is k's twin, where k is as it was
-  twin_there : (j k : ℕ) (r : Record) → j < S → k < S → t k ≡ Holds r → SameSlot FiveWords w v.flash u.flash k → HoldsAt sizes u.flash j r v.flash k → twins w u.flash j k ≡ true
+  twin_there : (j k : ℕ) (r : Record) → j < S → k < S → t k ≡ Some r → SameSlot FiveWords w v.flash u.flash k → HoldsAt sizes u.flash j r v.flash k → twins w u.flash j k ≡ true
   twin_there j k r hj hk e s c =
       let whole = bytes_whole w S u.flash size' in
       (twins_exactly w u.flash j k (whole j hj) (whole k hk)).1 (r, c.0, s.same_slot ∙ e, c.1 ∙ sym s.same_bytes)
@@ -120,7 +120,7 @@ module _
         }
 
     -- what the old rule allowed it allows
-    still_erasable : (k : ℕ) (r : Record) → k < S → in_block block k ≡ true → t' k ≡ Holds r → erasable sizes v k ≡ true → erasable sizes u k ≡ true
+    still_erasable : (k : ℕ) (r : Record) → k < S → in_block block k ≡ true → t' k ≡ Some r → erasable sizes v k ≡ true → erasable sizes u k ≡ true
     still_erasable k r h i e o =
         permitted_may_erase S t' (bytes_at w u.flash.contents) (state_at u.state) (twins w u.flash) k r e
         (still_permitted erased core (state_at u.state) same_committed at_rest_lem r (bytes_at w u.flash.contents k) (k, h, e, refl)
@@ -136,10 +136,10 @@ module _
       unaltered : SameSlot FiveWords w v.flash u.flash k
       unaltered = first.block_same k facts.within
 
-      held : (r : Record) × (t' k ≡ Holds r)
+      held : (r : Record) × (t' k ≡ Some r)
       held = (not_blank_exactly (t' k)).0 facts.full
 
-      was : t k ≡ Holds held.0
+      was : t k ≡ Some held.0
       was = sym unaltered.same_slot ∙ held.1
 
       was_barred : clean.may sizes v block size sound k ≡ false
@@ -200,7 +200,7 @@ module _
         let c = clean.copied_facts sizes u block size' sound' k m in
         let r = (not_blank_exactly (t' k)).0 c.full in
         let s = all.all_left.inside_same k r.0 c.within r.1 in
-        let was : t k ≡ Holds r.0 = sym s.same_slot ∙ r.1 in
+        let was : t k ≡ Some r.0 = sym s.same_slot ∙ r.1 in
         never
         (may_of sizes u block size' sound' k
         (⊎_elim

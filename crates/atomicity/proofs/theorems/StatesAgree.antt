@@ -6,8 +6,8 @@ use Rattle.bounded.specs.Choice.{never}
 use Rattle.bounded.specs.BelowLaws.{max_bound}
 use Rattle.sizes.specs.declared.Sizes.{Sizes}
 use Rattle.record.specs.declared.Record.{Record}
-use Rattle.record.specs.declared.Slot.{Slot}
-use Rattle.record.specs.declared.Slot.TheVariants.{Blank, Holds}
+use Rattle.record.specs.Slot.{Slot}
+use Rattle.std.specs.Prelude.{None, Some}
 use Rattle.record.specs.Slot.{slot_in, bytes_at}
 use Rattle.state.specs.declared.PageState.{PageState}
 use Rattle.state.specs.State.{state_at}
@@ -31,7 +31,7 @@ live_agrees {F} T widths sizes v m l =
     record {
       same_committed = λ p h. T.committed_found_lem _ _ _ _ _ _ l.core p h;
       used_covers = λ p h. max_bound (λ k. mentioned p (slot_in F.layout v.flash.words k)) sizes.slots (state_at v.state p).used (λ k i. at p k i (slot_in F.layout v.flash.words k) refl);
-      planned_covers = λ q h f p i. subst (λ (r : Record). mentioned p (Holds r) ≤ (st p).used) (sym (T.plan_is st q)) (covered p (plan (pointing_view T.back) st q) (at_plan q) (next_plan q));
+      planned_covers = λ q h f p i. subst (λ (r : Record). mentioned p (Some r) ≤ (st p).used) (sym (T.plan_is st q)) (covered p (plan (pointing_view T.back) st q) (at_plan q) (next_plan q));
     }
   where
     st : ℕ → PageState
@@ -42,7 +42,7 @@ live_agrees {F} T widths sizes v m l =
     here false n u f = omega arith
 
     -- a record whose version and link are not above their pages' used ones mentions none above
-    covered : (p : ℕ) (r : Record) → r.v ≤ (st r.p).used → r.nv ≤ (st r.np).used → mentioned p (Holds r) ≤ (st p).used
+    covered : (p : ℕ) (r : Record) → r.v ≤ (st r.p).used → r.nv ≤ (st r.np).used → mentioned p (Some r) ≤ (st p).used
     covered p r w1 w2 =
         let a = here (eqb r.p p) r.v (st p).used (λ t. subst (λ (x : ℕ). r.v ≤ (st x).used) (eqb-true r.p p t) w1) in
         let b = here (eqb r.np p) r.nv (st p).used (λ t. subst (λ (x : ℕ). r.nv ≤ (st x).used) (eqb-true r.np p t) w2) in
@@ -55,8 +55,8 @@ live_agrees {F} T widths sizes v m l =
     next_plan q = let a = ap (λ (x : ℕ). (st x).used) (plan_next (pointing_view T.back) st q) in let b = plan_next_version (pointing_view T.back) st q in omega arith
 
     at : (p k : ℕ) → k < sizes.slots → (s : Slot) → slot_in F.layout v.flash.words k ≡ s → mentioned p s ≤ (st p).used
-    at p k i Blank e = omega arith
-    at p k i (Holds r) e =
+    at p k i None e = omega arith
+    at p k i (Some r) e =
         let u = l.live.within_used in
         covered p r (u.version_used r (bytes_at sizes.width v.flash.contents k) (k, i, e, refl)) (u.link_used r (bytes_at sizes.width v.flash.contents k) (k, i, e, refl))
 

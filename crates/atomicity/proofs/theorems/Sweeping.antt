@@ -9,7 +9,7 @@ use Rattle.bounded.specs.Choice.{never}
 use Rattle.sizes.specs.declared.Layout.TheVariants.{FiveWords}
 use Rattle.sizes.specs.declared.Sizes.{Sizes}
 use Rattle.record.specs.declared.Record.{Record}
-use Rattle.record.specs.declared.Slot.TheVariants.{Holds}
+use Rattle.std.specs.Prelude.{Some}
 use Rattle.record.specs.Slot.{slot_at, bytes_at}
 use Rattle.record.specs.Flash.{Flash, Step, apply_all_in}
 use Rattle.state.specs.State.{state_at}
@@ -60,7 +60,7 @@ module _ (widths : Widths) (sizes : Sizes) (v : Volume) (m : Model) (k : Known b
       (none_left widths sizes v sweep_done)
 
   -- what it leaves has no obsolete record, so that what it blanked is sorted into its erasures
-  none_obsolete_left : (j : ℕ) (r : Record) → j < sizes.slots → slot_at (sweep_outcome widths sizes v).left.words j ≡ Holds r → r.v < (state_at v.state r.p).committed → ⊥
+  none_obsolete_left : (j : ℕ) (r : Record) → j < sizes.slots → slot_at (sweep_outcome widths sizes v).left.words j ≡ Some r → r.v < (state_at v.state r.p).committed → ⊥
   unfolding perform with_flash suggestible back_pointer_lem
   none_obsolete_left =
       let s = swept_known in

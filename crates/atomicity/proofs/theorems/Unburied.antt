@@ -16,8 +16,8 @@ use Rattle.sizes.specs.declared.Sizes.{Sizes}
 use Rattle.sizes.specs.Sizes.{list_ok}
 use Rattle.sizes.specs.Lists.{list_facts}
 use Rattle.record.specs.declared.Record.{Record}
-use Rattle.record.specs.declared.Slot.{Slot}
-use Rattle.record.specs.declared.Slot.TheVariants.{Blank, Holds}
+use Rattle.record.specs.Slot.{Slot}
+use Rattle.std.specs.Prelude.{None, Some}
 use Rattle.record.specs.Slot.{slot_in, bytes_at, is_blank, holds}
 use Rattle.record.specs.SlotLaws.{holds_exactly}
 use Rattle.record.specs.Flash.{Flash, Step, apply_all_in}
@@ -106,7 +106,7 @@ module _ (sizes : Sizes) (f : Flash) (st : ℕ → PageState) (m : Model) (l : L
   abbrev planned : ℕ → Record
   planned q = plan (pointing_view (λ u c. 0)) st q
 
-  link_current : (k : ℕ) (J : Record) → k < S → slots k ≡ Holds J → in_flight (st J.p) ≡ true → J.v ≡ (st J.p).used → J.nv ≡ (st J.np).used
+  link_current : (k : ℕ) (J : Record) → k < S → slots k ≡ Some J → in_flight (st J.p) ≡ true → J.v ≡ (st J.p).used → J.nv ≡ (st J.np).used
   unfolding simple_theory
   link_current k J h e flies u =
       let below = page_below sizes.pages S slots k J (table_sound_lem (λ u c. 0) l.core.shared) h e in
@@ -115,7 +115,7 @@ module _ (sizes : Sizes) (f : Flash) (st : ℕ → PageState) (m : Model) (l : L
       let here = x.1 in
       let same : k ≡ here.0 =
       l.apart k here.0 J (planned J.p) h here.1 e here.2 (sym (plan_page (pointing_view (λ u c. 0)) st J.p)) (u ∙ sym (plan_version (pointing_view (λ u c. 0)) st J.p)) in
-      let is : Holds J ≡ Holds (planned J.p) = sym e ∙ ap slots same ∙ here.2 in
+      let is : Some J ≡ Some (planned J.p) = sym e ∙ ap slots same ∙ here.2 in
       let is_plan : J ≡ planned J.p = cc in
       let a = ap (λ (r : Record). r.nv) is_plan ∙ plan_next_version (pointing_view (λ u c. 0)) st J.p in
       let b = ap (λ (r : Record). r.np) is_plan ∙ plan_next (pointing_view (λ u c. 0)) st J.p in
@@ -127,7 +127,7 @@ module _ (sizes : Sizes) (f : Flash) (st : ℕ → PageState) (m : Model) (l : L
       let w = (buried_exactly S slots st p).0 b in
       by w.0 w.1 w.2 w.3 w.4.0 w.4.1
     where
-      at_used : (k : ℕ) (J : Record) → k < S → slots k ≡ Holds J → (st J.p).committed < J.v → (in_flight (st J.p) ≡ true) × (J.v ≡ (st J.p).used)
+      at_used : (k : ℕ) (J : Record) → k < S → slots k ≡ Some J → (st J.p).committed < J.v → (in_flight (st J.p) ≡ true) × (J.v ≡ (st J.p).used)
       at_used k J h e x =
           on_test (is_exposed st J && not (is_current st J))
           (λ y. absurd (none k h ((holds_exactly (λ r. is_exposed st r && not (is_current st r)) (slots k)).1 (J, e, y))))
@@ -139,7 +139,7 @@ module _ (sizes : Sizes) (f : Flash) (st : ℕ → PageState) (m : Model) (l : L
               (λ z. (current_exactly st J).0 z)
               (λ z. absurd (never ((exposed_spare_exactly st J).1 (x, λ c. never ((current_exactly st J).1 c) z)) y))
 
-      by : (k : ℕ) (J : Record) → k < S → slots k ≡ Holds J → (st J.p).committed < J.v → ((J.p ≡ p) × (J.v < (st p).used)) ⊎ ((J.np ≡ p) × (J.nv < (st p).used)) → ⊥
+      by : (k : ℕ) (J : Record) → k < S → slots k ≡ Some J → (st J.p).committed < J.v → ((J.p ≡ p) × (J.v < (st p).used)) ⊎ ((J.np ≡ p) × (J.nv < (st p).used)) → ⊥
       by k J h e x (inl y) = let c = (at_used k J h e x).1 in let q = ap (λ (n : ℕ). (st n).used) y.0 in let z = y.1 in omega arith
       by k J h e x (inr y) =
           let c = at_used k J h e x in

@@ -1,4 +1,4 @@
-use Prim.Native.Nat.{ℕ, ◌+◌, ◌*◌, ◌-◌}
+use Prim.Native.Nat.{ℕ, ◌+◌, ◌*◌}
 use native.Mathlib.Omega.{arith}
 use mathlib.Core.Path.{◌≡◌, sym, ap, ap₂, ◌∙◌}
 use lib.ListN.{length}
@@ -9,7 +9,7 @@ use Rattle.bits.specs.BitsLaws.{bit_at_most_one, sum_of_ones}
 use Rattle.bits.proofs.count_bits.Goals as goal
 
 pub loop-s-init : goal.loop-s-init
-loop-s-init c = (omega arith, sym (sum_zero (bit_at c.args.bytes.now)))
+loop-s-init c = sym (sum_zero (bit_at c.args.bytes.now))
 
 pub overflow_add-set : goal.overflow_add-set
 overflow_add-set c = let bytes = c.args.bytes.now in
@@ -19,11 +19,11 @@ overflow_add-set c = let bytes = c.args.bytes.now in
 pub loop-s-preserved : goal.loop-s-preserved
 loop-s-preserved c = let bytes = c.args.bytes.now in
     let l = c.loop-s in
-    (omega arith, ap₂ ◌+◌ l.invariant.1 c.bit-set.ensures ∙ sym (sum_more l.s (bit_at bytes)))
+    ap₂ ◌+◌ l.invariant c.bit-set.ensures ∙ sym (sum_more l.s (bit_at bytes))
 
 pub returns : goal.returns
 unfolding set_bits
 returns c = let bytes = c.args.bytes.now in
     let l = c.loop-s in
     let e : l.s ≡ 8 * length bytes = omega arith in
-    l.invariant.1 ∙ ap (λ (n : ℕ). sum_below n (bit_at bytes)) e
+    l.invariant ∙ ap (λ (n : ℕ). sum_below n (bit_at bytes)) e

@@ -9,13 +9,13 @@ returns-in_default c = chained_blank _ _ _ _ c.requires.chained (sym c.slot_in.e
 
 pub bounds-chains-chain : goal.bounds-chains-chain
 bounds-chains-chain c = let e = c.chain_of-chain.ensures in
-    omega (arith, chain_below c.args.key c.in-Holds.record)
+    omega (arith, chain_below c.args.key c.in-Some.record)
 
 pub bounds-chains-chain-2 : goal.bounds-chains-chain-2
 bounds-chains-chain-2 c = let e = c.chain_of-chain.ensures in
-    omega (arith, chain_below c.args.key c.in-Holds.record)
+    omega (arith, chain_below c.args.key c.in-Some.record)
 
 pub returns : goal.returns
 returns c = let p = c.requires in
     rw c.chain_of-chain.ensures
-    (chained_record _ _ _ _ p.chained c.in-Holds.record (sym c.slot_in.ensures ∙ c.in-Holds.is) p.k_bound)
+    (chained_record _ _ _ _ p.chained c.in-Some.record (sym c.slot_in.ensures ∙ c.in-Some.is) p.k_bound)

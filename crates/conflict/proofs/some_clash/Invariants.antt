@@ -1,5 +1,4 @@
 -- The invariant: no two slots below k clash, and they are chained by page and version.
-use Prim.Native.Nat.{◌≤◌, ◌-◌}
 use mathlib.Core.Path.{◌≡◌}
 use mathlib.Core.Bool.{false}
 use Rattle.bounded.specs.Below.{some_below}
@@ -10,9 +9,5 @@ use Rattle.chain.specs.Chain.{Chained}
 use Rattle.conflict.proofs.some_clash.Given as goal
 
 abbrev pub invariant-loop-k : goal.invariant-loop-k
-invariant-loop-k l = (l.k ≤ l.slots)
-    × (some_below l.k (λ i. some_below i (λ j. clash (slot_in l.layout l.words j) (slot_in l.layout l.words i))) ≡ false)
+invariant-loop-k l = (some_below l.k (λ i. some_below i (λ j. clash (slot_in l.layout l.words j) (slot_in l.layout l.words i))) ≡ false)
     × Chained Version l.k (slot_in l.layout l.words) l.chains
-
-abbrev pub decreases-loop-k : goal.decreases-loop-k
-decreases-loop-k l = l.slots - l.k

@@ -8,16 +8,17 @@ use Rattle.twins.specs.Twins.{some_conflict}
 use Rattle.twins.proofs.TwinsLaws.{none_clashes}
 use Rattle.chain.proofs.ChainLaws.{chained_none, chained_blank, blank_clashes_none}
 use Rattle.conflict.proofs.some_conflict.Goals as goal
+use Rattle.conflict.proofs.some_conflict.Goals.{in-Some+else-conflicts_below, in_default}
 
 pub loop-k-init : goal.loop-k-init
 unfolding some_conflict
-loop-k-init c = (omega arith, some_zero _, chained_none _ _ 2048 refl)
+loop-k-init c = (some_zero _, chained_none _ _ 2048 refl)
 
 pub conflicts_below-requires : goal.conflicts_below-requires
 conflicts_below-requires c = let l = c.loop-k in
     let i = part_inside c.args.sizes.width c.args.sizes.slots l.k c.loop-k-test.true in
     let m = c.requires.slots_bound in
-    record { k_in_bounds = omega arith; width_in_bounds = omega arith; k_bound = omega arith; contents_value = l.invariant.1; chained = l.invariant.2 }
+    record { k_in_bounds = omega arith; width_in_bounds = omega arith; k_bound = omega arith; contents_value = l.invariant.0; chained = l.invariant.1 }
 
 pub returns-then-conflicts_below : goal.returns-then-conflicts_below
 unfolding some_conflict
@@ -26,23 +27,22 @@ returns-then-conflicts_below c = sym (some_of _ _ c.loop-k.k c.loop-k-test.true 
 pub link_slot-requires : goal.link_slot-requires
 link_slot-requires c = let l = c.loop-k in
     let m = c.requires.slots_bound in
-    record { layout_in_bounds = omega arith; k_bound = omega arith; chained = l.invariant.2 }
-
-pub loop-k-preserved : goal.loop-k-preserved
-unfolding some_conflict
-loop-k-preserved c = let l = c.loop-k in
-    (omega arith, some_more _ _ l.invariant.1 (sym c.conflicts_below.ensures ∙ c.if-conflicts_below.false), c.link_slot.ensures)
+    record { layout_in_bounds = omega arith; k_bound = omega arith; chained = l.invariant.1 }
 
 -- a blank slot conflicts with none, and is in no chain
-pub loop-k-preserved-in_default : goal.loop-k-preserved-in_default
+pub loop-k-preserved : goal.loop-k-preserved
 unfolding some_conflict
-loop-k-preserved-in_default c = let a = c.args in
+loop-k-preserved c = let a = c.args in
     let l = c.loop-k in
-    let blank = sym c.slot_at.ensures ∙ c.in_default.is in
-    let none = (blank_clashes_none _ _ blank).tells ∙ le-ltb 0 0 (omega arith) in
-    (omega arith, some_more _ _ l.invariant.1 (none_clashes a.sizes.width (flash a.words.now a.contents.now) l.k none), chained_blank _ _ _ _ l.invariant.2 blank)
+    elim c.match-slot_at.branch [
+      | in-Some+else-conflicts_below w ↦ (some_more _ _ l.invariant.0 (sym w.conflicts_below.ensures ∙ w.if-conflicts_below.false), rw w.chains-is w.link_slot.ensures)
+      | in_default w ↦
+          let blank = sym c.slot_at.ensures ∙ w.in_default.is in
+          let none = (blank_clashes_none _ _ blank).tells ∙ le-ltb 0 0 (omega arith) in
+          (some_more _ _ l.invariant.0 (none_clashes a.sizes.width (flash a.words.now a.contents.now) l.k none), rw w.chains-is (chained_blank _ _ _ _ l.invariant.1 blank))
+    ]
 
 pub returns : goal.returns
 returns c = let l = c.loop-k in
     let e : l.k ≡ c.args.sizes.slots = omega arith in
-    sym (rw e at l.invariant.1)
+    sym (rw e at l.invariant.0)

@@ -1,5 +1,4 @@
 -- The invariant: no two slots below k conflict, and they are chained by page and version.
-use Prim.Native.Nat.{◌≤◌, ◌-◌}
 use mathlib.Core.Path.{◌≡◌}
 use mathlib.Core.Bool.{false}
 use Rattle.record.specs.Slot.{slot_at}
@@ -10,9 +9,5 @@ use Rattle.chain.specs.Chain.{Chained}
 use Rattle.conflict.proofs.some_conflict.Given as goal
 
 abbrev pub invariant-loop-k : goal.invariant-loop-k
-invariant-loop-k l = (l.k ≤ l.sizes.slots)
-    × (some_conflict l.k (slot_at l.words) (twins l.sizes.width (flash l.words l.contents)) ≡ false)
+invariant-loop-k l = (some_conflict l.k (slot_at l.words) (twins l.sizes.width (flash l.words l.contents)) ≡ false)
     × Chained Version l.k (slot_at l.words) l.chains
-
-abbrev pub decreases-loop-k : goal.decreases-loop-k
-decreases-loop-k l = l.sizes.slots - l.k

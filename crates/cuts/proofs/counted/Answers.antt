@@ -1,7 +1,7 @@
 -- The buffers have room for the volume, and formatted they are what the run begins with.
 use native.Mathlib.Omega.{arith}
 use mathlib.Core.Path.{ap, ◌∙◌}
-use mathlib.Core.Option.{map}
+use Rattle.std.proofs.Common.{option_map}
 use lib.ListN.{drop}
 use Rattle.bounded.specs.Limits.{two_widths}
 use Rattle.cutpoint.specs.Judged.{tallied}
@@ -43,4 +43,4 @@ pub returns : goal.returns
 returns c = let a = c.args in
     let f = c.format in
     let e = begins a.sizes c.requires.sizes_value f.result _ _ _ f.ensures f.auto.words f.auto.contents f.auto.state in
-    record { finds = c.run.ensures.finds ∙ ap (λ (d : Desk). map (tallied none_yet) (run_from two_widths a.sizes a.trial d 1 (said_in (drop a.from a.text.now)))) e; few = c.run.ensures.few }
+    record { finds = c.run.ensures.finds ∙ ap (λ (d : Desk). option_map (tallied none_yet) (run_from two_widths a.sizes a.trial d 1 (said_in (drop a.from a.text.now)))) e; few = c.run.ensures.few }

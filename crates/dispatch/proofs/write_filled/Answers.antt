@@ -6,4 +6,4 @@ use Rattle.dispatch.proofs.write_filled.Goals as goal
 
 pub returns : goal.returns
 returns c = c.write.ensures
-    ∙ filled_write two_widths _ _ _ _ _ _ _ width_most c.least-n.ensures
+    ∙ filled_write two_widths _ _ _ _ _ _ _ width_most c.min-n.ensures

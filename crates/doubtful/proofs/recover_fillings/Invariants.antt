@@ -1,5 +1,5 @@
 -- The invariant: the fillings below m are noted.
-use Prim.Native.Nat.{◌≤◌, ◌-◌}
+use Prim.Native.Nat.{◌≤◌}
 use mathlib.Core.Path.{◌≡◌}
 use lib.ListN.{length}
 use Rattle.bounded.specs.Limits.{two_widths}
@@ -8,12 +8,8 @@ use Rattle.doubtful.specs.Ends.{FillingsNoted}
 use Rattle.doubtful.proofs.recover_fillings.Given as goal
 
 abbrev pub invariant-loop-m : goal.invariant-loop-m
-invariant-loop-m l = (l.m ≤ l.total)
-    × (l.count ≤ l.m)
+invariant-loop-m l = (l.count ≤ l.m)
     × (length l.filled ≡ length l.initial.filled)
     × (length l.state ≡ length l.initial.state)
     × (length l.out ≡ length l.initial.out)
-    × FillingsNoted two_widths l.sizes (flash l.words l.contents) l.list l.initial.out l.m l.count l.out
-
-abbrev pub decreases-loop-m : goal.decreases-loop-m
-decreases-loop-m l = l.total - l.m
+    × FillingsNoted two_widths l.fn.sizes (flash l.words l.contents) l.list l.initial.out l.m l.count l.out

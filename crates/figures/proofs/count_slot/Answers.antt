@@ -12,11 +12,11 @@ returns-in_default c = let p = c.requires in
 
 pub is_obsolete-requires : goal.is_obsolete-requires
 is_obsolete-requires c = let p = c.requires in
-    p.countable.within.pages_in_lem _ _ p.k_lt_slots (sym c.slot_at.ensures ∙ c.in-Holds.is)
+    p.countable.within.pages_in_lem _ _ p.k_lt_slots (sym c.slot_at.ensures ∙ c.in-Some.is)
 
 pub returns-then-not-is_obsolete : goal.returns-then-not-is_obsolete
 returns-then-not-is_obsolete c = let p = c.requires in
-    not_obsolete _ _ _ _ p.before_value (holds_record _ (sym c.slot_at.ensures ∙ c.in-Holds.is) ∙ told c.is_obsolete.ensures c.if-not-is_obsolete.true)
+    not_obsolete _ _ _ _ p.before_value (holds_record _ (sym c.slot_at.ensures ∙ c.in-Some.is) ∙ told c.is_obsolete.ensures c.if-not-is_obsolete.true)
 
 pub overflow_add-all : goal.overflow_add-all
 overflow_add-all c = let p = c.requires in
@@ -26,18 +26,18 @@ overflow_add-all c = let p = c.requires in
 pub returns-then-may_erase : goal.returns-then-may_erase
 returns-then-may_erase c = let p = c.requires in
     one_spare _ _ _ _ p.before_value
-    (sym c.slot_at.ensures ∙ c.in-Holds.is)
+    (sym c.slot_at.ensures ∙ c.in-Some.is)
     (told c.is_obsolete.ensures c.if-not-is_obsolete.false)
     p.countable.all_found c.may_erase.ensures c.if-may_erase.true
 
-pub overflow_add-needed : goal.overflow_add-needed
-overflow_add-needed c = let p = c.requires in
+pub overflow_add-result : goal.overflow_add-result
+overflow_add-result c = let p = c.requires in
     let m = (obsolete_most _ _ _ _ p.before_value).1 in
     omega arith
 
-pub returns : goal.returns
-returns c = let p = c.requires in
+pub returns-else-may_erase : goal.returns-else-may_erase
+returns-else-may_erase c = let p = c.requires in
     one_needed _ _ _ _ p.before_value
-    (sym c.slot_at.ensures ∙ c.in-Holds.is)
+    (sym c.slot_at.ensures ∙ c.in-Some.is)
     (told c.is_obsolete.ensures c.if-not-is_obsolete.false)
     p.countable.all_found c.may_erase.ensures c.if-may_erase.false

@@ -1,4 +1,3 @@
-use Prim.Native.Nat.{◌-◌}
 use native.Mathlib.Omega.{arith}
 use mathlib.Core.Path.{◌≡◌, ap, ◌∙◌}
 use Rattle.figures.specs.Counting.{obsolete_below}
@@ -6,15 +5,15 @@ use Rattle.figures.specs.CountingLaws.{none_obsolete}
 use Rattle.figures.proofs.obsolete_records.Goals as goal
 
 pub loop-k-init : goal.loop-k-init
-loop-k-init c = (omega arith, none_obsolete _ _ _)
+loop-k-init c = none_obsolete _ _ _
 
 pub count_slot-count-requires : goal.count_slot-count-requires
-count_slot-count-requires c = record { countable = c.requires; k_lt_slots = c.loop-k-test.true; before_value = c.loop-k.invariant.1 }
+count_slot-count-requires c = record { countable = c.requires; k_lt_slots = omega arith; before_value = c.loop-k.invariant }
 
 pub loop-k-preserved : goal.loop-k-preserved
-loop-k-preserved c = (omega arith, c.count_slot-count.ensures)
+loop-k-preserved c = c.count_slot-count.ensures
 
 pub returns : goal.returns
 returns c = let l = c.loop-k in
     let e : l.k ≡ c.args.slots = omega arith in
-    l.invariant.1 ∙ ap (obsolete_below _ _ _) e
+    l.invariant ∙ ap (obsolete_below _ _ _) e

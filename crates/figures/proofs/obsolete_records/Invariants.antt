@@ -1,5 +1,4 @@
 -- The invariant: those of the slots below k are counted.
-use Prim.Native.Nat.{◌≤◌, ◌-◌}
 use mathlib.Core.Path.{◌≡◌}
 use Rattle.record.specs.Slot.{slot_at}
 use Rattle.state.specs.State.{state_at}
@@ -7,7 +6,4 @@ use Rattle.figures.specs.Counting.{obsolete_below}
 use Rattle.figures.proofs.obsolete_records.Given as goal
 
 abbrev pub invariant-loop-k : goal.invariant-loop-k
-invariant-loop-k l = (l.k ≤ l.slots) × (l.count ≡ obsolete_below l.slots (slot_at l.words) (state_at l.state) l.k)
-
-abbrev pub decreases-loop-k : goal.decreases-loop-k
-decreases-loop-k l = l.slots - l.k
+invariant-loop-k l = l.count ≡ obsolete_below l.slots (slot_at l.words) (state_at l.state) l.k

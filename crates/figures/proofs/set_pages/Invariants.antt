@@ -1,5 +1,4 @@
 -- The invariant: of the pages below this one so many are set.
-use Prim.Native.Nat.{◌≤◌, ◌-◌}
 use mathlib.Core.Path.{◌≡◌}
 use lib.ListN.{length}
 use Rattle.state.specs.State.{state_at}
@@ -7,7 +6,4 @@ use Rattle.fleet.specs.Figures.{set_pages}
 use Rattle.figures.proofs.set_pages.Given as goal
 
 abbrev pub invariant-loop-page : goal.invariant-loop-page
-invariant-loop-page l = (l.page ≤ l.pages) × (l.count ≡ length (set_pages l.page (state_at l.state)))
-
-abbrev pub decreases-loop-page : goal.decreases-loop-page
-decreases-loop-page l = l.pages - l.page
+invariant-loop-page l = l.count ≡ length (set_pages l.page (state_at l.state))

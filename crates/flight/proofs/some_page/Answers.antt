@@ -1,33 +1,33 @@
-use Prim.Native.Nat.{◌-◌}
+-- Each page that the walk asks for is listed, so it is one of the state's; what it finds is what the rules say.
 use native.Mathlib.Omega.{arith}
-use mathlib.Core.Path.{◌≡◌, sym, ap, ◌∙◌}
-use mathlib.Core.Bool.{false}
+use borrow.Author.Tests.{tests}
+use mathlib.Core.Path.{◌∙◌}
+use Prim.Native.Nat.{◌+◌, ◌*◌, ◌≤◌}
 use lib.ListN.{length}
-use Rattle.bounded.specs.BelowLaws.{some_zero, some_more, some_of}
+use Rattle.std.proofs.Common.{rules, of_calls}
+use Rattle.std.proofs.lemmas.Iterator.{YieldsList-from_slice, YieldsList-from_map}
+use Rattle.std.proofs.lemmas.Iterator.Adapters.{serves_from_places}
+use Rattle.std.proofs.lemmas.Iterator.Search.{any_from_yields_List}
+use Rattle.std.proofs.lemmas.List.{get_or_default}
+use Rattle.state.specs.State.{state_at}
 use Rattle.state.specs.Walk.{pages_in}
-use Rattle.rules.specs.Launch.{some_page}
-use Rattle.flight.specs.Bars.{barred}
+use Rattle.flight.specs.Some.{any_page}
 use Rattle.flight.proofs.some_page.Goals as goal
 
-pub loop-i-init : goal.loop-i-init
-loop-i-init c = (omega arith, some_zero _)
-
-pub page_at-requires : goal.page_at-requires
+pub any-requires-clause-can : goal.any-requires-clause-can
 unfolding pages_in
-page_at-requires c = omega (arith, c.requires.in_range_lem _ c.loop-i-test.true)
-
-pub returns-then-bars : goal.returns-then-bars
-unfolding some_page
-returns-then-bars c = sym (some_of _ _ c.loop-i.i c.loop-i-test.true (sym (c.bars.ensures ∙ ap (barred _) c.page_at.ensures) ∙ c.if-bars.true))
-
-pub loop-i-preserved : goal.loop-i-preserved
-loop-i-preserved c = (
-  omega arith,
-  some_more _ _ c.loop-i.invariant.1 (sym (c.bars.ensures ∙ ap (barred _) c.page_at.ensures) ∙ c.if-bars.false),
+any-requires-clause-can g c = (
+  tt,
+  serves_from_places (YieldsList-from_slice c.args.list.now cc) (λ x q k. search (rules, tests))
+      (λ x k h e.
+      let b = c.requires.listed.in_range_lem k h in
+      let d = get_or_default c.args.list.now k x.now 0 h in
+      let inside : 4 * x.now + 4 ≤ length c.args.state.now = omega arith in
+      search (rules, inside)),
 )
 
 pub returns : goal.returns
-unfolding some_page
-returns c = let l = c.loop-i in
-    let e : l.i ≡ length c.args.list.now = omega arith in
-    sym (rw e at l.invariant.1)
+returns g c = λ f says. any_from_yields_List f _ _ _ c.any.ensures.ran
+    (YieldsList-from_map _ (state_at c.args.state.now) (YieldsList-from_slice c.args.list.now cc) c.map.ensures.closure (λ x r q k. search (rules, tests)))
+    (λ x b q k. (g.met.F.Fn.1.step_stays c.args.passes (x, tt) b q (record { met = k.met }), says x b (search of_calls)))
+    ∙ any_page c.args.list.now (state_at c.args.state.now) f

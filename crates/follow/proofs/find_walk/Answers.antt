@@ -1,49 +1,48 @@
-use Prim.Native.Nat.{ℕ, ◌<◌, ◌≤◌, ◌-◌}
-use native.Mathlib.Omega.{arith}
-use mathlib.Core.Path.{sym, ap, ◌∙◌}
+use Rattle.std.proofs.Common.{arith, ◌≡◌, ap, ◌∙◌}
 use Rattle.follow.specs.declared.Verdict.TheVariants as says
-use Rattle.follow.proofs.WalksLaws.{one_link_on, number_most, at_start, found_committed, found_uncommitted, found_ring, found_known, found_astray, entry_tells}
+use Rattle.follow.proofs.WalksLaws.{at_start, links_most, one_link_on, found_committed, found_uncommitted, found_ring, found_known_committed, found_known_uncommitted, found_astray, committed_known, uncommitted_known}
 use Rattle.follow.proofs.find_walk.Goals as goal
 
-pub loop-number-init : goal.loop-number-init
-loop-number-init c = at_start c.requires.start_lt_pages
+pub loop-before-init : goal.loop-before-init
+loop-before-init c = at_start c.requires.start_lt_pages
 
 pub returns-in-Committed : goal.returns-in-Committed
-returns-in-Committed c = found_committed c.loop-number.invariant (sym c.verdict_at.ensures ∙ c.in-Committed.is)
+returns-in-Committed c = found_committed c.loop-before.invariant c.in-Committed.is
 
 pub returns-in-Uncommitted : goal.returns-in-Uncommitted
-returns-in-Uncommitted c = found_uncommitted c.loop-number.invariant (sym c.verdict_at.ensures ∙ c.in-Uncommitted.is)
+returns-in-Uncommitted c = found_uncommitted c.loop-before.invariant c.in-Uncommitted.is
 
 pub returns-then-next-start : goal.returns-then-next-start
-returns-then-next-start c = let says_on = sym c.verdict_at.ensures ∙ c.in-On.is in
-    found_ring c.loop-number.invariant c.requires.start_lt_pages c.requires.stays_inside (says_on ∙ ap says.On c.if-next-start.true)
+returns-then-next-start c = found_ring c.loop-before.invariant c.requires.start_lt_pages c.requires.stays_inside (c.in-On.is ∙ ap says.On c.if-next-start.true)
 
-pub number_at-known-requires : goal.number_at-known-requires
-number_at-known-requires c = let says_on = sym c.verdict_at.ensures ∙ c.in-On.is in
-    let inside : c.in-On.next < c.args.pages = c.requires.stays_inside c.loop-number.page c.in-On.next c.loop-number.invariant.inside says_on in
-    omega (arith, inside)
-
-pub overflow_add-result-then-known-ne2 : goal.overflow_add-result-then-known-ne2
-overflow_add-result-then-known-ne2 c = let says_on = sym c.verdict_at.ensures ∙ c.in-On.is in
-    let inside : c.in-On.next < c.args.pages = c.requires.stays_inside c.loop-number.page c.in-On.next c.loop-number.invariant.inside says_on in
-    let m = number_most _ _ c.requires.stays_inside _ inside (entry_tells c.requires.known inside c.number_at-known.ensures c.if-known-gt0.true) in
-    let f = c.loop-number.invariant.few in
+-- the links of a page whose end is known are P at the most
+pub overflow_add-result : goal.overflow_add-result
+overflow_add-result c = let r = c.requires in
+    let inside = r.stays_inside c.loop-before.page c.in-On.next c.loop-before.invariant.inside c.in-On.is in
+    let m = links_most _ _ r.stays_inside _ inside (committed_known r.known inside c.in-Committed-known.is) in
     omega arith
 
-pub returns-then-known-ne2 : goal.returns-then-known-ne2
-returns-then-known-ne2 c = let says_on = sym c.verdict_at.ensures ∙ c.in-On.is in
-    let inside : c.in-On.next < c.args.pages = c.requires.stays_inside c.loop-number.page c.in-On.next c.loop-number.invariant.inside says_on in
-    let t = entry_tells c.requires.known inside c.number_at-known.ensures c.if-known-gt0.true in
-    found_known c.loop-number.invariant says_on c.if-next-start.false t c.if-known-ne2.true
+pub overflow_add-result-in-Uncommitted-known : goal.overflow_add-result-in-Uncommitted-known
+overflow_add-result-in-Uncommitted-known c = let r = c.requires in
+    let inside = r.stays_inside c.loop-before.page c.in-On.next c.loop-before.invariant.inside c.in-On.is in
+    let m = links_most _ _ r.stays_inside _ inside (uncommitted_known r.known inside c.in-Uncommitted-known.is) in
+    omega arith
+
+pub returns-in-Committed-known : goal.returns-in-Committed-known
+returns-in-Committed-known c = let r = c.requires in
+    let inside = r.stays_inside c.loop-before.page c.in-On.next c.loop-before.invariant.inside c.in-On.is in
+    found_known_committed c.loop-before.invariant c.in-On.is c.if-next-start.false (committed_known r.known inside c.in-Committed-known.is)
+
+pub returns-in-Uncommitted-known : goal.returns-in-Uncommitted-known
+returns-in-Uncommitted-known c = let r = c.requires in
+    let inside = r.stays_inside c.loop-before.page c.in-On.next c.loop-before.invariant.inside c.in-On.is in
+    found_known_uncommitted c.loop-before.invariant c.in-On.is c.if-next-start.false (uncommitted_known r.known inside c.in-Uncommitted-known.is)
 
 -- past a page in a known ring, and past one with nothing yet
-pub loop-number-preserved-else-known-ne2 : goal.loop-number-preserved-else-known-ne2
-loop-number-preserved-else-known-ne2 c = let says_on = sym c.verdict_at.ensures ∙ c.in-On.is in
-    one_link_on c.loop-number.invariant says_on c.if-next-start.false c.requires.stays_inside c.loop-number-test.true
-
-pub loop-number-preserved : goal.loop-number-preserved
-loop-number-preserved c = let says_on = sym c.verdict_at.ensures ∙ c.in-On.is in
-    one_link_on c.loop-number.invariant says_on c.if-next-start.false c.requires.stays_inside c.loop-number-test.true
+pub loop-before-preserved : goal.loop-before-preserved
+loop-before-preserved c = one_link_on c.loop-before.invariant c.in-On.is c.if-next-start.false c.requires.stays_inside
 
 pub returns : goal.returns
-returns c = found_astray c.loop-number.invariant c.loop-number-test.false
+returns c = let l = c.loop-before in
+    let e : l.before ≡ c.args.pages = omega arith in
+    found_astray (rw e at l.invariant)

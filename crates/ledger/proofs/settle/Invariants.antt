@@ -1,5 +1,4 @@
 -- The pages below `page` are settled in both buffers.
-use Prim.Native.Nat.{◌≤◌, ◌-◌}
 use mathlib.Core.Path.{◌≡◌}
 use lib.ListN.{length}
 use Rattle.state.specs.State.{state_at}
@@ -7,8 +6,5 @@ use Rattle.ledger.specs.Ledger.{settled_entered, settled_kept}
 use Rattle.ledger.proofs.settle.Given as goal
 
 abbrev pub invariant-loop-page : goal.invariant-loop-page
-invariant-loop-page l = (l.page ≤ l.pages) × (l.entered ≡ settled_entered l.page (state_at l.state) l.initial.entered) × (l.kept ≡ settled_kept l.page l.done (state_at l.state) l.initial.entered l.initial.kept)
+invariant-loop-page l = (l.entered ≡ settled_entered l.page (state_at l.state) l.initial.entered) × (l.kept ≡ settled_kept l.page l.done (state_at l.state) l.initial.entered l.initial.kept)
     × (length l.entered ≡ length l.initial.entered) × (length l.kept ≡ length l.initial.kept)
-
-abbrev pub decreases-loop-page : goal.decreases-loop-page
-decreases-loop-page l = l.pages - l.page

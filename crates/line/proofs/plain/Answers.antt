@@ -1,36 +1,33 @@
 use Rattle.text.specs.Scan.{bytes}
+use Rattle.text.specs.ScanLaws.{stripped, not_stripped}
 use Rattle.line.specs.Line.{said, plain_means, on_text}
-use Rattle.line.specs.LineLaws.{text_at, text_nowhere}
 use Rattle.line.proofs.plain.Goals as goal
 
-pub returns-in-At : goal.returns-in-At
+pub returns-in-Some : goal.returns-in-Some
 unfolding bytes said plain_means on_text
-returns-in-At c l = rw (text_at c.args.line.now c.after.ensures c.in-At.is) (c.ended.ensures l)
+returns-in-Some c l = rw (stripped (bytes "op=recover") c.args.line.now c.in-Some.ensures.cases) (c.ended.ensures l)
 
-pub returns-in-At-after : goal.returns-in-At-after
+pub returns-in-Some-strip_prefix : goal.returns-in-Some-strip_prefix
 unfolding bytes said plain_means on_text
-returns-in-At-after c l = let line = c.args.line.now in
-    rw (
-      text_nowhere line c.after.ensures c.in_default.is,
-      text_at line c.after-2.ensures c.in-At-after.is,
-    )
-    (c.ended-in-At-after.ensures l)
+returns-in-Some-strip_prefix c l =
+    rw (not_stripped (bytes "op=recover") c.args.line.now c.in_default.ensures.cases, stripped (bytes "op=cut") c.args.line.now c.in-Some-strip_prefix.ensures.cases) (c.ended-in-Some-strip_prefix.ensures l)
 
-pub returns-in-At-after-2 : goal.returns-in-At-after-2
+pub returns-in_err-strip_prefix : goal.returns-in_err-strip_prefix
 unfolding bytes said plain_means on_text
-returns-in-At-after-2 c l = let line = c.args.line.now in
+returns-in_err-strip_prefix c l =
     rw (
-      text_nowhere line c.after.ensures c.in_default.is,
-      text_nowhere line c.after-2.ensures c.in_default-after.is,
-      text_at line c.after-3.ensures c.in-At-after-2.is,
+      c.from_residual.ensures,
+      not_stripped (bytes "op=recover") c.args.line.now c.in_default.ensures.cases,
+      not_stripped (bytes "op=cut") c.args.line.now c.in_default-strip_prefix.ensures.cases,
+      not_stripped (bytes "op=list") c.args.line.now c.in_err-strip_prefix.ensures.cases,
     )
-    (c.ended-in-At-after-2.ensures l)
 
 pub returns : goal.returns
 unfolding bytes said plain_means on_text
-returns c l = let line = c.args.line.now in
+returns c l =
     rw (
-      text_nowhere line c.after.ensures c.in_default.is,
-      text_nowhere line c.after-2.ensures c.in_default-after.is,
-      text_nowhere line c.after-3.ensures c.in_default-after-2.is,
+      not_stripped (bytes "op=recover") c.args.line.now c.in_default.ensures.cases,
+      not_stripped (bytes "op=cut") c.args.line.now c.in_default-strip_prefix.ensures.cases,
+      stripped (bytes "op=list") c.args.line.now c.in_ok-strip_prefix.ensures.cases,
     )
+    (c.ended-2.ensures l)

@@ -1,17 +1,13 @@
-use mathlib.Core.Path.{sym, ◌∙◌}
-use Rattle.rules.specs.Volume.{volume}
-use Rattle.listing.specs.ListingLaws.{list_refused, list_accepted}
+use mathlib.Core.Path.{sym}
+use Rattle.outcome.specs.Result.{number_positive}
+use Rattle.listing.specs.ListingLaws.{puts_refused, puts_accepted}
 use Rattle.listing.proofs.list.Goals as goal
 
-pub returns-then-answer-ne0 : goal.returns-then-answer-ne0
-returns-then-answer-ne0 c = list_refused _ _ _ _ c.list_answer-answer.ensures _ _ _
-    c.if-answer-ne0.true c.put_answer.ensures
+pub put_pages-requires : goal.put_pages-requires
+put_pages-requires c = sym c.in-Ok.ensures
 
-pub put_pages-next-requires : goal.put_pages-next-requires
-put_pages-next-requires c = sym c.list_answer-answer.ensures ∙ c.if-answer-ne0.false
+pub returns-in-Ok : goal.returns-in-Ok
+returns-in-Ok c = puts_accepted _ _ _ _ _ _ c.in-Ok.ensures c.put_pages.ensures c.put_answer.ensures
 
-pub returns : goal.returns
-returns c = let p = c.put_pages-next in
-    let a = c.args in
-    list_accepted _ _ (volume a.words.now a.contents.now a.state.now) _ c.list_answer-answer.ensures _ _ _ _ _
-    c.if-answer-ne0.false p.ensures p.auto.out c.put_answer-2.ensures
+pub returns-in-Err : goal.returns-in-Err
+returns-in-Err c = puts_refused _ _ _ _ _ _ c.in-Err.ensures (number_positive c.in-Err.refusal) (rw c.number.ensures at c.put_answer-in-Err.ensures)

@@ -1,6 +1,7 @@
-use Prim.Native.Nat.{◌-◌}
 use native.Mathlib.Omega.{arith}
-use mathlib.Core.Path.{◌≡◌, sym, ◌∙◌}
+use mathlib.Core.Path.{◌≡◌, refl, sym, ◌∙◌}
+use Rattle.std.proofs.lemmas.Result.{err_from_is_err_and}
+use Rattle.outcome.specs.Result.{number_positive, refuses, passes}
 use Rattle.rules.proofs.laws.Chains.{judged_passed, volume_spans}
 use Rattle.listing.specs.Listing.{list_answer}
 use Rattle.listing.specs.ListingLaws.{none_refused, none_more, first_found, page_answered}
@@ -10,28 +11,36 @@ pub judged-first-requires : goal.judged-first-requires
 judged-first-requires c = λ e. volume_spans _ _ _ _ (sym c.volume_fits-fits.ensures ∙ e)
 
 pub loop-page-init : goal.loop-page-init
-loop-page-init c = (omega arith, none_refused _)
+loop-page-init c = none_refused _
 
-pub read_answer-answer-requires : goal.read_answer-answer-requires
-read_answer-answer-requires c = record { spans_in = λ z. volume_spans _ _ _ _ (sym c.volume_fits-fits.ensures ∙ (judged_passed _ _ _ _ _ _ (sym c.judged-first.ensures ∙ z)).fitting); page_lt_pages = c.loop-page-test.true }
-
-pub returns-then-answer-ne0 : goal.returns-then-answer-ne0
+pub returns-in_err-first : goal.returns-in_err-first
 unfolding list_answer
-returns-then-answer-ne0 c = let l = c.loop-page in
-    first_found _ _ l.page _ l.invariant.1
-    (page_answered _ _ _ l.page _ _ _ c.volume_fits-fits.ensures c.judged-first.ensures c.read_answer-answer.ensures)
-    c.if-answer-ne0.true c.loop-page-test.true
+returns-in_err-first c = let p = err_from_is_err_and c.from_residual.result c.from_residual.ensures.1 in
+    rw (p.1, p.2)
+    (first_found _ _ c.loop-page.page _ c.loop-page.invariant
+    (page_answered _ _ _ c.loop-page.page _ _ _ c.volume_fits-fits.ensures c.in_err-first.ensures (refuses _ _ refl))
+    (number_positive _) c.loop-page-test.true)
+
+pub read_own-requires-clause-spans_in : goal.read_own-requires-clause-spans_in
+read_own-requires-clause-spans_in c =
+    volume_spans _ _ _ _ (sym c.volume_fits-fits.ensures ∙ (judged_passed _ _ _ _ _ _ (sym c.in_ok-first.ensures)).fitting)
+
+pub returns-in_err-read_own : goal.returns-in_err-read_own
+unfolding list_answer
+returns-in_err-read_own c = let p = err_from_is_err_and c.from_residual-in_err-read_own.result c.from_residual-in_err-read_own.ensures.1 in
+    rw (p.1, p.2)
+    (first_found _ _ c.loop-page.page _ c.loop-page.invariant
+    (page_answered _ _ _ c.loop-page.page _ _ _ c.volume_fits-fits.ensures c.in_ok-first.ensures (passes _ refl c.in_err-read_own.ensures))
+    (number_positive _) c.loop-page-test.true)
 
 pub loop-page-preserved : goal.loop-page-preserved
-loop-page-preserved c = let l = c.loop-page in (
-  omega arith,
-  none_more _ _ _ l.invariant.1
-      (page_answered _ _ _ l.page _ _ _ c.volume_fits-fits.ensures c.judged-first.ensures c.read_answer-answer.ensures)
-      c.if-answer-ne0.false,
-)
+loop-page-preserved c =
+    none_more _ _ _ c.loop-page.invariant
+    (page_answered _ _ _ c.loop-page.page _ _ _ c.volume_fits-fits.ensures c.in_ok-first.ensures (passes _ refl c.in_ok-read_own.ensures))
+    refl
 
 pub returns : goal.returns
 unfolding list_answer
 returns c = let l = c.loop-page in
     let e : l.page ≡ c.args.sizes.pages = omega arith in
-    sym (rw e at l.invariant.1)
+    sym (rw e at l.invariant)

@@ -1,10 +1,8 @@
-use mathlib.Core.Path.{◌∙◌}
 use Rattle.text.specs.Scan.{bytes}
+use Rattle.text.specs.PutsLaws.{puts_field}
 use Rattle.listing.specs.Listing.{answer_text}
-use Rattle.text.specs.PrintLaws.{field_next}
 use Rattle.listing.proofs.put_answer.Goals as goal
 
 pub returns : goal.returns
 unfolding answer_text bytes
-returns c = let f = c.put_field-next in
-    c.put_text.ensures ∙ field_next _ _ _ _ (bytes "answer=") _ _ f.ensures f.auto.out
+returns c = puts_field _ _ _ (bytes "answer=") _ _ c.put_field.ensures c.put_text.ensures

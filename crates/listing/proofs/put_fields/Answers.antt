@@ -1,17 +1,12 @@
-use mathlib.Core.Path.{◌∙◌}
 use Rattle.text.specs.Scan.{bytes}
+use Rattle.text.specs.PutsLaws.{puts_field}
 use Rattle.listing.specs.Listing.{fields_text}
-use Rattle.text.specs.PrintLaws.{field_next}
 use Rattle.listing.proofs.put_fields.Goals as goal
 
 pub returns : goal.returns
 unfolding fields_text bytes
-returns c = let page = c.put_field-a in
-    let version = c.put_field-b in
-    let slot = c.put_field-c in
-    let drawn = c.put_field-d in
-    c.put_state.ensures
-    ∙ field_next _ _ _ _ (bytes " drawn=") _ _ drawn.ensures drawn.auto.out
-    ∙ field_next _ _ _ _ (bytes " slot=") _ _ slot.ensures slot.auto.out
-    ∙ field_next _ _ _ _ (bytes " version=") _ _ version.ensures version.auto.out
-    ∙ field_next _ _ _ _ (bytes "page=") _ _ page.ensures page.auto.out
+returns c =
+    puts_field _ _ _ (bytes "page=") _ _ c.put_field.ensures
+    (puts_field _ _ _ (bytes " version=") _ _ c.put_field-2.ensures
+    (puts_field _ _ _ (bytes " slot=") _ _ c.put_field-3.ensures
+    (puts_field _ _ _ (bytes " drawn=") _ _ c.put_field-4.ensures c.put_state.ensures)))

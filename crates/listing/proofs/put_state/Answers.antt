@@ -6,6 +6,6 @@ pub returns-then-set : goal.returns-then-set
 unfolding state_text bytes
 returns-then-set c = rw c.if-set.true c.put_text.ensures
 
-pub returns : goal.returns
+pub returns-else-set : goal.returns-else-set
 unfolding state_text bytes
-returns c = rw c.if-set.false c.put_text-2.ensures
+returns-else-set c = rw c.if-set.false c.put_text-else-set.ensures

@@ -1,12 +1,13 @@
 -- In flight and at used, tested in this order.
-use Rattle.bounded.specs.Choice.{told}
+use Rattle.std.proofs.Common.{arith}
+use Rattle.std.proofs.lemmas.Grind.{common_steps}
 use Rattle.rules.specs.Permission.{is_current}
 use Rattle.permit.proofs.is_current.Goals as goal
 
-pub returns-then-not-in_flight : goal.returns-then-not-in_flight
+pub returns-then-in_flight : goal.returns-then-in_flight
 unfolding is_current
-returns-then-not-in_flight c = rw (← c.page_at-page.ensures, told c.in_flight.ensures c.if-not-in_flight.true)
+returns-then-in_flight c = grind (arith, common_steps)
 
-pub returns : goal.returns
+pub returns-else-in_flight : goal.returns-else-in_flight
 unfolding is_current
-returns c = rw (← c.page_at-page.ensures, told c.in_flight.ensures c.if-not-in_flight.false)
+returns-else-in_flight c = grind (arith, common_steps)

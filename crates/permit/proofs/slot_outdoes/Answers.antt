@@ -8,4 +8,4 @@ returns-in_default c = sym (holds_none _ (sym c.slot_at.ensures ∙ c.in_default
 
 pub returns : goal.returns
 returns c = c.is_outdone.ensures
-    ∙ sym (holds_record _ (sym c.slot_at.ensures ∙ c.in-Holds.is))
+    ∙ sym (holds_record _ (sym c.slot_at.ensures ∙ c.in-Some.is))

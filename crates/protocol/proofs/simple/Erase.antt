@@ -2,8 +2,8 @@
 use Rattle.std.specs.Prelude.{ℕ, ◌≡◌, List, true}
 use Rattle.std.proofs.Common.{subst}
 use Rattle.record.specs.declared.Record.{Record}
-use Rattle.record.specs.declared.Slot.{Slot}
-use Rattle.record.specs.declared.Slot.TheVariants.{Holds}
+use Rattle.record.specs.Slot.{Slot}
+use Rattle.std.specs.Prelude.{Some}
 use Rattle.state.specs.declared.PageState.{PageState}
 use Rattle.state.specs.StateLaws.{StateFacts}
 use Rattle.rules.specs.Simple.{simple_may_erase}
@@ -19,7 +19,7 @@ SimplePermitted st = Spare simple_view st
 
 -- the permission of a slot is that of its record
 pub simple_may_erase_permitted :
-    (t : ℕ → Slot) (st : ℕ → PageState) (k : ℕ) (r : Record) → simple_may_erase t st k ≡ true → t k ≡ Holds r → SimplePermitted st r
+    (t : ℕ → Slot) (st : ℕ → PageState) (k : ℕ) (r : Record) → simple_may_erase t st k ≡ true → t k ≡ Some r → SimplePermitted st r
 simple_may_erase_permitted t st k r e h =
     let w = (simple_may_erase_exactly t st k).0 e in
     let same : w.0 ≡ r = cc w.1 in

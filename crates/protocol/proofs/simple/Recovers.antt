@@ -6,8 +6,8 @@ use Rattle.std.proofs.Math.Path.{ap}
 use Rattle.bounded.specs.Below.{some_below}
 use Rattle.bounded.specs.Choice.{on_lt}
 use Rattle.record.specs.declared.Record.{Record}
-use Rattle.record.specs.declared.Slot.{Slot}
-use Rattle.record.specs.declared.Slot.TheVariants.{Holds}
+use Rattle.record.specs.Slot.{Slot}
+use Rattle.std.specs.Prelude.{Some}
 use Rattle.record.specs.Slot.{is_blank}
 use Rattle.state.specs.Change.{at_rest}
 use Rattle.table.specs.Table.{version_in, used_of}
@@ -52,7 +52,7 @@ module _ {P S : ℕ} {t : ℕ → Slot} {bytes : ℕ → List ℕ} {comm : ℕ �
   simple_walks_end = none_astray shared judged
 
   -- below an exposed highest record the second highest is the committed one
-  second_committed : (p : ℕ) (k : ℕ) → Red shared k p → (r : Record) × (second S t p ≡ Holds r) × (r.v ≡ comm p)
+  second_committed : (p : ℕ) (k : ℕ) → Red shared k p → (r : Record) × (second S t p ≡ Some r) × (r.v ≡ comm p)
   second_committed p k g =
       let c = core.shared.committed_kept p g.below in
       let e = ap comm g.is_top.of_page_lem in
@@ -75,11 +75,11 @@ module _ {P S : ℕ} {t : ℕ → Slot} {bytes : ℕ → List ℕ} {comm : ℕ �
       )
 
   -- recovery finds the record that holds the committed version
-  pub simple_committed_found : (p : ℕ) → p < P → (r : Record) × (committed_slot_of P S t p ≡ Holds r) × (r.v ≡ comm p)
+  pub simple_committed_found : (p : ℕ) → p < P → (r : Record) × (committed_slot_of P S t p ≡ Some r) × (r.v ≡ comm p)
   unfolding committed_slot_of simple_committed_slot simple_walk_of
   simple_committed_found p h = by (coloured shared p h)
     where
-      by : Green shared p ⊎ ((k : ℕ) × Red shared k p) → (r : Record) × (committed_slot_of P S t p ≡ Holds r) × (r.v ≡ comm p)
+      by : Green shared p ⊎ ((k : ℕ) × Red shared k p) → (r : Record) × (committed_slot_of P S t p ≡ Some r) × (r.v ≡ comm p)
       by (inl g) = (g.last, rw (walk_green shared judged p g) g.is_top.found, g.committed ∙ ap comm g.is_top.of_page_lem)
       by (inr w) =
           let c = second_committed p w.0 w.1 in (c.0, rw (walk_red shared judged p w.0 w.1) c.1, c.2)

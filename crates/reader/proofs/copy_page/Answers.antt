@@ -1,12 +1,14 @@
 use Prim.Native.Nat.{ℕ, ◌+◌, ◌*◌, ◌≤◌}
 use native.Mathlib.Omega.{arith}
-use mathlib.Core.Path.{◌≡◌, refl, sym, ap, ◌∙◌, subst}
+use mathlib.Core.Path.{◌≡◌, sym, ap, ◌∙◌, subst}
 use mathlib.Core.List.{List}
+use mathlib.Core.Path.{refl}
 use lib.ListN.{length}
 use borrow.Author.Tests.{lt-ltb, le-ltb}
 use Rattle.bounded.specs.PartsLaws.{part_inside}
-use Rattle.outcome.specs.Outcome.{returned}
-use Rattle.outcome.specs.Reply.{reply_refused, reply_done}
+use Rattle.outcome.specs.Reply.{outcome_of}
+use Rattle.outcome.specs.Result.{given_back, number_positive, refused, done}
+use Rattle.outcome.specs.declared.Refusal.TheVariants.{WrongList, NoCommittedRecord}
 use Rattle.record.specs.Slot.{bytes_at}
 use Rattle.table.specs.Table.{has_version}
 use Rattle.rules.specs.laws.Chains.{read_own}
@@ -14,32 +16,32 @@ use Rattle.rules.proofs.laws.Chains.{read_chain, judged_passed, judged_refuses, 
 use Rattle.rules.specs.Read.{read_slot_in, read_outcome_in}
 use Rattle.reader.proofs.copy_page.Goals as goal
 
-pub judged-first-requires : goal.judged-first-requires
-judged-first-requires c = λ e. slice_spans _ _ _ _ _ (sym c.slice_fits-fits.ensures ∙ e)
+pub judged-requires : goal.judged-requires
+judged-requires c = λ e. slice_spans _ _ _ _ _ (sym c.slice_fits-fits.ensures ∙ e)
 
-pub returns-then-first-ne0 : goal.returns-then-first-ne0
+pub returns-in_err-judged : goal.returns-in_err-judged
 unfolding read_outcome_in
-returns-then-first-ne0 c = reply_refused _ c.judged-first.result 0 0 _ _ c.reply.ensures
-    (judged_refuses _ _ _ _ _ _ _ _ _ (read_chain _ _ _ _ _ _) c.slice_fits-fits.ensures _ c.judged-first.ensures c.if-first-ne0.true) c.if-first-ne0.true
+returns-in_err-judged c = rw (given_back c.from_residual.result c.from_residual.ensures.1)
+    (refused 0 0 _ _ _ (judged_refuses _ _ _ _ _ _ _ _ _ (read_chain _ _ _ _ _ _) c.slice_fits-fits.ensures _ c.in_err-judged.ensures (number_positive _)))
 
 pub returns-then-page-sizes : goal.returns-then-page-sizes
 unfolding read_outcome_in read_own
-returns-then-page-sizes c = reply_refused _ 6 0 0 _ _ c.reply-then-page-sizes.ensures
-    (judged_passes _ _ _ _ _ _ _ _ _ (read_chain _ _ _ _ _ _) c.slice_fits-fits.ensures _ c.judged-first.ensures c.if-first-ne0.false (rw (le-ltb _ _ c.if-page-sizes.true))) (λ e. omega arith)
+returns-then-page-sizes c = refused 0 0 _ _ WrongList
+    (judged_passes _ _ _ _ _ _ _ _ _ (read_chain _ _ _ _ _ _) c.slice_fits-fits.ensures _ c.in_ok-judged.ensures refl (rw (le-ltb _ _ c.if-page-sizes.true)))
 
 pub committed_slot-slot-requires : goal.committed_slot-slot-requires
-committed_slot-slot-requires c = let s = slice_spans _ _ _ _ _ (sym c.slice_fits-fits.ensures ∙ (judged_passed _ _ _ _ _ _ (sym c.judged-first.ensures ∙ c.if-first-ne0.false)).fitting) in
+committed_slot-slot-requires c = let s = slice_spans _ _ _ _ _ (sym c.slice_fits-fits.ensures ∙ (judged_passed _ _ _ _ _ _ (sym c.in_ok-judged.ensures)).fitting) in
     let l = s.pages_in_lem in
     record { slots_in_bounds = s.slots_in_lem; page_in_bounds = omega arith }
 
 pub returns-then-slot-sizes : goal.returns-then-slot-sizes
 unfolding read_outcome_in read_own has_version
-returns-then-slot-sizes c = reply_refused _ 14 0 0 _ _ c.reply-then-slot-sizes.ensures
-    (judged_passes _ _ _ _ _ _ _ _ _ (read_chain _ _ _ _ _ _) c.slice_fits-fits.ensures _ c.judged-first.ensures c.if-first-ne0.false
-    (rw (lt-ltb _ _ c.if-page-sizes.false, ← c.committed_slot-slot.ensures, le-ltb _ _ c.if-slot-sizes.true))) (λ e. omega arith)
+returns-then-slot-sizes c = refused 0 0 _ _ NoCommittedRecord
+    (judged_passes _ _ _ _ _ _ _ _ _ (read_chain _ _ _ _ _ _) c.slice_fits-fits.ensures _ c.in_ok-judged.ensures refl
+    (rw (lt-ltb _ _ c.if-page-sizes.false, ← c.committed_slot-slot.ensures, le-ltb _ _ c.if-slot-sizes.true)))
 
 pub read_slot-requires : goal.read_slot-requires
-read_slot-requires c = let f = slice_whole _ _ _ _ _ (sym c.slice_fits-fits.ensures ∙ (judged_passed _ _ _ _ _ _ (sym c.judged-first.ensures ∙ c.if-first-ne0.false)).fitting) in
+read_slot-requires c = let f = slice_whole _ _ _ _ _ (sym c.slice_fits-fits.ensures ∙ (judged_passed _ _ _ _ _ _ (sym c.in_ok-judged.ensures)).fitting) in
     let a = c.args in
     let size = f.0.flash_sized.contents_sized in
     let inside = part_inside a.sizes.width a.sizes.slots c.committed_slot-slot.result (omega (arith, c.if-slot-sizes.false)) in
@@ -48,12 +50,11 @@ read_slot-requires c = let f = slice_whole _ _ _ _ _ (sym c.slice_fits-fits.ensu
 pub returns : goal.returns
 unfolding read_slot_in read_outcome_in read_own has_version
 returns c = let s = c.committed_slot-slot in
-    let f = slice_whole _ _ _ _ _ (sym c.slice_fits-fits.ensures ∙ (judged_passed _ _ _ _ _ _ (sym c.judged-first.ensures ∙ c.if-first-ne0.false)).fitting) in
+    let f = slice_whole _ _ _ _ _ (sym c.slice_fits-fits.ensures ∙ (judged_passed _ _ _ _ _ _ (sym c.in_ok-judged.ensures)).fitting) in
     let a = c.args in
     let e : c.read_slot.new.out ≡ bytes_at a.sizes.width a.contents.now s.result =
     c.read_slot.ensures ∙ ap (λ (w : ℕ). bytes_at w a.contents.now s.result) f.1 in
-    ap (returned {B = List ℕ} c.reply-2.result) (e ∙ ap (bytes_at a.sizes.width a.contents.now) s.ensures)
-    ∙ reply_done _ 0 0 0 _ _ c.reply-2.ensures
-    (judged_passes _ _ _ _ _ _ _ _ _ (read_chain _ _ _ _ _ _) c.slice_fits-fits.ensures _ c.judged-first.ensures c.if-first-ne0.false
+    ap (outcome_of {B = List ℕ} 0 0) (e ∙ ap (bytes_at a.sizes.width a.contents.now) s.ensures)
+    ∙ done 0 0 _ _
+    (judged_passes _ _ _ _ _ _ _ _ _ (read_chain _ _ _ _ _ _) c.slice_fits-fits.ensures _ c.in_ok-judged.ensures refl
     (rw (lt-ltb _ _ c.if-page-sizes.false, ← s.ensures, lt-ltb _ _ c.if-slot-sizes.false)))
-    refl

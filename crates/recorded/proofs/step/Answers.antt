@@ -21,7 +21,7 @@ returns-in-Write c = rw c.in-Write.is c.write_line.ensures
 pub returns-in-Erase : goal.returns-in-Erase
 unfolding said desk_after desk_cuts
 returns-in-Erase c = let a = c.args in
-    let cut = front_lent _ _ a.list.now c.least-n.ensures in
+    let cut = front_lent _ _ a.list.now c.min-n.ensures in
     let h = c.erase_line.ensures in
     rw (c.in-Erase.is, ← cut) (record { leaves = erase_after two_widths a.sizes (desk (volume a.words.now a.contents.now a.state.now) a.entered.now a.kept.now) a.trial _ _ h.leaves; counts = h.counts a.entered.now })
 

@@ -11,14 +11,14 @@ use Rattle.recorded.specs.Buffers.{lent_length, state_most}
 use Rattle.recorded.specs.StepLaws.{write_refused, write_done}
 use Rattle.recorded.proofs.write_line.Goals as goal
 
-pub returns-then-answer_of-ne0 : goal.returns-then-answer_of-ne0
+pub returns-in_default : goal.returns-in_default
 unfolding said line_outcome perform
-returns-then-answer_of-ne0 c = let a = c.args in
-    let w = write_refused two_widths a.sizes (desk (volume a.words.now a.contents.now a.state.now) a.entered.now a.kept.now) a.page a.slot a.fill _ _ a.tally c.call-r.ensures c.answer_of.ensures c.if-answer_of-ne0.true in
+returns-in_default c = let a = c.args in
+    let w = write_refused two_widths a.sizes (desk (volume a.words.now a.contents.now a.state.now) a.entered.now a.kept.now) a.page a.slot a.fill _ a.tally _ c.in_default.ensures in
     record { leaves = w.0; counts = w.1 }
 
 pub slice_bounds-cut_state-end : goal.slice_bounds-cut_state-end
-slice_bounds-cut_state-end c = omega (arith, c.call-r.auto.state, state_most _ _ c.requires.ready.fits)
+slice_bounds-cut_state-end c = omega (arith, c.call.auto.state, state_most _ _ c.requires.ready.fits)
 
 pub comes_back-requires : goal.comes_back-requires
 comes_back-requires c = let ready = c.requires.ready in
@@ -31,7 +31,7 @@ pub returns : goal.returns
 unfolding said line_outcome perform
 returns c = let a = c.args in
     let fits = c.requires.ready.fits in
-    let size = c.call-r.auto.state in
+    let size = c.call.auto.state in
     let lent = lent_length _ 1024 (omega (arith, size, state_most _ _ fits)) ∙ size ∙ fits.state_sized in
-    let w = write_done two_widths a.sizes (desk (volume a.words.now a.contents.now a.state.now) a.entered.now a.kept.now) a.page a.slot a.fill _ _ a.tally c.call-r.ensures c.answer_of.ensures c.if-answer_of-ne0.false c.second_of.ensures c.enter.ensures (c.settle.ensures.entered, c.settle.ensures.kept) _ lent c.comes_back.ensures c.count.ensures in
+    let w = write_done two_widths a.sizes (desk (volume a.words.now a.contents.now a.state.now) a.entered.now a.kept.now) a.page a.slot a.fill _ a.tally _ c.in-Ok.ensures c.enter.ensures (c.settle.ensures.entered, c.settle.ensures.kept) _ lent c.comes_back.ensures c.count.ensures in
     record { leaves = w.0; counts = w.1 }

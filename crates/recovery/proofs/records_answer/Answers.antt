@@ -1,33 +1,24 @@
-use native.Mathlib.Omega.{arith}
 use mathlib.Core.Path.{sym, ◌∙◌}
 use Rattle.bounded.specs.Choice.{told}
-use Rattle.outcome.specs.Reply.{reply_refused, reply_answer, settles_same}
 use Rattle.links.specs.Tables.{Surveyed, tops_records}
 use Rattle.recovery.specs.Answers.{record_missing, answer_by_links}
 use Rattle.recovery.proofs.records_answer.Goals as goal
 
-pub returns-then-not-records_present : goal.returns-then-not-records_present
-returns-then-not-records_present c = let a = c.args in
+pub returns-then-not-records_present-clause-answer : goal.returns-then-not-records_present-clause-answer
+returns-then-not-records_present-clause-answer c = let a = c.args in
     let pre = c.requires in
     let s : Surveyed a.layout a.sizes.pages a.sizes.slots a.words.now c.highest_slots.new.top =
-    record { sized = pre.slots_in_bounds; pages_most = pre.pages_bound; slots_most = pre.slots_bound; sound = pre.words_value; tops = c.highest_slots.ensures } in record {
-      settles = reply_refused _ 3 0 _ _ _ c.reply.ensures
-          (record_missing _ _ _ _ (sym (tops_records _ _ _ _ _ s) ∙ told c.records_present.ensures c.if-not-records_present.true))
-          (λ e. omega arith);
-      committed_after = λ z. absurd (let n = reply_answer _ _ _ c.reply.ensures in omega arith);
-    }
+    record { sized = pre.slots_in_bounds; pages_most = pre.pages_bound; slots_most = pre.slots_bound; sound = pre.words_value; tops = c.highest_slots.ensures } in
+    record_missing _ _ _ _ (sym (tops_records _ _ _ _ _ s) ∙ told c.records_present.ensures c.if-not-records_present.true)
 
 pub links_answer-requires : goal.links_answer-requires
 links_answer-requires c = let pre = c.requires in
     record { sized = pre.slots_in_bounds; pages_most = pre.pages_bound; slots_most = pre.slots_bound; sound = pre.words_value; tops = c.highest_slots.ensures }
 
-pub returns : goal.returns
-returns c = let a = c.args in
+pub returns-clause-answer : goal.returns-clause-answer
+returns-clause-answer c = let a = c.args in
     let pre = c.requires in
     let s : Surveyed a.layout a.sizes.pages a.sizes.slots a.words.now c.highest_slots.new.top =
     record { sized = pre.slots_in_bounds; pages_most = pre.pages_bound; slots_most = pre.slots_bound; sound = pre.words_value; tops = c.highest_slots.ensures } in
-    record {
-      settles = settles_same _ _ _ _ c.links_answer.ensures.settles
-          (answer_by_links _ _ _ _ (sym (tops_records _ _ _ _ _ s) ∙ told c.records_present.ensures c.if-not-records_present.false));
-      committed_after = c.links_answer.ensures.committed_after;
-    }
+    c.links_answer.ensures.answer
+    ∙ answer_by_links _ _ _ _ (sym (tops_records _ _ _ _ _ s) ∙ told c.records_present.ensures c.if-not-records_present.false)

@@ -1,4 +1,3 @@
-use Prim.Native.Nat.{◌≤◌, ◌-◌}
 use mathlib.Core.Path.{◌≡◌}
 use mathlib.Core.Bool.{true}
 use lib.Dec.{ltb}
@@ -7,7 +6,4 @@ use Rattle.bounded.specs.Below.{all_below}
 use Rattle.recovery.proofs.records_present.Given as goal
 
 abbrev pub invariant-loop-page : goal.invariant-loop-page
-invariant-loop-page l = (l.page ≤ l.sizes.pages) × (all_below l.page (λ p. ltb (get_or l.top p 0) l.sizes.slots) ≡ true)
-
-abbrev pub decreases-loop-page : goal.decreases-loop-page
-decreases-loop-page l = l.sizes.pages - l.page
+invariant-loop-page l = all_below l.page (λ p. ltb (get_or l.top p 0) l.sizes.slots) ≡ true

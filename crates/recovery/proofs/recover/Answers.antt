@@ -9,7 +9,7 @@ use Rattle.recovery.proofs.recover.Goals as goal
 
 pub returns-then-not-volume_fits : goal.returns-then-not-volume_fits
 returns-then-not-volume_fits c = let a = c.args in
-    sizes_wrong _ _ _ _ _ _ _ _ c.reply.ensures (told c.volume_fits.ensures c.if-not-volume_fits.true)
+    sizes_wrong _ _ _ _ _ _ _ (told c.volume_fits.ensures c.if-not-volume_fits.true)
     ∙ sym (recover_outcome_lem two_widths a.sizes (volume a.words.now a.contents.now a.state.now))
 
 pub table_sound-requires : goal.table_sound-requires
@@ -17,7 +17,7 @@ table_sound-requires c = (recover_fits _ _ _ (told c.volume_fits.ensures c.if-no
 
 pub returns-then-not-table_sound : goal.returns-then-not-table_sound
 returns-then-not-table_sound c = let a = c.args in
-    slot_unsound_lem _ _ _ _ _ _ _ _ c.reply-then-not-table_sound.ensures (told c.volume_fits.ensures c.if-not-volume_fits.false) (told c.table_sound.ensures c.if-not-table_sound.true)
+    slot_unsound_lem _ _ _ _ _ _ _ (told c.volume_fits.ensures c.if-not-volume_fits.false) (told c.table_sound.ensures c.if-not-table_sound.true)
     ∙ sym (recover_outcome_lem two_widths a.sizes (volume a.words.now a.contents.now a.state.now))
 
 pub some_conflict-requires : goal.some_conflict-requires
@@ -28,7 +28,7 @@ some_conflict-requires c = let f = fits_facts _ _ _ (told c.volume_fits.ensures 
 
 pub returns-then-some_conflict : goal.returns-then-some_conflict
 returns-then-some_conflict c = let a = c.args in
-    records_conflict _ _ _ _ _ _ _ _ c.reply-then-some_conflict.ensures (told c.volume_fits.ensures c.if-not-volume_fits.false) (told c.table_sound.ensures c.if-not-table_sound.false)
+    records_conflict _ _ _ _ _ _ _ (told c.volume_fits.ensures c.if-not-volume_fits.false) (told c.table_sound.ensures c.if-not-table_sound.false)
     (sym c.some_conflict.ensures ∙ c.if-some_conflict.true)
     ∙ sym (recover_outcome_lem two_widths a.sizes (volume a.words.now a.contents.now a.state.now))
 

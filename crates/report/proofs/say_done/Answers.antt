@@ -1,13 +1,15 @@
+use Rattle.std.proofs.Common.{rules}
 use Rattle.text.specs.Scan.{bytes}
+use Rattle.text.specs.PutsLaws.{puts_field, puts_from}
 use Rattle.report.specs.Report.{done_text}
-use Rattle.report.specs.ReportLaws.{printed, done_text_lem}
+use Rattle.report.specs.ReportLaws.{printed}
 use Rattle.report.proofs.say_done.Goals as goal
 
 pub returns : goal.returns
 unfolding done_text bytes
-returns c = let a = c.args in
-    let f = c.put_field-a in
-    let g = c.put_field-b in
-    let p = printed a.run _ _ _ _ c.printed.ensures
-    (done_text_lem a.out.now _ _ _ a.run.at _ _ _ _ _ f.ensures f.auto.out g.ensures g.auto.out c.put_text.ensures c.answer_of.ensures c.second_of.ensures) in
-    record { stands = p.0; prints = p.1.0; holds = p.1.1 }
+returns c = let begins = c.new-print.ensures in
+    let f = rw c.answer.ensures at c.put_field.ensures in
+    let g = rw c.unwrap_or.ensures at c.put_field-2.ensures in
+    let p = puts_field _ _ _ (bytes "answer=") _ _ f (puts_field _ _ _ (bytes " done=") _ _ g c.put_text.ensures) in
+    let s = printed c.args.run _ _ _ _ c.printed.ensures (puts_from _ _ _ _ _ _ p begins.holds begins.place (search rules)) in
+    record { stands = s.0; prints = s.1.0; holds = s.1.1 }

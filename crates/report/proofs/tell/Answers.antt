@@ -28,16 +28,9 @@ returns-in-List c = let a = c.args in
     let h = went_text a.run _ (volume a.words.now a.contents.now a.state.now) a.out.now _ _ (s.stands, (s.prints, s.holds)) in
     rw c.in-List.is (record { stands = λ (list : List ℕ). h.0; prints = λ (list : List ℕ). h.1.0; holds = h.1.1 })
 
-pub returns-in-Malformed : goal.returns-in-Malformed
-unfolding said told
-returns-in-Malformed c = let a = c.args in
-    let m = volume a.words.now a.contents.now a.state.now in
-    let h = c.refuse.ensures in
-    rw c.in-Malformed.is (record { stands = λ (list : List ℕ). h.stands m; prints = λ (list : List ℕ). h.prints m; holds = h.holds })
-
 pub returns-in_default : goal.returns-in_default
 returns-in_default c = let a = c.args in
     let d = c.in_default in
     let s = c.say.ensures in
-    let h = answer_told two_widths a.run _ (volume a.words.now a.contents.now a.state.now) a.out.now _ a.line _ _ (alone _ d.not-Format d.not-Write d.not-List d.not-Malformed) (s.stands, (s.prints, s.holds)) in
+    let h = answer_told two_widths a.run _ (volume a.words.now a.contents.now a.state.now) a.out.now _ a.line _ _ (alone _ d.not-Format d.not-Write d.not-List) (s.stands, (s.prints, s.holds)) in
     record { stands = λ (list : List ℕ). (h list).0; prints = λ (list : List ℕ). (h list).1.0; holds = (h []).1.1 }

@@ -9,7 +9,7 @@ use Rattle.outcome.specs.OutcomeLaws.{passed, held}
 use Rattle.sizes.specs.declared.Sizes.{Sizes}
 use Rattle.sizes.specs.Sizes.{sizes_ok, state_fits, list_ok}
 use Rattle.sizes.proofs.SizesLaws.{state_fits_exactly}
-use Rattle.record.specs.declared.Slot.{Slot}
+use Rattle.record.specs.Slot.{Slot}
 use Rattle.record.specs.Slot.{slot_at, is_blank}
 use Rattle.state.specs.State.{state_at, state_sound, in_flight, is_written}
 use Rattle.table.specs.Table.{table_sound, has_record, has_version}

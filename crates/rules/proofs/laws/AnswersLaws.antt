@@ -17,8 +17,8 @@ use Rattle.sizes.specs.declared.Sizes.{Sizes}
 use Rattle.sizes.specs.Sizes.{sizes_ok, words_fit_in, contents_fit, state_fits, list_ok, listed}
 use Rattle.sizes.proofs.SizesLaws.{sizes_facts, sizes_test, words_fit_in_lem, state_fits_exactly}
 use Rattle.record.specs.declared.Record.{Record}
-use Rattle.record.specs.declared.Slot.{Slot}
-use Rattle.record.specs.declared.Slot.TheVariants.{Blank, Holds}
+use Rattle.record.specs.Slot.{Slot}
+use Rattle.std.specs.Prelude.{None, Some}
 use Rattle.record.specs.Slot.{is_blank}
 use Rattle.record.specs.SlotLaws.{is_blank_exactly, not_blank_exactly}
 use Rattle.state.specs.State.{state_words, state_sound, in_flight, is_written}
@@ -419,7 +419,7 @@ committed_by_lem : (P S : ℕ) (t : ℕ → Slot) → table_sound P S t ≡ true
 unfolding committed_of walk_of committed_by highest_version_of
 committed_by_lem P S t sound p n h w = ap (λ (x : Walk). committed_by x.end (highest S t p)) (links_are_steps.exactly P S t sound p n ends.Committed h w)
 
-uncommitted_by : (P S : ℕ) (t : ℕ → Slot) → table_sound P S t ≡ true → (p n : ℕ) (J : Record) → p < P → Walked (verdict S t) p ends.Uncommitted n → highest S t p ≡ Holds J → committed_of P S t p ≡ J.c
+uncommitted_by : (P S : ℕ) (t : ℕ → Slot) → table_sound P S t ≡ true → (p n : ℕ) (J : Record) → p < P → Walked (verdict S t) p ends.Uncommitted n → highest S t p ≡ Some J → committed_of P S t p ≡ J.c
 unfolding committed_of walk_of committed_by back_pointer
 uncommitted_by P S t sound p n J h w e = ap (λ (x : Walk). committed_by x.end (highest S t p)) (links_are_steps.exactly P S t sound p n ends.Uncommitted h w) ∙ ap back_pointer e
 
@@ -530,11 +530,11 @@ unfolding simple_recovered at_rest
 simple_fills_so widths sizes v e = simple_links_apart.filled widths sizes v (sym (simple_links_apart.answer widths sizes v) ∙ e)
 
 -- a page has a committed record, or none
-committed_held : (P S : ℕ) (t : ℕ → Slot) (p : ℕ) → has_committed P S t p ≡ true → (r : Record) × (committed_slot_of P S t p ≡ Holds r)
+committed_held : (P S : ℕ) (t : ℕ → Slot) (p : ℕ) → has_committed P S t p ≡ true → (r : Record) × (committed_slot_of P S t p ≡ Some r)
 unfolding has_committed
 committed_held P S t p e = (not_blank_exactly (committed_slot_of P S t p)).0 (not-true (is_blank (committed_slot_of P S t p)) e)
 
-committed_blank : (P S : ℕ) (t : ℕ → Slot) (p : ℕ) → has_committed P S t p ≡ false → committed_slot_of P S t p ≡ Blank
+committed_blank : (P S : ℕ) (t : ℕ → Slot) (p : ℕ) → has_committed P S t p ≡ false → committed_slot_of P S t p ≡ None
 unfolding has_committed
 committed_blank P S t p e = (is_blank_exactly (committed_slot_of P S t p)).0 (not-false (is_blank (committed_slot_of P S t p)) e)
 

@@ -6,8 +6,8 @@ use Rattle.std.proofs.Common.{◌∙◌, ltb-true, lt-ltb}
 use Rattle.bounded.specs.BelowLaws.{some_cong}
 use Rattle.bounded.specs.Passing.{list_exactly, list_entry, some_listed}
 use Rattle.record.specs.declared.Record.{Record}
-use Rattle.record.specs.declared.Slot.{Slot}
-use Rattle.record.specs.declared.Slot.TheVariants.{Blank, Holds}
+use Rattle.record.specs.Slot.{Slot}
+use Rattle.std.specs.Prelude.{None, Some}
 use Rattle.record.specs.Slot.{holds, some_record}
 use Rattle.record.specs.SlotLaws.{holds_exactly}
 use Rattle.state.specs.declared.PageState.{PageState}
@@ -29,8 +29,8 @@ module _ (S : ℕ) (t : ℕ → Slot) (st : ℕ → PageState) where
       (fun_ext (λ f. some_listed (λ k. holds (is_exposed st) (t k)) S (λ k. holds f (t k)) ∙ some_cong S (λ k h. exposed_passing f (t k))))
     where
       exposed_passing : (f : Record → Bool) (s : Slot) → (holds (is_exposed st) s && holds f s) ≡ holds (λ r. is_exposed st r && f r) s
-      exposed_passing f Blank = refl
-      exposed_passing f (Holds r) = refl
+      exposed_passing f None = refl
+      exposed_passing f (Some r) = refl
 
 pub found_exactly : FoundExactly
 unfolding exposed_slots is_exposed

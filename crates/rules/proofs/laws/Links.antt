@@ -20,8 +20,8 @@ use Rattle.sizes.specs.declared.Sizes.{Sizes}
 use Rattle.sizes.specs.Sizes.{sizes_ok, words_fit_in, contents_fit}
 use Rattle.sizes.proofs.SizesLaws.{sizes_facts, words_fit_in_lem, state_fits_exactly}
 use Rattle.record.specs.declared.Record.{Record}
-use Rattle.record.specs.declared.Slot.{Slot}
-use Rattle.record.specs.declared.Slot.TheVariants.{Blank, Holds}
+use Rattle.record.specs.Slot.{Slot}
+use Rattle.std.specs.Prelude.{None, Some}
 use Rattle.record.specs.Slot.{slot_in, is_blank}
 use Rattle.record.specs.Flash.{flash}
 use Rattle.record.specs.SlotLaws.{Storable, sound_facts, sound_test}
@@ -289,8 +289,8 @@ module _ (S : ℕ) (t : ℕ → Slot) where
   simple_verdict_inside P sound q r h e = by (highest S t q) refl e
     where
       by : (s : Slot) → highest S t q ≡ s → simple_slot_verdict S t s ≡ says.On r → r < P
-      by Blank f g = let z : ◌≡◌ {A = ℕ} 0 1 = cc in absurd (omega arith)
-      by (Holds J) f g =
+      by None f g = let z : ◌≡◌ {A = ℕ} 0 1 = cc in absurd (omega arith)
+      by (Some J) f g =
           let k = highest_held t q S (highest_is t q S) f in
           let u = sound_at t P S k.0 sound k.1 k.2 in
           let i = simple_on_next J r g in
@@ -318,7 +318,7 @@ module _ (P S : ℕ) (room : P ≤ S) where
   simple_ring_verdict p h = ap (simple_slot_verdict S u) (highest_own (ring_each FourWords P S room) p h) ∙ rw (ring_version FourWords P S room (next_in_ring P p) (next_below P p h))
 
   -- each page's own record holds its committed version
-  simple_ring_committed : (p : ℕ) → p < P → committed_slot_of P S u p ≡ Holds (ring_record P p)
+  simple_ring_committed : (p : ℕ) → p < P → committed_slot_of P S u p ≡ Some (ring_record P p)
   unfolding committed_slot_of simple_committed_slot simple_walk_of
   simple_ring_committed p h =
       ap (λ (w : Walk). simple_committed_slot w.end S u p) (one_ring_walk P (simple_verdict S u) simple_ring_verdict p h) ∙ highest_own (ring_each FourWords P S room) p h

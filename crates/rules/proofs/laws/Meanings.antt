@@ -16,8 +16,8 @@ use Rattle.sizes.specs.declared.Layout.TheVariants.{FiveWords, FourWords}
 use Rattle.sizes.specs.Sizes.{stride_of, listed}
 use Rattle.sizes.specs.Lists.{list_exactly}
 use Rattle.record.specs.declared.Record.{Record}
-use Rattle.record.specs.declared.Slot.{Slot}
-use Rattle.record.specs.declared.Slot.TheVariants.{Blank, Holds}
+use Rattle.record.specs.Slot.{Slot}
+use Rattle.std.specs.Prelude.{None, Some}
 use Rattle.record.specs.Slot.{decoded, blank_in, slot_in, bytes_at, slot_sound}
 use Rattle.record.specs.SlotLaws.{SoundRecord, sound_exactly, slot_blank_exactly, slot_blank, slot_holds, is_blank_exactly}
 use Rattle.state.specs.declared.PageState.{PageState}
@@ -40,7 +40,7 @@ use Rattle.rules.specs.Meanings.{word_at, SlotMeans, ArgumentsMean, SoundMeans, 
 -- ---- slots, lengths, lists
 
 module _ (layout : Layout) (words : List ℕ) (k : ℕ) where
-  slot_blank_words : (slot_in layout words k ≡ Blank) ↔ ((i : ℕ) → i < stride_of layout → get_or words (stride_of layout * k + i) no_number ≡ no_number)
+  slot_blank_words : (slot_in layout words k ≡ None) ↔ ((i : ℕ) → i < stride_of layout → get_or words (stride_of layout * k + i) no_number ≡ no_number)
   unfolding slot_in
   slot_blank_words =
       let e = slot_blank_exactly layout (part (stride_of layout) k words) in (
@@ -106,21 +106,21 @@ sound_means =
       state = state_sound_means;
     }
   where
-    slot : (P : ℕ) (s : Slot) → slot_sound P s ≡ true → (s ≡ Blank) ⊎ ((r : Record) × (s ≡ Holds r) × SoundRecord P r)
-    slot P Blank e = inl refl
-    slot P (Holds r) e = inr (r, refl, (sound_exactly P r).0 e)
+    slot : (P : ℕ) (s : Slot) → slot_sound P s ≡ true → (s ≡ None) ⊎ ((r : Record) × (s ≡ Some r) × SoundRecord P r)
+    slot P None e = inl refl
+    slot P (Some r) e = inr (r, refl, (sound_exactly P r).0 e)
 
-    back : (P : ℕ) (s : Slot) → (s ≡ Blank) ⊎ ((r : Record) × (s ≡ Holds r) × SoundRecord P r) → slot_sound P s ≡ true
+    back : (P : ℕ) (s : Slot) → (s ≡ None) ⊎ ((r : Record) × (s ≡ Some r) × SoundRecord P r) → slot_sound P s ≡ true
     back P s (inl e) = rw e
     back P s (inr w) = rw w.1 ((sound_exactly P w.0).1 w.2)
 
 -- ---- the table
 
 -- what a slot mentions for a page is 0, or its record's version or link
-mentions : (p : ℕ) (s : Slot) (n : ℕ) → mentioned p s ≡ n → (n ≡ 0) ⊎ ((r : Record) × (s ≡ Holds r) × (((r.p ≡ p) × (r.v ≡ n)) ⊎ ((r.np ≡ p) × (r.nv ≡ n))))
+mentions : (p : ℕ) (s : Slot) (n : ℕ) → mentioned p s ≡ n → (n ≡ 0) ⊎ ((r : Record) × (s ≡ Some r) × (((r.p ≡ p) × (r.v ≡ n)) ⊎ ((r.np ≡ p) × (r.nv ≡ n))))
 unfolding mentioned
-mentions p Blank n e = inl (sym e)
-mentions p (Holds r) n e =
+mentions p None n e = inl (sym e)
+mentions p (Some r) n e =
     on_test (eqb r.p p)
     (λ a. on_test (eqb r.np p)
     (λ b. let f = rw (a, b) at e in
@@ -132,7 +132,7 @@ mentions p (Holds r) n e =
     (λ b. let f = rw (a, b) at e in inr (r, refl, inr (eqb-true r.np p b, omega arith)))
     (λ b. let f = rw (a, b) at e in inl (omega arith)))
 
-used_is : (S : ℕ) (t : ℕ → Slot) (p : ℕ) → (used_of S t p ≡ 0) ⊎ ((k : ℕ) × (r : Record) × (k < S) × (t k ≡ Holds r) × (((r.p ≡ p) × (r.v ≡ used_of S t p)) ⊎ ((r.np ≡ p) × (r.nv ≡ used_of S t p))))
+used_is : (S : ℕ) (t : ℕ → Slot) (p : ℕ) → (used_of S t p ≡ 0) ⊎ ((k : ℕ) × (r : Record) × (k < S) × (t k ≡ Some r) × (((r.p ≡ p) × (r.v ≡ used_of S t p)) ⊎ ((r.np ≡ p) × (r.nv ≡ used_of S t p))))
 unfolding used_of max_below
 used_is zero t p = inl refl
 used_is (suc n) t p =
@@ -159,7 +159,7 @@ twins_mean w f = twins_exactly w f
 
 -- ---- recovery's three cases
 
-module _ (S : ℕ) (t : ℕ → Slot) (p : ℕ) (J : Record) (e : highest S t p ≡ Holds J) where
+module _ (S : ℕ) (t : ℕ → Slot) (p : ℕ) (J : Record) (e : highest S t p ≡ Some J) where
   cases_are : Cases S t p J
   unfolding verdict slot_verdict link_verdict
   cases_are =

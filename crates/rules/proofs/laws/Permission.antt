@@ -9,8 +9,8 @@ use Rattle.bounded.specs.Choice.{on_test, or_false, both, both_left, both_right,
 use Rattle.bounded.specs.BelowLaws.{all_each, some_at, some_of}
 use Rattle.sizes.specs.Sizes.{listed}
 use Rattle.record.specs.declared.Record.{Record}
-use Rattle.record.specs.declared.Slot.{Slot}
-use Rattle.record.specs.declared.Slot.TheVariants.{Holds}
+use Rattle.record.specs.Slot.{Slot}
+use Rattle.std.specs.Prelude.{Some}
 use Rattle.record.specs.Slot.{some_record, straddles}
 use Rattle.record.specs.SlotLaws.{Straddles, straddles_exactly, holds_exactly, some_record_lem}
 use Rattle.state.specs.declared.PageState.{PageState}
@@ -55,7 +55,7 @@ module _ (S : ℕ) (t : ℕ → Slot) (st : ℕ → PageState) (twin : ℕ → �
       support : (r : Record) → ((is_exposed st r && straddles K r) ≡ true) ↔ (Exposed st r × Straddles K r)
       support r = conjoined (is_exposed st r) (straddles K r) (exposed_exactly st r) (straddles_exactly K r)
 
-      i : (is_needed (scene S t st twin) K ≡ true) ↔ (¬ ((k : ℕ) × (r : Record) × (k < S) × (t k ≡ Holds r) × ((r.p ≡ K.p) × ((r.c ≡ K.c) × (K.v < r.v)))) × ((k : ℕ) × (r : Record) × (k < S) × (t k ≡ Holds r) × (Exposed st r × Straddles K r)))
+      i : (is_needed (scene S t st twin) K ≡ true) ↔ (¬ ((k : ℕ) × (r : Record) × (k < S) × (t k ≡ Some r) × ((r.p ≡ K.p) × ((r.c ≡ K.c) × (K.v < r.v)))) × ((k : ℕ) × (r : Record) × (k < S) × (t k ≡ Some r) × (Exposed st r × Straddles K r)))
       i =
           conjoined (not (some_record S t (outdone_by K))) (some_record S t (λ r. is_exposed st r && straddles K r))
           (negated (some_record S t (outdone_by K)) (some_record_lem S t (outdone_by K) out))

@@ -12,8 +12,8 @@ use Rattle.outcome.specs.OutcomeLaws.{settled_refused, settled_done}
 use Rattle.sizes.specs.declared.Sizes.{Sizes}
 use Rattle.sizes.specs.Sizes.{contents_fit, state_fits}
 use Rattle.record.specs.declared.Record.{Record}
-use Rattle.record.specs.declared.Slot.{Slot}
-use Rattle.record.specs.declared.Slot.TheVariants.{Blank, Holds}
+use Rattle.record.specs.Slot.{Slot}
+use Rattle.std.specs.Prelude.{None, Some}
 use Rattle.record.specs.Slot.{slot_at, straddles}
 use Rattle.record.specs.Flash.{Flash, flash}
 use Rattle.record.specs.SlotLaws.{sound_facts, Straddles, straddles_exactly, some_record_lem}
@@ -36,7 +36,7 @@ use Rattle.rules.specs.Recover.{walk_of, links_of, recovered, recover_answer, re
 
 -- "any record straddles J's link", as a proposition: obsolete, committed and exposed records alike
 pub straddled_exactly :
-    (S : ℕ) (t : ℕ → Slot) (J : Record) → (is_straddled S t J ≡ true) ↔ ((k : ℕ) × (K : Record) × (k < S) × (t k ≡ Holds K) × Straddles K J)
+    (S : ℕ) (t : ℕ → Slot) (J : Record) → (is_straddled S t J ≡ true) ↔ ((k : ℕ) × (K : Record) × (k < S) × (t k ≡ Some K) × Straddles K J)
 unfolding is_straddled
 straddled_exactly S t J = some_record_lem S t (λ K. straddles K J) (λ K. straddles_exactly K J)
 
@@ -60,8 +60,8 @@ module _ (S : ℕ) (t : ℕ → Slot) where
   verdict_inside P sound q r h e = by (highest S t q) refl e
     where
       by : (s : Slot) → highest S t q ≡ s → slot_verdict S t s ≡ says.On r → r < P
-      by Blank f g = let z : ◌≡◌ {A = ℕ} 0 1 = cc in absurd (omega arith)
-      by (Holds J) f g =
+      by None f g = let z : ◌≡◌ {A = ℕ} 0 1 = cc in absurd (omega arith)
+      by (Some J) f g =
           let k = highest_held t q S (highest_is t q S) f in
           let u = sound_at t P S k.0 sound k.1 k.2 in
           let i = on_next J r g in
@@ -109,7 +109,7 @@ unclashed S t twin e =
 -- "for equal page and version recovery gives 3 only if the two are no twins": where all such records are twins, none conflict
 pub twins_agree :
     (S : ℕ) (t : ℕ → Slot) (twin : ℕ → ℕ → Bool)
-    → ((j k : ℕ) (a b : Record) → j < k → k < S → t j ≡ Holds a → t k ≡ Holds b → a.p ≡ b.p → a.v ≡ b.v → twin j k ≡ true)
+    → ((j k : ℕ) (a b : Record) → j < k → k < S → t j ≡ Some a → t k ≡ Some b → a.p ≡ b.p → a.v ≡ b.v → twin j k ≡ true)
     → some_conflict S t twin ≡ false
 unfolding some_conflict
 twins_agree S t twin agree =

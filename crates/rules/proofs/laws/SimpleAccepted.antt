@@ -8,7 +8,7 @@ use Rattle.outcome.specs.OutcomeLaws.{passed, held}
 use Rattle.sizes.specs.declared.Layout.TheVariants.{FourWords}
 use Rattle.sizes.specs.declared.Sizes.{Sizes}
 use Rattle.sizes.specs.Sizes.{sizes_ok, words_fit_in, state_fits, list_ok}
-use Rattle.record.specs.declared.Slot.{Slot}
+use Rattle.record.specs.Slot.{Slot}
 use Rattle.record.specs.Slot.{slot_in, is_blank}
 use Rattle.state.specs.State.{state_at, state_sound, in_flight, is_written}
 use Rattle.table.specs.Table.{table_sound, some_clash, has_record}

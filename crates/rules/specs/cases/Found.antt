@@ -1,7 +1,7 @@
 -- What is found on case 6's volume with one exposed record more, (0,2,0,0,2) in slot 7: both of page 0's, and judging by them.
 use Rattle.std.specs.Prelude.{ℕ, zero, suc, List, [], ◌∷◌, ◌++◌, cond}
 use Rattle.outcome.specs.Row.{Row, row}
-use Rattle.record.specs.declared.Slot.{Slot}
+use Rattle.record.specs.Slot.{Slot}
 use Rattle.record.specs.Slot.{slot_at}
 use Rattle.state.specs.declared.PageState.{PageState}
 use Rattle.state.specs.Change.{at_rest}

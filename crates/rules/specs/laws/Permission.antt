@@ -1,8 +1,8 @@
 -- "May be erased" is exactly document 01's sentence, as a proposition; and so is what document 02 says of a slot with twins.
 use Rattle.std.specs.Prelude.{ℕ, ◌<◌, ◌≡◌, ◌⊎◌, Bool, true, false}
 use Rattle.record.specs.declared.Record.{Record}
-use Rattle.record.specs.declared.Slot.{Slot}
-use Rattle.record.specs.declared.Slot.TheVariants.{Holds}
+use Rattle.record.specs.Slot.{Slot}
+use Rattle.std.specs.Prelude.{Some}
 use Rattle.record.specs.SlotLaws.{Straddles}
 use Rattle.state.specs.declared.PageState.{PageState}
 use Rattle.state.specs.State.{in_flight}
@@ -24,8 +24,8 @@ module _ (st : ℕ → PageState) (r : Record) where
 module _ (S : ℕ) (t : ℕ → Slot) (st : ℕ → PageState) where
   -- "no record has the same page and c with a higher v, and some exposed record's link is straddled by K"
   pub record Needed (K : Record) : Type 0 where
-    pub furthest : (k : ℕ) (r : Record) → k < S → t k ≡ Holds r → r.p ≡ K.p → r.c ≡ K.c → K.v < r.v → ⊥
-    pub supports : (k : ℕ) × (r : Record) × (k < S) × (t k ≡ Holds r) × (Exposed st r × Straddles K r)
+    pub furthest : (k : ℕ) (r : Record) → k < S → t k ≡ Some r → r.p ≡ K.p → r.c ≡ K.c → K.v < r.v → ⊥
+    pub supports : (k : ℕ) × (r : Record) × (k < S) × (t k ≡ Some r) × (Exposed st r × Straddles K r)
 
   -- "an obsolete record that is no needed straddler, or an exposed record other than one whose page is in flight with v = used"
   abbrev pub Erasable : Record → Type 0
@@ -33,7 +33,7 @@ module _ (S : ℕ) (t : ℕ → Slot) (st : ℕ → PageState) where
 
   -- the slot holds such a record
   abbrev pub ErasableAt : ℕ → Type 0
-  ErasableAt k = (r : Record) × (t k ≡ Holds r) × Erasable r
+  ErasableAt k = (r : Record) × (t k ≡ Some r) × Erasable r
 
 -- whatever is looked at
 module _ (s : Scene) where

@@ -1,8 +1,8 @@
 -- What the rules for records without a back pointer say as propositions: the second highest version, what may be erased, what a write would bury.
 use Rattle.std.specs.Prelude.{ℕ, ◌<◌, ◌≡◌, ◌⊎◌}
 use Rattle.record.specs.declared.Record.{Record}
-use Rattle.record.specs.declared.Slot.{Slot}
-use Rattle.record.specs.declared.Slot.TheVariants.{Holds}
+use Rattle.record.specs.Slot.{Slot}
+use Rattle.std.specs.Prelude.{Some}
 use Rattle.state.specs.declared.PageState.{PageState}
 use Rattle.table.specs.Table.{highest_version_of}
 use Rattle.rules.specs.Simple.{second}
@@ -13,7 +13,7 @@ use Rattle.rules.specs.laws.Permission.{Exposed}
 module _ (S : ℕ) (t : ℕ → Slot) (p : ℕ) where
   -- r is a record of page p below hv(p), in a slot below S
   abbrev pub BelowHighest : Record → Type 0
-  BelowHighest r = (k : ℕ) × (k < S) × (t k ≡ Holds r) × (r.p ≡ p) × (r.v < highest_version_of S t p)
+  BelowHighest r = (k : ℕ) × (k < S) × (t k ≡ Some r) × (r.p ≡ p) × (r.v < highest_version_of S t p)
 
 -- ---- writing
 

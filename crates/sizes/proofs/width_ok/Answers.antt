@@ -9,6 +9,6 @@ pub returns-then-width-eq32 : goal.returns-then-width-eq32
 unfolding two_widths
 returns-then-width-eq32 c = search tests
 
-pub returns : goal.returns
+pub returns-else-width-eq32 : goal.returns-else-width-eq32
 unfolding two_widths
-returns c = search tests
+returns-else-width-eq32 c = search tests

@@ -1,14 +1,12 @@
-use mathlib.Core.Path.{◌≡◌, sym, ap₂, ◌∙◌}
+use mathlib.Core.Path.{sym, ap₂, ◌∙◌}
 use Rattle.bounded.specs.Choice.{not_yes, not_no}
-use Prim.Native.Nat.{◌-◌}
 use native.Mathlib.Omega.{arith}
-use mathlib.Core.Bool.{true}
 use Rattle.bounded.specs.BelowLaws.{all_zero, all_more, all_fails}
 use Rattle.state.specs.State.{share_next}
 use Rattle.state.proofs.next_apart.Goals as goal
 
 pub loop-lower-init : goal.loop-lower-init
-loop-lower-init c = (omega arith, all_zero _)
+loop-lower-init c = all_zero _
 
 pub returns-then-shares_next : goal.returns-then-shares_next
 returns-then-shares_next c = let answer = c.shares_next.ensures ∙ ap₂ share_next c.page_at.ensures c.page_at-s.ensures in
@@ -16,9 +14,4 @@ returns-then-shares_next c = let answer = c.shares_next.ensures ∙ ap₂ share_
 
 pub loop-lower-preserved : goal.loop-lower-preserved
 loop-lower-preserved c = let answer = c.shares_next.ensures ∙ ap₂ share_next c.page_at.ensures c.page_at-s.ensures in
-    (omega arith, all_more _ _ c.loop-lower.invariant.1 (not_no (sym answer ∙ c.if-shares_next.false)))
-
-pub returns : goal.returns
-returns c = let l = c.loop-lower in
-    let e : l.lower ≡ c.args.page = omega arith in
-    sym (rw e at l.invariant.1)
+    all_more _ _ c.loop-lower.invariant (not_no (sym answer ∙ c.if-shares_next.false))

@@ -1,16 +1,13 @@
--- `state::page_sound` meets its contract. Each return is the test that decides it.
-use Rattle.bounded.specs.Choice.{told}
+-- Each return is what the tests on its way give.
+use native.Mathlib.Omega.{arith}
+use Rattle.std.proofs.lemmas.Bool.Decides.{nat_tests}
 use Rattle.state.specs.State.{page_sound}
 use Rattle.state.proofs.page_sound.Goals as goal
 
-pub returns-then-not-versions_sound : goal.returns-then-not-versions_sound
+pub returns-then-flight_sound : goal.returns-then-flight_sound
 unfolding page_sound
-returns-then-not-versions_sound c = rw (← c.page_at-s.ensures, told c.versions_sound.ensures c.if-not-versions_sound.true)
+returns-then-flight_sound c = grind (arith, nat_tests)
 
-pub returns-then-not-flight_sound : goal.returns-then-not-flight_sound
+pub returns-else-flight_sound : goal.returns-else-flight_sound
 unfolding page_sound
-returns-then-not-flight_sound c = rw (← c.page_at-s.ensures, told c.versions_sound.ensures c.if-not-versions_sound.false, told c.flight_sound.ensures c.if-not-flight_sound.true)
-
-pub returns : goal.returns
-unfolding page_sound
-returns c = rw (← c.page_at-s.ensures, told c.versions_sound.ensures c.if-not-versions_sound.false, told c.flight_sound.ensures c.if-not-flight_sound.false) c.written_sound.ensures
+returns-else-flight_sound c = grind (arith, nat_tests)

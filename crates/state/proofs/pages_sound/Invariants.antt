@@ -1,5 +1,4 @@
 -- `state::pages_sound` meets its contract. The loop's invariant: every page below the counter is sound.
-use Prim.Native.Nat.{◌≤◌, ◌-◌}
 use mathlib.Core.Path.{◌≡◌}
 use mathlib.Core.Bool.{true}
 use Rattle.bounded.specs.Below.{all_below}
@@ -7,7 +6,4 @@ use Rattle.state.specs.State.{page_sound, state_at}
 use Rattle.state.proofs.pages_sound.Given as goal
 
 abbrev pub invariant-loop-page : goal.invariant-loop-page
-invariant-loop-page l = (l.page ≤ l.pages) × (all_below l.page (page_sound l.pages (state_at l.state)) ≡ true)
-
-abbrev pub decreases-loop-page : goal.decreases-loop-page
-decreases-loop-page l = l.pages - l.page
+invariant-loop-page l = all_below l.page (page_sound l.pages (state_at l.state)) ≡ true

@@ -1,12 +1,13 @@
--- `state::state_sound` meets its contract. Each return is the test that decides it.
-use Rattle.bounded.specs.Choice.{told}
+-- Each return is what the tests on its way give.
+use native.Mathlib.Omega.{arith}
+use Rattle.std.proofs.lemmas.Bool.Decides.{nat_tests}
 use Rattle.state.specs.State.{state_sound}
 use Rattle.state.proofs.state_sound.Goals as goal
 
-pub returns-then-not-pages_sound : goal.returns-then-not-pages_sound
+pub returns-then-pages_sound : goal.returns-then-pages_sound
 unfolding state_sound
-returns-then-not-pages_sound c = rw (told c.pages_sound.ensures c.if-not-pages_sound.true)
+returns-then-pages_sound c = grind (arith, nat_tests)
 
-pub returns : goal.returns
+pub returns-else-pages_sound : goal.returns-else-pages_sound
 unfolding state_sound
-returns c = rw (told c.pages_sound.ensures c.if-not-pages_sound.false) c.nexts_apart.ensures
+returns-else-pages_sound c = grind (arith, nat_tests)

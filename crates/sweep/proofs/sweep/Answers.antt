@@ -1,8 +1,8 @@
 -- Refused: the answer and the buffers as they were. Accepted: what the three erasures leave.
-use mathlib.Core.Path.{refl, sym, ap, ◌∙◌}
+use mathlib.Core.Path.{sym, ap, ◌∙◌}
 use Rattle.bounded.specs.Limits.{two_widths}
-use Rattle.outcome.specs.Outcome.{returned}
-use Rattle.outcome.specs.Reply.{reply_refused, reply_done}
+use Rattle.outcome.specs.Reply.{outcome_of}
+use Rattle.outcome.specs.Result.{given_back, refused, done}
 use Rattle.rules.specs.Volume.{volume}
 use Rattle.upkeep.specs.Sweep.{sweep_outcome}
 use Rattle.rules.proofs.laws.Chains.{judged_passed, volume_spans}
@@ -11,15 +11,16 @@ use Rattle.judge.specs.Judgeable.{sound_flash}
 use Rattle.sweep.specs.SweepLaws.{answer_judged}
 use Rattle.sweep.proofs.sweep.Goals as goal
 
-pub judged-first-requires : goal.judged-first-requires
-judged-first-requires c = λ e. volume_spans _ _ _ _ (sym c.volume_fits-fits.ensures ∙ e)
+pub judged-requires : goal.judged-requires
+judged-requires c = λ e. volume_spans _ _ _ _ (sym c.volume_fits-fits.ensures ∙ e)
 
-pub returns-then-first-ne0 : goal.returns-then-first-ne0
+pub returns-in_err-judged : goal.returns-in_err-judged
 unfolding sweep_outcome
-returns-then-first-ne0 c = reply_refused c.reply.result c.judged-first.result 0 0 _ _ c.reply.ensures (answer_judged _ _ _ c.volume_fits-fits.ensures c.judged-first.ensures) c.if-first-ne0.true
+returns-in_err-judged c =
+    rw (given_back c.from_residual.result c.from_residual.ensures.1) (refused 0 0 _ _ _ (answer_judged _ _ _ c.volume_fits-fits.ensures c.in_err-judged.ensures))
 
 pub sweep_flash-requires : goal.sweep_flash-requires
-sweep_flash-requires c = let j = judged_passed _ _ _ _ _ _ (sym c.judged-first.ensures ∙ c.if-first-ne0.false) in
+sweep_flash-requires c = let j = judged_passed _ _ _ _ _ _ (sym c.in_ok-judged.ensures) in
     let fits = sym c.volume_fits-fits.ensures ∙ j.fitting in
     record { sound_flash = sound_flash _ _ _ _ fits j.table; pages_in_bounds = (volume_spans _ _ _ _ fits).pages_in_lem }
 
@@ -33,6 +34,5 @@ pub returns : goal.returns
 unfolding sweep_outcome
 returns c = let a = c.args in
     let v = volume a.words.now a.contents.now a.state.now in
-    let none = sym c.if-first-ne0.false ∙ answer_judged two_widths a.sizes v c.volume_fits-fits.ensures c.judged-first.ensures in
-    ap (returned c.reply-2.result) (c.sweep_flash.ensures ∙ sym (sweep_leaves two_widths a.sizes v (sym none)))
-    ∙ reply_done c.reply-2.result 0 0 0 _ _ c.reply-2.ensures none refl
+    let none = answer_judged two_widths a.sizes v c.volume_fits-fits.ensures c.in_ok-judged.ensures in
+    ap (outcome_of 0 0) (c.sweep_flash.ensures ∙ sym (sweep_leaves two_widths a.sizes v (sym none))) ∙ done 0 0 _ _ none

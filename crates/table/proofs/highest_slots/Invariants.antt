@@ -1,4 +1,3 @@
-use Prim.Native.Nat.{◌≤◌, ◌-◌}
 use mathlib.Core.Path.{◌≡◌}
 use Rattle.bounded.specs.Tabulate.{tabulate}
 use Rattle.record.specs.Slot.{slot_in}
@@ -6,7 +5,4 @@ use Rattle.table.specs.HighestSlot.{highest_slot}
 use Rattle.table.proofs.highest_slots.Given as goal
 
 abbrev pub invariant-loop-k : goal.invariant-loop-k
-invariant-loop-k l = (l.k ≤ l.sizes.slots) × (l.top ≡ tabulate 256 (highest_slot l.sizes.slots l.k (slot_in l.layout l.words)))
-
-abbrev pub decreases-loop-k : goal.decreases-loop-k
-decreases-loop-k l = l.sizes.slots - l.k
+invariant-loop-k l = l.top ≡ tabulate 256 (highest_slot l.sizes.slots l.k (slot_in l.layout l.words))

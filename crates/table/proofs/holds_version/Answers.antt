@@ -9,8 +9,8 @@ returns-in_default c = rw c.in_default.is
 
 pub returns-then-record-page : goal.returns-then-record-page
 unfolding holds of_version
-returns-then-record-page c = rw (c.in-Holds.is, holds, ne_eqb _ _ c.if-record-page.true)
+returns-then-record-page c = rw (c.in-Some.is, holds, eq-eqb _ _ c.if-record-page.true)
 
-pub returns : goal.returns
+pub returns-else-record-page : goal.returns-else-record-page
 unfolding holds of_version
-returns c = rw (c.in-Holds.is, holds, eq-eqb _ _ c.if-record-page.false)
+returns-else-record-page c = rw (c.in-Some.is, holds, ne_eqb _ _ c.if-record-page.false)

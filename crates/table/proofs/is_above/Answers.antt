@@ -7,4 +7,4 @@ returns-in_default c = rw c.in_default.is
 
 pub returns : goal.returns
 unfolding above
-returns c = rw c.in-Holds.is
+returns c = rw c.in-Some.is

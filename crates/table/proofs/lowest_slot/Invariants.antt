@@ -1,4 +1,4 @@
-use Prim.Native.Nat.{ℕ, ◌≤◌, ◌<◌, ◌-◌}
+use Prim.Native.Nat.{ℕ, ◌<◌}
 use mathlib.Core.Path.{◌≡◌}
 use mathlib.Core.Bool.{false}
 use Rattle.record.specs.Slot.{slot_in, holds}
@@ -7,7 +7,4 @@ use Rattle.table.proofs.lowest_slot.Given as goal
 
 -- no slot below k holds the page at the version
 abbrev pub invariant-loop-k : goal.invariant-loop-k
-invariant-loop-k l = (l.k ≤ l.slots) × ((j : ℕ) → j < l.k → holds (of_version l.page l.version) (slot_in l.layout l.words j) ≡ false)
-
-abbrev pub decreases-loop-k : goal.decreases-loop-k
-decreases-loop-k l = l.slots - l.k
+invariant-loop-k l = (j : ℕ) → j < l.k → holds (of_version l.page l.version) (slot_in l.layout l.words j) ≡ false

@@ -3,7 +3,7 @@ use native.Mathlib.Omega.{arith}
 use mathlib.Core.Path.{sym, ap, ◌∙◌}
 use mathlib.Core.List.{List}
 use lib.ListN.{set}
-use Rattle.record.specs.declared.Slot.{Slot}
+use Rattle.record.specs.Slot.{Slot}
 use Rattle.record.specs.Slot.{slot_in}
 use Rattle.table.specs.Table.{above}
 use Rattle.table.proofs.HighestSlot.{page_below, no_page_blank, highest_read, highest_blank, highest_kept, highest_raised}
@@ -28,19 +28,19 @@ returns-in_default c = c.requires.top_value
 -- a sound record's page is below the number of pages
 pub bounds-top-p : goal.bounds-top-p
 bounds-top-p c = let pre = c.requires in
-    let s = page_below _ _ _ _ _ pre.words_value pre.k_lt_slots (sym c.slot_in.ensures ∙ c.in-Holds.is) in
+    let s = page_below _ _ _ _ _ pre.words_value pre.k_lt_slots (sym c.slot_in.ensures ∙ c.in-Some.is) in
     omega arith
 
 pub bounds-top-p-then-is_above : goal.bounds-top-p-then-is_above
 bounds-top-p-then-is_above c = let pre = c.requires in
-    let s = page_below _ _ _ _ _ pre.words_value pre.k_lt_slots (sym c.slot_in.ensures ∙ c.in-Holds.is) in
+    let s = page_below _ _ _ _ _ pre.words_value pre.k_lt_slots (sym c.slot_in.ensures ∙ c.in-Some.is) in
     omega arith
 
 pub returns-then-is_above : goal.returns-then-is_above
 returns-then-is_above c = let a = c.args in
     let pre = c.requires in
-    let r = c.in-Holds.record in
-    let holds = sym c.slot_in.ensures ∙ c.in-Holds.is in
+    let r = c.in-Some.record in
+    let holds = sym c.slot_in.ensures ∙ c.in-Some.is in
     let below : r.p < 256 = let s = page_below _ _ _ _ _ pre.words_value pre.k_lt_slots holds in omega arith in
     ap (λ (l : List ℕ). set l r.p a.k) pre.top_value
     ∙ highest_raised _ _ _ _ r holds below
@@ -52,8 +52,8 @@ returns-then-is_above c = let a = c.args in
 pub returns-else-is_above : goal.returns-else-is_above
 returns-else-is_above c = let a = c.args in
     let pre = c.requires in
-    let r = c.in-Holds.record in
-    let holds = sym c.slot_in.ensures ∙ c.in-Holds.is in
+    let r = c.in-Some.record in
+    let holds = sym c.slot_in.ensures ∙ c.in-Some.is in
     let below : r.p < 256 = let s = page_below _ _ _ _ _ pre.words_value pre.k_lt_slots holds in omega arith in
     pre.top_value
     ∙ highest_kept _ _ _ _ r holds

@@ -8,24 +8,22 @@ use Rattle.table.proofs.Inside.{slot_inside}
 use Rattle.table.proofs.table_sound.Goals as goal
 
 pub loop-k-init : goal.loop-k-init
-loop-k-init c = (omega arith, all_zero _)
+loop-k-init c = all_zero _
 
 pub slot_in-requires : goal.slot_in-requires
 slot_in-requires c = slot_inside c.args.layout c.args.sizes.slots c.loop-k.k c.args.words.now c.requires c.loop-k-test.true
 
-pub returns-then-not-is_sound : goal.returns-then-not-is_sound
+pub returns-then-not-slot_sound : goal.returns-then-not-slot_sound
 unfolding table_sound
-returns-then-not-is_sound c = let a = c.args in
-    sym (all_fails _ _ c.loop-k.k (omega arith) (told (c.is_sound.ensures ∙ ap (slot_sound a.sizes.pages) c.slot_in.ensures) c.if-not-is_sound.true))
+returns-then-not-slot_sound c = let a = c.args in
+    sym (all_fails _ _ c.loop-k.k (omega arith) (told (c.slot_sound.ensures ∙ ap (slot_sound a.sizes.pages) c.slot_in.ensures) c.if-not-slot_sound.true))
 
 pub loop-k-preserved : goal.loop-k-preserved
-loop-k-preserved c = let a = c.args in (
-  omega arith,
-  all_more _ _ c.loop-k.invariant.1 (told (c.is_sound.ensures ∙ ap (slot_sound a.sizes.pages) c.slot_in.ensures) c.if-not-is_sound.false),
-)
+loop-k-preserved c = let a = c.args in
+    all_more _ _ c.loop-k.invariant (told (c.slot_sound.ensures ∙ ap (slot_sound a.sizes.pages) c.slot_in.ensures) c.if-not-slot_sound.false)
 
 pub returns : goal.returns
 unfolding table_sound
 returns c = let l = c.loop-k in
     let e : l.k ≡ c.args.sizes.slots = omega arith in
-    sym (rw e at l.invariant.1)
+    sym (rw e at l.invariant)

@@ -1,4 +1,3 @@
-use Prim.Native.Nat.{◌≤◌, ◌-◌}
 use mathlib.Core.Path.{◌≡◌}
 use mathlib.Core.Bool.{true}
 use Rattle.bounded.specs.Below.{all_below}
@@ -6,7 +5,4 @@ use Rattle.record.specs.Slot.{slot_in, slot_sound}
 use Rattle.table.proofs.table_sound.Given as goal
 
 abbrev pub invariant-loop-k : goal.invariant-loop-k
-invariant-loop-k l = (l.k ≤ l.sizes.slots) × (all_below l.k (λ j. slot_sound l.sizes.pages (slot_in l.layout l.words j)) ≡ true)
-
-abbrev pub decreases-loop-k : goal.decreases-loop-k
-decreases-loop-k l = l.sizes.slots - l.k
+invariant-loop-k l = all_below l.k (λ j. slot_sound l.sizes.pages (slot_in l.layout l.words j)) ≡ true

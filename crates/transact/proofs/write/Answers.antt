@@ -1,57 +1,47 @@
-use Prim.Native.Nat.{ℕ}
-use mathlib.Core.Path.{refl, sym, ap, ◌∙◌, subst}
-use mathlib.Core.Bool.{true, false}
+use mathlib.Core.Path.{◌≡◌, refl, sym, ap₂, ◌∙◌}
+use mathlib.Core.Bool.{Bool, true, false, cond}
+use mir.Val.{bool_byte}
 use Rattle.bounded.specs.Limits.{two_widths}
-use Rattle.outcome.specs.Outcome.{returned}
-use Rattle.outcome.specs.Reply.{Replies, reply_refused, reply_done}
+use Rattle.outcome.specs.Reply.{outcome_of}
+use Rattle.outcome.specs.Result.{given_back, refused, done}
 use Rattle.rules.specs.Volume.{Volume, volume}
 use Rattle.transact.specs.Accepted.{write_accepted, write_leaves, write_says, outcome_in}
 use Rattle.transact.proofs.write.Goals as goal
 
-pub returns-then-answer-ne0 : goal.returns-then-answer-ne0
-returns-then-answer-ne0 c = let a = c.args in
+-- 1 for a ring that is complete
+bit_of : (done : Bool) → bool_byte done ≡ cond done 1 0
+bit_of true = refl
+bit_of false = refl
+
+pub returns-in_err-may_write : goal.returns-in_err-may_write
+returns-in_err-may_write c = let a = c.args in
     let v = volume a.words.now a.contents.now a.state.now in
-    reply_refused c.reply.result c.write_answer-answer.result 0 _ _ _ c.reply.ensures c.write_answer-answer.ensures c.if-answer-ne0.true
-    ∙ outcome_in a.layout two_widths a.sizes v a.page a.slot a.bytes.now
+    rw (given_back c.from_residual.result c.from_residual.ensures.1) (refused 0 _ _ _ _ c.in_err-may_write.ensures ∙ outcome_in a.layout two_widths a.sizes v a.page a.slot a.bytes.now)
 
 pub plan_of-requires : goal.plan_of-requires
 plan_of-requires c = let a = c.args in
     let v = volume a.words.now a.contents.now a.state.now in
-    (write_accepted a.layout two_widths a.sizes v a.page a.slot a.bytes.now (sym c.write_answer-answer.ensures ∙ c.if-answer-ne0.false)).walkable
+    (write_accepted a.layout two_widths a.sizes v a.page a.slot a.bytes.now (sym c.in_ok-may_write.ensures)).walkable
 
 pub put_slot-requires : goal.put_slot-requires
 put_slot-requires c = let a = c.args in
     let v = volume a.words.now a.contents.now a.state.now in
-    let w = write_accepted a.layout two_widths a.sizes v a.page a.slot a.bytes.now (sym c.write_answer-answer.ensures ∙ c.if-answer-ne0.false) in
+    let w = write_accepted a.layout two_widths a.sizes v a.page a.slot a.bytes.now (sym c.in_ok-may_write.ensures) in
     record { layout_in_bounds = w.words_in; bytes_in_bounds = w.contents_in }
 
-pub write_page-requires : goal.write_page-requires
-write_page-requires c = let a = c.args in
+pub write_page-done-requires : goal.write_page-done-requires
+write_page-done-requires c = let a = c.args in
     let v = volume a.words.now a.contents.now a.state.now in
-    (write_accepted a.layout two_widths a.sizes v a.page a.slot a.bytes.now (sym c.write_answer-answer.ensures ∙ c.if-answer-ne0.false)).walkable
-
-pub returns-then-write_page : goal.returns-then-write_page
-returns-then-write_page c = let a = c.args in
-    let v = volume a.words.now a.contents.now a.state.now in
-    let z = sym c.write_answer-answer.ensures ∙ c.if-answer-ne0.false in
-    let w = c.write_page in
-    let flash = c.put_slot in
-    let plan = c.plan_of in
-    ap (returned {B = Volume} c.reply-then-write_page.result) (write_leaves a.layout two_widths a.sizes v a.page a.slot a.bytes.now z plan.result plan.ensures flash.ensures.words_after flash.ensures.contents_after w.ensures.1)
-    ∙ reply_done c.reply-then-write_page.result 0 0 _ _ _
-    (subst (λ (s : ℕ). Replies c.reply-then-write_page.result 0 s) (sym (write_says a.layout two_widths a.sizes v a.page a.slot a.bytes.now z true w.ensures.0 c.if-write_page.true)) c.reply-then-write_page.ensures)
-    (sym c.if-answer-ne0.false ∙ c.write_answer-answer.ensures) refl
-    ∙ outcome_in a.layout two_widths a.sizes v a.page a.slot a.bytes.now
+    (write_accepted a.layout two_widths a.sizes v a.page a.slot a.bytes.now (sym c.in_ok-may_write.ensures)).walkable
 
 pub returns : goal.returns
 returns c = let a = c.args in
     let v = volume a.words.now a.contents.now a.state.now in
-    let z = sym c.write_answer-answer.ensures ∙ c.if-answer-ne0.false in
-    let w = c.write_page in
+    let z = sym c.in_ok-may_write.ensures in
+    let w = c.write_page-done in
     let flash = c.put_slot in
-    let plan = c.plan_of in
-    ap (returned {B = Volume} c.reply-2.result) (write_leaves a.layout two_widths a.sizes v a.page a.slot a.bytes.now z plan.result plan.ensures flash.ensures.words_after flash.ensures.contents_after w.ensures.1)
-    ∙ reply_done c.reply-2.result 0 0 _ _ _
-    (subst (λ (s : ℕ). Replies c.reply-2.result 0 s) (sym (write_says a.layout two_widths a.sizes v a.page a.slot a.bytes.now z false w.ensures.0 c.if-write_page.false)) c.reply-2.ensures)
-    (sym c.if-answer-ne0.false ∙ c.write_answer-answer.ensures) refl
+    let left = write_leaves a.layout two_widths a.sizes v a.page a.slot a.bytes.now z c.plan_of.result c.plan_of.ensures flash.ensures.words_after flash.ensures.contents_after w.ensures.1 in
+    let says = write_says a.layout two_widths a.sizes v a.page a.slot a.bytes.now z w.result w.ensures.0 refl in
+    ap₂ (outcome_of {B = Volume} 0) (c.from.ensures ∙ bit_of w.result ∙ sym says) left
+    ∙ done 0 _ _ _ c.in_ok-may_write.ensures
     ∙ outcome_in a.layout two_widths a.sizes v a.page a.slot a.bytes.now

@@ -18,7 +18,7 @@ byte_at width contents k i h = part_at width k contents i 0 h
 
 pub loop-i-init : goal.loop-i-init
 unfolding has_same_bytes
-loop-i-init c = (omega arith, all_zero _)
+loop-i-init c = all_zero _
 
 pub returns-then-contents-a : goal.returns-then-contents-a
 unfolding has_same_bytes
@@ -31,14 +31,11 @@ returns-then-contents-a c = let a = c.args in
 pub loop-i-preserved : goal.loop-i-preserved
 unfolding has_same_bytes
 loop-i-preserved c = let a = c.args in
-    let h = c.loop-i-test.true in (
-      omega arith,
-      all_more _ _ c.loop-i.invariant.1
-          (eq-eqb _ _
-          (byte_at a.width a.contents.now a.j c.loop-i.i h ∙ c.if-contents-a.false ∙ sym (byte_at a.width a.contents.now a.k c.loop-i.i h))),
-    )
+    let h = c.loop-i-test.true in
+    all_more _ _ c.loop-i.invariant
+    (eq-eqb _ _ (byte_at a.width a.contents.now a.j c.loop-i.i h ∙ c.if-contents-a.false ∙ sym (byte_at a.width a.contents.now a.k c.loop-i.i h)))
 
 pub returns : goal.returns
 returns c = let l = c.loop-i in
     let e : l.i ≡ c.args.width = omega arith in
-    sym (rw e at l.invariant.1)
+    sym (rw e at l.invariant)

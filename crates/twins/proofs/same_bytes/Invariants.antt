@@ -1,5 +1,4 @@
 -- The invariant: the first i bytes are equal.
-use Prim.Native.Nat.{◌≤◌, ◌-◌}
 use mathlib.Core.Path.{◌≡◌}
 use mathlib.Core.Bool.{true}
 use Rattle.record.specs.Slot.{bytes_at}
@@ -7,7 +6,4 @@ use Rattle.twins.specs.Twins.{has_same_bytes}
 use Rattle.twins.proofs.same_bytes.Given as goal
 
 abbrev pub invariant-loop-i : goal.invariant-loop-i
-invariant-loop-i l = (l.i ≤ l.width) × (has_same_bytes l.i (bytes_at l.width l.contents l.j) (bytes_at l.width l.contents l.k) ≡ true)
-
-abbrev pub decreases-loop-i : goal.decreases-loop-i
-decreases-loop-i l = l.width - l.i
+invariant-loop-i l = has_same_bytes l.i (bytes_at l.width l.contents l.j) (bytes_at l.width l.contents l.k) ≡ true

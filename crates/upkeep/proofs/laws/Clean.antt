@@ -15,8 +15,8 @@ use Rattle.sizes.specs.declared.Layout.TheVariants.{FiveWords}
 use Rattle.sizes.specs.declared.Sizes.{Sizes}
 use Rattle.sizes.specs.Blocks.{block_at, in_block}
 use Rattle.record.specs.declared.Record.{Record}
-use Rattle.record.specs.declared.Slot.{Slot}
-use Rattle.record.specs.declared.Slot.TheVariants.{Blank, Holds}
+use Rattle.record.specs.Slot.{Slot}
+use Rattle.std.specs.Prelude.{None, Some}
 use Rattle.record.specs.Slot.{slot_at, bytes_at, is_blank, record_sound, slot_sound}
 use Rattle.record.specs.SlotLaws.{sound_facts, is_blank_exactly, not_blank_exactly}
 use Rattle.record.specs.Flash.{Flash, Step, apply_all}
@@ -40,12 +40,12 @@ use Rattle.upkeep.proofs.laws.Copies.{copied, copied_sized, copied_elsewhere, co
 use Rattle.upkeep.proofs.laws.Tests.{CleanTests, clean_tests}
 use Rattle.upkeep.proofs.laws.Tests.{clean_done}
 
-holds_or_blank : {C : Type 0} (s : Slot) → (s ≡ Blank → C) → ((r : Record) → s ≡ Holds r → C) → C
-holds_or_blank Blank f g = f refl
-holds_or_blank (Holds r) f g = g r refl
+holds_or_blank : {C : Type 0} (s : Slot) → (s ≡ None → C) → ((r : Record) → s ≡ Some r → C) → C
+holds_or_blank None f g = f refl
+holds_or_blank (Some r) f g = g r refl
 
 -- a table is sound whose records are
-pub sound_slots : (P S : ℕ) (t : ℕ → Slot) → ((k : ℕ) (r : Record) → k < S → t k ≡ Holds r → record_sound P r ≡ true) → table_sound P S t ≡ true
+pub sound_slots : (P S : ℕ) (t : ℕ → Slot) → ((k : ℕ) (r : Record) → k < S → t k ≡ Some r → record_sound P r ≡ true) → table_sound P S t ≡ true
 unfolding table_sound slot_sound
 sound_slots P S t each = all_of (λ k. slot_sound P (t k)) S (λ k h. holds_or_blank {C = slot_sound P (t k) ≡ true} (t k) (λ e. rw e) (λ r e. rw e (each k r h e)))
 
@@ -116,7 +116,7 @@ module _ (sizes : Sizes) (v : Volume) (block : Block) (size : SizedIn FiveWords 
       ((may_erase_from_lem (scene_of sizes v) inside j).0 h)
 
   -- "copied once (of twins within the block only the lowest)": a record of the block that may not be erased has a twin that is copied, perhaps itself
-  pub twin_copied : (k : ℕ) (r : Record) → k < sizes.slots → inside k ≡ true → slots k ≡ Holds r → may k ≡ false → (j : ℕ) × Memᴰ j from × (twin j k ≡ true)
+  pub twin_copied : (k : ℕ) (r : Record) → k < sizes.slots → inside k ≡ true → slots k ≡ Some r → may k ≡ false → (j : ℕ) × Memᴰ j from × (twin j k ≡ true)
   twin_copied k r h i e n =
       on_test (some_below k test)
       (λ s. let l = first_found test k s in
@@ -148,7 +148,7 @@ module _ (sizes : Sizes) (v : Volume) (block : Block) (size : SizedIn FiveWords 
 
   record IsFree (j : ℕ) : Type 0 where
     free_below : j < sizes.slots
-    free_blank : slots j ≡ Blank
+    free_blank : slots j ≡ None
     free_outside : inside j ≡ false
 
   free_facts : (j : ℕ) → Memᴰ j to → IsFree j
@@ -186,17 +186,17 @@ module _ (sizes : Sizes) (v : Volume) (block : Block) (size : SizedIn FiveWords 
   copies_sized = copied_sized sizes.width sizes.slots v.flash size v.flash 0 from to ready
 
   -- a slot that held a record, and every slot of the block, is as it was
-  pub no_target : (k : ℕ) (r : Record) → slots k ≡ Holds r → ¬ (Memᴰ k to)
+  pub no_target : (k : ℕ) (r : Record) → slots k ≡ Some r → ¬ (Memᴰ k to)
   no_target k r e m = blank_holds (free_facts k m).free_blank e
 
-  pub copies_stay : (k : ℕ) (r : Record) → slots k ≡ Holds r → SameSlot FiveWords sizes.width v.flash copies_done k
+  pub copies_stay : (k : ℕ) (r : Record) → slots k ≡ Some r → SameSlot FiveWords sizes.width v.flash copies_done k
   copies_stay k r e = copied_elsewhere sizes.width sizes.slots v.flash size v.flash 0 from to ready k (no_target k r e)
 
   pub copies_inside : (k : ℕ) → inside k ≡ true → SameSlot FiveWords sizes.width v.flash copies_done k
   copies_inside k i = copied_elsewhere sizes.width sizes.slots v.flash size v.flash 0 from to ready k (λ m. never i (free_outside_block k m))
 
   -- what a slot holds then, some slot held before, with its contents
-  pub copies_back : (k : ℕ) (r : Record) → k < sizes.slots → slot_at copies_done.words k ≡ Holds r → (j : ℕ) × (j < sizes.slots) × HoldsAt sizes v.flash j r copies_done k
+  pub copies_back : (k : ℕ) (r : Record) → k < sizes.slots → slot_at copies_done.words k ≡ Some r → (j : ℕ) × (j < sizes.slots) × HoldsAt sizes v.flash j r copies_done k
   copies_back k r h e =
       ⊎_elim
       (λ w. (k, h, (w.0, sym w.1.same_bytes)))
@@ -210,11 +210,11 @@ module _ (sizes : Sizes) (v : Volume) (block : Block) (size : SizedIn FiveWords 
   abbrev pub Outside : ℕ → Record → Type 0
   Outside k r = (j : ℕ) × (j < sizes.slots) × (inside j ≡ false) × HoldsAt sizes copies_done j r v.flash k
 
-  pub twin_stands : (j k : ℕ) (r : Record) → j < sizes.slots → k < sizes.slots → slots k ≡ Holds r → twin j k ≡ true → (slots j ≡ Holds r) × (bytes_at sizes.width v.flash.contents j ≡ bytes_at sizes.width v.flash.contents k)
+  pub twin_stands : (j k : ℕ) (r : Record) → j < sizes.slots → k < sizes.slots → slots k ≡ Some r → twin j k ≡ true → (slots j ≡ Some r) × (bytes_at sizes.width v.flash.contents j ≡ bytes_at sizes.width v.flash.contents k)
   twin_stands j k r hj hk e t = let w = (twins_exactly sizes.width v.flash j k (whole j hj) (whole k hk)).0 t in (w.1 ∙ sym w.2 ∙ e, w.3)
 
   module _ (room : length from ≤ length to) where
-    pub outside_or_erasable : (k : ℕ) (r : Record) → k < sizes.slots → inside k ≡ true → slots k ≡ Holds r → Outside k r ⊎ (may_erase (scene_of sizes v) k ≡ true)
+    pub outside_or_erasable : (k : ℕ) (r : Record) → k < sizes.slots → inside k ≡ true → slots k ≡ Some r → Outside k r ⊎ (may_erase (scene_of sizes v) k ≡ true)
     outside_or_erasable k r h i e =
         on_test (may k)
         (λ y. ⊎_elim
@@ -302,7 +302,7 @@ clean_accepted widths sizes v block fits starts table sound named h = rw (clean_
 -- ---- a cleaning done again
 
 -- the block's slots being blank, nothing is copied
-nothing_copied : (sizes : Sizes) (v : Volume) (block : Block) → ((k : ℕ) → k < sizes.slots → in_block block k ≡ true → slot_at v.flash.words k ≡ Blank) → clean_from sizes v block ≡ []
+nothing_copied : (sizes : Sizes) (v : Volume) (block : Block) → ((k : ℕ) → k < sizes.slots → in_block block k ≡ true → slot_at v.flash.words k ≡ None) → clean_from sizes v block ≡ []
 unfolding clean_from copied_slots is_copied is_blank
 nothing_copied sizes v block blank =
     list_none _ sizes.slots

@@ -12,8 +12,8 @@ use Rattle.bounded.specs.PartsLaws.{update_same, update_other}
 use Rattle.bounded.specs.Members.{Rises, rises_member}
 use Rattle.sizes.specs.declared.Layout.TheVariants.{FiveWords}
 use Rattle.record.specs.declared.Record.{Record}
-use Rattle.record.specs.declared.Slot.{Slot}
-use Rattle.record.specs.declared.Slot.TheVariants.{Blank, Holds}
+use Rattle.record.specs.Slot.{Slot}
+use Rattle.std.specs.Prelude.{None, Some}
 use Rattle.record.specs.Slot.{slot_at, bytes_at}
 use Rattle.record.specs.SlotLaws.{Storable}
 use Rattle.record.specs.Flash.{Flash, apply, apply_all_in, apply_all}
@@ -24,7 +24,7 @@ use Rattle.upkeep.specs.Clean.{record_in, copy_step, copy_steps}
 use Rattle.upkeep.specs.laws.Copies.{Source, Ready}
 
 -- the record in a slot that holds one
-pub record_in_lem : {s : Slot} {r : Record} → s ≡ Holds r → record_in s ≡ r
+pub record_in_lem : {s : Slot} {r : Record} → s ≡ Some r → record_in s ≡ r
 unfolding record_in
 record_in_lem e = rw e
 
@@ -45,22 +45,22 @@ module _ (w S : ℕ) (f : Flash) (sized : SizedIn FiveWords w S f) where
     unfolding copy_step
     copy_sized = store_sized FiveWords w S g size j below (record_in (slot_at f.words k)) (bytes_at w f.contents k) whole
 
-    slots_are : slot_at one.words ≡ update (slot_at g.words) j (Holds s.held)
+    slots_are : slot_at one.words ≡ update (slot_at g.words) j (Some s.held)
     unfolding copy_step
     slots_are =
         store_slots FiveWords w S g size j below (record_in (slot_at f.words k)) (bytes_at w f.contents k) whole (subst (Storable FiveWords) (sym is_record) s.storable)
-        ∙ ap (λ (r : Record). update (slot_at g.words) j (Holds r)) is_record
+        ∙ ap (λ (r : Record). update (slot_at g.words) j (Some r)) is_record
 
     bytes_are : bytes_at w one.contents ≡ update (bytes_at w g.contents) j (bytes_at w f.contents k)
     unfolding copy_step
     bytes_are = store_bytes FiveWords w S g size j below (record_in (slot_at f.words k)) (bytes_at w f.contents k) whole
 
-    pub copy_there : (slot_at one.words j ≡ Holds s.held) × (bytes_at w one.contents j ≡ bytes_at w f.contents k)
-    copy_there = (at_slot slots_are j ∙ update_same (slot_at g.words) j (Holds s.held), at_slot bytes_are j ∙ update_same (bytes_at w g.contents) j (bytes_at w f.contents k))
+    pub copy_there : (slot_at one.words j ≡ Some s.held) × (bytes_at w one.contents j ≡ bytes_at w f.contents k)
+    copy_there = (at_slot slots_are j ∙ update_same (slot_at g.words) j (Some s.held), at_slot bytes_are j ∙ update_same (bytes_at w g.contents) j (bytes_at w f.contents k))
 
     pub copy_elsewhere : (i : ℕ) → ¬ (i ≡ j) → SameSlot FiveWords w g one i
     copy_elsewhere i d = record {
-      same_slot = at_slot slots_are i ∙ update_other (slot_at g.words) j (Holds s.held) i d;
+      same_slot = at_slot slots_are i ∙ update_other (slot_at g.words) j (Some s.held) i d;
       same_bytes = at_slot bytes_are i ∙ update_other (bytes_at w g.contents) j (bytes_at w f.contents k) i d;
     }
 
@@ -145,7 +145,7 @@ module _ (w S : ℕ) (f : Flash) (sized : SizedIn FiveWords w S f) where
       (Memᴰ.cases_cons m)
 
   -- a slot that is blank afterwards is as it was
-  pub copied_blank : (g : Flash) (b : ℕ) (from to : List ℕ) → Ready w S f sized g b from to → (i : ℕ) → slot_at (copied g from to).words i ≡ Blank → SameSlot FiveWords w g (copied g from to) i
+  pub copied_blank : (g : Flash) (b : ℕ) (from to : List ℕ) → Ready w S f sized g b from to → (i : ℕ) → slot_at (copied g from to).words i ≡ None → SameSlot FiveWords w g (copied g from to) i
   unfolding copy_steps apply_all_in
   copied_blank g b [] to ready i e = record { same_slot = refl; same_bytes = refl }
   copied_blank g b (k ∷ from) [] ready i e = record { same_slot = refl; same_bytes = refl }
@@ -158,8 +158,8 @@ module _ (w S : ℕ) (f : Flash) (sized : SizedIn FiveWords w S f) where
 
   -- a slot that holds a record afterwards held it, with its contents, before, or is a copy of a source
   pub copied_back :
-      (g : Flash) (b : ℕ) (from to : List ℕ) → Ready w S f sized g b from to → (i : ℕ) (r : Record) → slot_at (copied g from to).words i ≡ Holds r
-      → ((slot_at g.words i ≡ Holds r) × SameSlot FiveWords w g (copied g from to) i) ⊎ ((k : ℕ) × Memᴰ k from × CopyOf (copied g from to) k i)
+      (g : Flash) (b : ℕ) (from to : List ℕ) → Ready w S f sized g b from to → (i : ℕ) (r : Record) → slot_at (copied g from to).words i ≡ Some r
+      → ((slot_at g.words i ≡ Some r) × SameSlot FiveWords w g (copied g from to) i) ⊎ ((k : ℕ) × Memᴰ k from × CopyOf (copied g from to) k i)
   unfolding copy_steps apply_all_in
   copied_back g b [] to ready i r e = inl (e, record { same_slot = refl; same_bytes = refl })
   copied_back g b (k ∷ from) [] ready i r e = inl (e, record { same_slot = refl; same_bytes = refl })

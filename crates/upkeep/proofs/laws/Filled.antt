@@ -17,8 +17,8 @@ use Rattle.sizes.specs.declared.Layout.TheVariants.{FiveWords}
 use Rattle.sizes.specs.declared.Sizes.{Sizes}
 use Rattle.sizes.specs.Blocks.{block_at, in_block}
 use Rattle.record.specs.declared.Record.{Record}
-use Rattle.record.specs.declared.Slot.{Slot}
-use Rattle.record.specs.declared.Slot.TheVariants.{Blank, Holds}
+use Rattle.record.specs.Slot.{Slot}
+use Rattle.std.specs.Prelude.{None, Some}
 use Rattle.record.specs.Slot.{slot_at, bytes_at, is_blank}
 use Rattle.record.specs.SlotLaws.{is_blank_exactly, not_blank_exactly}
 use Rattle.record.specs.Flash.{Flash, Step, apply_all_in, apply_all}
@@ -136,13 +136,13 @@ module _ (sizes : Sizes) (v : Volume) (block : Block) (size : SizedIn FiveWords 
   target_stays : (k : ℕ) → Memᴰ k targets → SameSlot FiveWords sizes.width stood left k
   target_stays k m = outside_stays k (clean.free_outside_block sizes v block size sound k (target k m))
 
-  filled : (k : ℕ) → Memᴰ k targets → (r : Record) × (slot_at left.words k ≡ Holds r)
+  filled : (k : ℕ) → Memᴰ k targets → (r : Record) × (slot_at left.words k ≡ Some r)
   filled k m =
       let c = targets_copied sizes.width sizes.slots v.flash size v.flash 0 from targets ready (omega (arith, many)) k m in
       let s = ready.sources c.0 c.1 in
       (s.held, (target_stays k m).same_slot ∙ c.2.same_record_lem ∙ s.holds_it)
 
-  unfilled : (k : ℕ) → k < sizes.slots → ¬ (Memᴰ k targets) → before k ≡ Blank → slot_at left.words k ≡ Blank
+  unfilled : (k : ℕ) → k < sizes.slots → ¬ (Memᴰ k targets) → before k ≡ None → slot_at left.words k ≡ None
   unfilled k h n e =
       on_test (in_block block k)
       (λ i. (clean.left_inside sizes v block size sound room k h i).slot_blank)

@@ -8,8 +8,8 @@ use Rattle.bounded.specs.Choice.{on_test, same_test, never, both, both_left, bot
 use Rattle.sizes.specs.declared.Layout.TheVariants.{FiveWords}
 use Rattle.sizes.specs.declared.Sizes.{Sizes}
 use Rattle.record.specs.declared.Record.{Record}
-use Rattle.record.specs.declared.Slot.{Slot}
-use Rattle.record.specs.declared.Slot.TheVariants.{Blank, Holds}
+use Rattle.record.specs.Slot.{Slot}
+use Rattle.std.specs.Prelude.{None, Some}
 use Rattle.record.specs.Slot.{holds, slot_at, is_blank}
 use Rattle.record.specs.SlotLaws.{is_blank_exactly, not_blank_exactly, holds_exactly, holds_one}
 use Rattle.record.specs.Flash.{Flash}
@@ -27,19 +27,19 @@ use Rattle.upkeep.specs.Swept.{is_blanked, Sorted}
 use Rattle.upkeep.proofs.laws.Fronts.{list_same}
 use Rattle.upkeep.proofs.laws.Sweep.{without, without_same, without_held, sweep_fits, fits1, fits2, left, lowest_twin, stays_somewhere}
 
-blank_or_holds : {C : Type 0} (s : Slot) → (s ≡ Blank → C) → ((r : Record) → s ≡ Holds r → C) → C
-blank_or_holds Blank f g = f refl
-blank_or_holds (Holds r) f g = g r refl
+blank_or_holds : {C : Type 0} (s : Slot) → (s ≡ None → C) → ((r : Record) → s ≡ Some r → C) → C
+blank_or_holds None f g = f refl
+blank_or_holds (Some r) f g = g r refl
 
 -- ---- one erasure
 
 module _ (w S : ℕ) (f : Flash) (size : SizedIn FiveWords w S f) (q : ℕ → Bool) (k : ℕ) (h : k < S) where
   -- what passes is blank then,
-  pub blank_then : q k ≡ true → slot_at (without w S f size q).words k ≡ Blank
+  pub blank_then : q k ≡ true → slot_at (without w S f size q).words k ≡ None
   blank_then e = blank_or_holds (slot_at (without w S f size q).words k) (λ b. b) (λ r x. absurd (never e (without_held w S f size q k r h x).0))
 
   -- and what was blank stays so
-  pub blank_still : slot_at f.words k ≡ Blank → slot_at (without w S f size q).words k ≡ Blank
+  pub blank_still : slot_at f.words k ≡ None → slot_at (without w S f size q).words k ≡ None
   blank_still e = blank_or_holds (slot_at (without w S f size q).words k) (λ b. b) (λ r x. absurd (blank_holds e (without_held w S f size q k r h x).1))
 
 -- ---- the three
@@ -60,7 +60,7 @@ not_both t st k o =
     apart a b e l x = let v = ap (λ (r : Record). r.v) e in let c = ap (λ (r : Record). (st r.p).committed) e in omega arith
 
 module _ (widths : Widths) (sizes : Sizes) (v : Volume) (accepted : sweep_answer widths sizes v ≡ 0)
-    (none : (k : ℕ) (r : Record) → k < sizes.slots → slot_at (left widths sizes v accepted).words k ≡ Holds r → r.v < (state_at v.state r.p).committed → ⊥) where
+    (none : (k : ℕ) (r : Record) → k < sizes.slots → slot_at (left widths sizes v accepted).words k ≡ Some r → r.v < (state_at v.state r.p).committed → ⊥) where
   abbrev S : ℕ
   S = sizes.slots
 
@@ -104,33 +104,33 @@ module _ (widths : Widths) (sizes : Sizes) (v : Volume) (accepted : sweep_answer
   module _ (k : ℕ) (h : k < S) where
     -- ---- blank from an erasure on
 
-    blank1 : q1 k ≡ true → t1 k ≡ Blank
+    blank1 : q1 k ≡ true → t1 k ≡ None
     unfolding without_exposed swept_exposed
     blank1 e = blank_then w S v.flash size0 q1 k h e
 
-    blank2 : q2 k ≡ true → t2 k ≡ Blank
+    blank2 : q2 k ≡ true → t2 k ≡ None
     unfolding without_obsolete swept_obsolete
     blank2 e = blank_then w S (without_exposed sizes v) size1 q2 k h e
 
-    blank3 : q3 k ≡ true → t3 k ≡ Blank
+    blank3 : q3 k ≡ true → t3 k ≡ None
     unfolding swept_twins
     blank3 e = blank_then w S (without_obsolete sizes v) size2 q3 k h e
 
-    still2 : t1 k ≡ Blank → t2 k ≡ Blank
+    still2 : t1 k ≡ None → t2 k ≡ None
     unfolding without_obsolete swept_obsolete
     still2 e = blank_still w S (without_exposed sizes v) size1 q2 k h e
 
-    still3 : t2 k ≡ Blank → t3 k ≡ Blank
+    still3 : t2 k ≡ None → t3 k ≡ None
     unfolding swept_twins
     still3 e = blank_still w S (without_obsolete sizes v) size2 q3 k h e
 
     -- ---- held up to one
 
-    held1 : (r : Record) → t1 k ≡ Holds r → (q1 k ≡ false) × (t0 k ≡ Holds r)
+    held1 : (r : Record) → t1 k ≡ Some r → (q1 k ≡ false) × (t0 k ≡ Some r)
     unfolding without_exposed swept_exposed
     held1 r e = without_held w S v.flash size0 q1 k r h e
 
-    held2 : (r : Record) → t2 k ≡ Holds r → (q2 k ≡ false) × (t1 k ≡ Holds r)
+    held2 : (r : Record) → t2 k ≡ Some r → (q2 k ≡ false) × (t1 k ≡ Some r)
     unfolding without_obsolete swept_obsolete
     held2 r e = without_held w S (without_exposed sizes v) size1 q2 k r h e
 
@@ -149,17 +149,17 @@ module _ (widths : Widths) (sizes : Sizes) (v : Volume) (accepted : sweep_answer
     -- ---- which are obsolete
 
     -- the second erasure takes none but obsolete records,
-    obsolete_before : q2 k ≡ true → (r : Record) × (t0 k ≡ Holds r) × (is_obsolete st r ≡ true)
+    obsolete_before : q2 k ≡ true → (r : Record) × (t0 k ≡ Some r) × (is_obsolete st r ≡ true)
     unfolding is_erasable_obsolete is_obsolete_at
     obsolete_before e =
         let o = (holds_exactly (is_obsolete st) (t1 k)).0 (both_left (holds (is_obsolete st) (t1 k)) _ e) in
         (o.0, (held1 o.0 o.1).1, o.2)
 
     -- and all of them
-    none_behind : (r : Record) → t2 k ≡ Holds r → is_obsolete st r ≡ true → ⊥
+    none_behind : (r : Record) → t2 k ≡ Some r → is_obsolete st r ≡ true → ⊥
     none_behind r e o = let s = stays_somewhere widths sizes v accepted k r h e in none s.0 r s.1 s.2 ((obsolete_exactly st r).0 o)
 
-    obsolete_then : (r : Record) → t0 k ≡ Holds r → is_obsolete st r ≡ true → q2 k ≡ true
+    obsolete_then : (r : Record) → t0 k ≡ Some r → is_obsolete st r ≡ true → q2 k ≡ true
     unfolding is_obsolete_at
     obsolete_then r e o =
         on_test (q2 k)
@@ -168,11 +168,11 @@ module _ (widths : Widths) (sizes : Sizes) (v : Volume) (accepted : sweep_answer
 
     -- ---- each test, by what was blanked
 
-    blanked : (r : Record) → t0 k ≡ Holds r → t3 k ≡ Blank → is_blanked t0 t3 k ≡ true
+    blanked : (r : Record) → t0 k ≡ Some r → t3 k ≡ None → is_blanked t0 t3 k ≡ true
     unfolding is_blanked
     blanked r e b = both (not_no ((not_blank_exactly (t0 k)).1 (r, e))) ((is_blank_exactly (t3 k)).1 b)
 
-    was_blanked : is_blanked t0 t3 k ≡ true → ((r : Record) × (t0 k ≡ Holds r)) × (t3 k ≡ Blank)
+    was_blanked : is_blanked t0 t3 k ≡ true → ((r : Record) × (t0 k ≡ Some r)) × (t3 k ≡ None)
     unfolding is_blanked
     was_blanked e = (
       (not_blank_exactly (t0 k)).0 (not-true (is_blank (t0 k)) (both_left (not (is_blank (t0 k))) (is_blank (t3 k)) e)),

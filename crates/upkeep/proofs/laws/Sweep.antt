@@ -19,8 +19,8 @@ use Rattle.sizes.specs.declared.Sizes.{Sizes}
 use Rattle.sizes.specs.Sizes.{list_ok, listed}
 use Rattle.sizes.specs.Lists.{list_test, passing_listed, unlisted_fails}
 use Rattle.record.specs.declared.Record.{Record}
-use Rattle.record.specs.declared.Slot.{Slot}
-use Rattle.record.specs.declared.Slot.TheVariants.{Holds}
+use Rattle.record.specs.Slot.{Slot}
+use Rattle.std.specs.Prelude.{Some}
 use Rattle.record.specs.Slot.{holds, slot_at}
 use Rattle.record.specs.SlotLaws.{Straddles, holds_exactly, holds_one}
 use Rattle.record.specs.Flash.{Flash, apply_all_in, apply_all}
@@ -64,7 +64,7 @@ module _ (w S : ℕ) (f : Flash) (size : SizedIn FiveWords w S f) (q : ℕ → B
   without_same k e = blanks_unlisted FiveWords w S (list_below S q) f k size inside (λ m. never ((list_members q S k).0 m).1 e)
 
   -- and one that holds a record then does not, and held it
-  pub without_held : (k : ℕ) (r : Record) → k < S → slot_at without.words k ≡ Holds r → (q k ≡ false) × (slot_at f.words k ≡ Holds r)
+  pub without_held : (k : ℕ) (r : Record) → k < S → slot_at without.words k ≡ Some r → (q k ≡ false) × (slot_at f.words k ≡ Some r)
   unfolding erase_steps
   without_held k r h e =
       on_test (q k)
@@ -107,7 +107,7 @@ module _ (S : ℕ) (t : ℕ → Slot) (st : ℕ → PageState) (twin : ℕ → �
       let h = (holds_exactly (λ r. is_exposed st r && not (is_current st r)) (t k)).0 e in
       (holds_exactly (may_erase_record (scene S t st twin)) (t k)).1 (h.0, h.1, either_right (is_obsolete st h.0 && not (is_needed (scene S t st twin) h.0)) h.2)
 
-  module _ {r : Record} (e : t k ≡ Holds r) where
+  module _ {r : Record} (e : t k ≡ Some r) where
     pub spare_exposed : ExposedSpare st r → is_spare_exposed t st k ≡ true
     unfolding is_spare_exposed
     spare_exposed x = holds_of (λ r. is_exposed st r && not (is_current st r)) e ((exposed_spare_exactly st r).1 x)
@@ -142,7 +142,7 @@ module _ (w S : ℕ) (f : Flash) (st : ℕ → PageState) where
       (λ n. rw n)
 
   -- An exposed record is not erased with these.
-  pub exposed_stays : (k : ℕ) {r : Record} → slot_at f.words k ≡ Holds r → Exposed st r → is_erasable_obsolete (scene S (slot_at f.words) st (twins w f)) k ≡ false
+  pub exposed_stays : (k : ℕ) {r : Record} → slot_at f.words k ≡ Some r → Exposed st r → is_erasable_obsolete (scene S (slot_at f.words) st (twins w f)) k ≡ false
   unfolding is_erasable_obsolete is_obsolete_at
   exposed_stays k {r} e x =
       on_test (holds (is_obsolete st) (slot_at f.words k))
@@ -202,7 +202,7 @@ module _ (widths : Widths) (sizes : Sizes) (v : Volume) (accepted : sweep_answer
   unfolding without_exposed swept_exposed
   sound1 = without_sound w S v.flash size0 q1 sizes.pages tests.table
 
-  held1 : (k : ℕ) (r : Record) → k < S → slot_at (without_exposed sizes v).words k ≡ Holds r → (q1 k ≡ false) × (slot_at v.flash.words k ≡ Holds r)
+  held1 : (k : ℕ) (r : Record) → k < S → slot_at (without_exposed sizes v).words k ≡ Some r → (q1 k ≡ false) × (slot_at v.flash.words k ≡ Some r)
   unfolding without_exposed swept_exposed
   held1 = without_held w S v.flash size0 q1
 
@@ -217,7 +217,7 @@ module _ (widths : Widths) (sizes : Sizes) (v : Volume) (accepted : sweep_answer
   unfolding without_obsolete swept_obsolete
   sound2 = without_sound w S (without_exposed sizes v) size1 q2 sizes.pages sound1
 
-  held2 : (k : ℕ) (r : Record) → k < S → slot_at (without_obsolete sizes v).words k ≡ Holds r → (q2 k ≡ false) × (slot_at (without_exposed sizes v).words k ≡ Holds r)
+  held2 : (k : ℕ) (r : Record) → k < S → slot_at (without_obsolete sizes v).words k ≡ Some r → (q2 k ≡ false) × (slot_at (without_exposed sizes v).words k ≡ Some r)
   unfolding without_obsolete swept_obsolete
   held2 = without_held w S (without_exposed sizes v) size1 q2
 
@@ -273,7 +273,7 @@ module _ (widths : Widths) (sizes : Sizes) (v : Volume) (accepted : sweep_answer
       ∙ apply_append FiveWords sizes.width (without_exposed sizes v) (erase_steps (swept_obsolete sizes v)) _
       ∙ apply_append FiveWords sizes.width (without_obsolete sizes v) (erase_steps (swept_twins sizes v)) []
 
-  held3 : (k : ℕ) (r : Record) → k < sizes.slots → slot_at left.words k ≡ Holds r → (q3 widths sizes v accepted k ≡ false) × (slot_at (without_obsolete sizes v).words k ≡ Holds r)
+  held3 : (k : ℕ) (r : Record) → k < sizes.slots → slot_at left.words k ≡ Some r → (q3 widths sizes v accepted k ≡ false) × (slot_at (without_obsolete sizes v).words k ≡ Some r)
   unfolding swept_twins
   held3 = without_held sizes.width sizes.slots (without_obsolete sizes v) (size2 widths sizes v accepted) (q3 widths sizes v accepted)
 
@@ -307,26 +307,26 @@ module _ (widths : Widths) (sizes : Sizes) (v : Volume) (accepted : sweep_answer
       never (some_of (λ i. twins sizes.width (without_obsolete sizes v) i k) k j l (twins_before j k (omega arith) h e)) (held3 k t.0 h t.2).0
 
   -- a record that is left behind the first two erasures is left behind the last: in the lowest slot that holds it
-  pub stays_somewhere : (k : ℕ) (r : Record) → k < sizes.slots → slot_at (without_obsolete sizes v).words k ≡ Holds r → (j : ℕ) × (j < sizes.slots) × (slot_at left.words j ≡ Holds r)
+  pub stays_somewhere : (k : ℕ) (r : Record) → k < sizes.slots → slot_at (without_obsolete sizes v).words k ≡ Some r → (j : ℕ) × (j < sizes.slots) × (slot_at left.words j ≡ Some r)
   stays_somewhere k r h e =
       on_test (q3 widths sizes v accepted k)
       (λ y. let j = lowest_twin sizes.width sizes.slots (without_obsolete sizes v) (state_at v.state) k y in
       let t = twins_hold sizes.width (without_obsolete sizes v) j.0 k j.2 in
-      (j.0, (let l = j.1 in omega arith), (same3 j.0 j.3).same_slot ∙ t.1 ∙ ap Holds (holds_one t.2 e)))
+      (j.0, (let l = j.1 in omega arith), (same3 j.0 j.3).same_slot ∙ t.1 ∙ ap Some (holds_one t.2 e)))
       (λ n. (k, h, (same3 k n).same_slot ∙ e))
 
   -- the old rule permits none
   none_permitted : (k : ℕ) → k < sizes.slots → may_erase (scene_of sizes (record { flash = left; state = v.state })) k ≡ true → ⊥
   none_permitted k h e = by ((may_erase_exactly sizes.slots (slot_at left.words) (state_at v.state) (twins sizes.width left) k).0 e)
     where
-      by : (r : Record) × (slot_at left.words k ≡ Holds r) × Erasable sizes.slots (slot_at left.words) (state_at v.state) r → ⊥
+      by : (r : Record) × (slot_at left.words k ≡ Some r) × Erasable sizes.slots (slot_at left.words) (state_at v.state) r → ⊥
       by (r, f, inr spare) =
           let a = held3 k r h f in
           let b = held2 widths sizes v accepted k r h a.1 in
           let c = held1 widths sizes v accepted k r h b.1 in
           never (spare_at c.1 spare) c.0
         where
-          spare_at : slot_at v.flash.words k ≡ Holds r → ExposedSpare (state_at v.state) r → is_spare_exposed (slot_at v.flash.words) (state_at v.state) k ≡ true
+          spare_at : slot_at v.flash.words k ≡ Some r → ExposedSpare (state_at v.state) r → is_spare_exposed (slot_at v.flash.words) (state_at v.state) k ≡ true
           spare_at e x = spare_exposed sizes.slots (slot_at v.flash.words) (state_at v.state) (twins sizes.width v.flash) k e x
       by (r, f, inl (o, free)) =
           let a = held3 k r h f in
@@ -339,15 +339,15 @@ module _ (widths : Widths) (sizes : Sizes) (v : Volume) (accepted : sweep_answer
           })
         where
           -- not erased among the obsolete ones it may not be
-          unerasable : (k : ℕ) (r : Record) → slot_at (without_exposed sizes v).words k ≡ Holds r → is_obsolete (state_at v.state) r ≡ true → q2 widths sizes v accepted k ≡ false → may_erase (scene_of sizes (record { flash = without_exposed sizes v; state = v.state })) k ≡ false
+          unerasable : (k : ℕ) (r : Record) → slot_at (without_exposed sizes v).words k ≡ Some r → is_obsolete (state_at v.state) r ≡ true → q2 widths sizes v accepted k ≡ false → may_erase (scene_of sizes (record { flash = without_exposed sizes v; state = v.state })) k ≡ false
           unerasable k r e o n =
               on_test (may_erase (scene_of sizes (record { flash = without_exposed sizes v; state = v.state })) k)
               (λ y. absurd (never (erasable_obsolete sizes.width sizes.slots (without_exposed sizes v) (state_at v.state) k ∙ both (obsolete_at_lem sizes.slots (slot_at (without_exposed sizes v).words) (state_at v.state) (twins sizes.width (without_exposed sizes v)) k e o) y) n))
               (λ z. z)
 
           supported :
-              (j : ℕ) × (s : Record) × (j < sizes.slots) × (slot_at (without_exposed sizes v).words j ≡ Holds s) × (Exposed (state_at v.state) s × Straddles r s)
-              → (j : ℕ) × (s : Record) × (j < sizes.slots) × (slot_at left.words j ≡ Holds s) × (Exposed (state_at v.state) s × Straddles r s)
+              (j : ℕ) × (s : Record) × (j < sizes.slots) × (slot_at (without_exposed sizes v).words j ≡ Some s) × (Exposed (state_at v.state) s × Straddles r s)
+              → (j : ℕ) × (s : Record) × (j < sizes.slots) × (slot_at left.words j ≡ Some s) × (Exposed (state_at v.state) s × Straddles r s)
           supported x =
               let e = x.4.0 in
               let kept = stays2 widths sizes v accepted x.0 (exposed_stays sizes.width sizes.slots (without_exposed sizes v) (state_at v.state) x.0 x.3 e) in

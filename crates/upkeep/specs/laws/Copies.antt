@@ -4,7 +4,7 @@ use mathlib.Core.List.{List, Memᴰ}
 use Rattle.bounded.specs.Members.{Rises}
 use Rattle.sizes.specs.declared.Layout.TheVariants.{FiveWords}
 use Rattle.record.specs.declared.Record.{Record}
-use Rattle.record.specs.declared.Slot.TheVariants.{Blank, Holds}
+use Rattle.std.specs.Prelude.{None, Some}
 use Rattle.record.specs.Slot.{slot_at}
 use Rattle.record.specs.SlotLaws.{Storable}
 use Rattle.record.specs.Flash.{Flash}
@@ -14,7 +14,7 @@ use Rattle.record.specs.FlashLaws.{SizedIn, SameSlot}
 pub record Source (S : ℕ) (f : Flash) (k : ℕ) : Type 0 where
   pub source_below : k < S
   pub held : Record
-  pub holds_it : slot_at f.words k ≡ Holds held
+  pub holds_it : slot_at f.words k ≡ Some held
   pub storable : Storable FiveWords held
 
 module _ (w S : ℕ) (f : Flash) (sized : SizedIn FiveWords w S f) where
@@ -23,5 +23,5 @@ module _ (w S : ℕ) (f : Flash) (sized : SizedIn FiveWords w S f) where
     pub size : SizedIn FiveWords w S g
     pub sources : (k : ℕ) → Memᴰ k from → Source S f k
     pub unaltered : (k : ℕ) → Memᴰ k from → SameSlot FiveWords w f g k
-    pub blank : (j : ℕ) → Memᴰ j to → slot_at g.words j ≡ Blank
+    pub blank : (j : ℕ) → Memᴰ j to → slot_at g.words j ≡ None
     pub rises : Rises b S to

@@ -1,18 +1,12 @@
--- The invariant: what is still to be printed, behind what is shown, is the whole page.
-use Prim.Native.Nat.{◌-◌}
-use mathlib.Core.Path.{◌≡◌}
-use lib.ListN.{length}
+-- The invariant: what is still to be printed, put behind what is printed, makes the whole page.
 use Rattle.bounded.specs.Limits.{two_widths}
-use Rattle.text.specs.Print.{added}
+use Rattle.text.specs.declared.print.Printout.{Printout}
+use Rattle.text.specs.Puts.{Puts}
 use Rattle.fleet.specs.Page.{van_page}
 use Rattle.van.specs.Tally.{TallyFew}
 use Rattle.van.specs.Rest.{rest_from}
 use Rattle.van.proofs.page.Given as goal
 
-abbrev pub invariant-loop-at : goal.invariant-loop-at
-invariant-loop-at l = TallyFew l.number l.tally
-    × (length l.out ≡ length l.initial.out)
-    × (added l.out l.place (rest_from l.input l.tally l.number l.at) ≡ added l.initial.out 0 (van_page two_widths l.input))
-
-abbrev pub decreases-loop-at : goal.decreases-loop-at
-decreases-loop-at l = 33 - l.number
+abbrev pub invariant-loop-number : goal.invariant-loop-number
+invariant-loop-number l = TallyFew l.number l.tally
+    × ((last : Printout) → Puts l.printed last (rest_from l.tally l.number l.rest) → Puts l.initial.printed last (van_page two_widths l.input))

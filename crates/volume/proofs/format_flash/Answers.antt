@@ -1,4 +1,4 @@
-use Prim.Native.Nat.{ℕ, ◌-◌}
+use Prim.Native.Nat.{ℕ}
 use native.Mathlib.Omega.{arith}
 use mathlib.Core.Path.{◌≡◌, refl, ap, ◌∙◌}
 use Rattle.bounded.specs.Parts.{put_part}
@@ -10,7 +10,7 @@ use Rattle.volume.proofs.format_flash.Goals as goal
 
 pub loop-k-init : goal.loop-k-init
 loop-k-init c = let a = c.args in
-    (omega arith, filled_none (stride_of a.layout) (fresh_words a.layout a.sizes.pages) _, filled_none a.sizes.width (fresh_bytes a.sizes.width a.sizes.pages) _, refl, refl)
+    (filled_none (stride_of a.layout) (fresh_words a.layout a.sizes.pages) _, filled_none a.sizes.width (fresh_bytes a.sizes.width a.sizes.pages) _, refl, refl)
 
 pub format_slot-requires : goal.format_slot-requires
 format_slot-requires c = let l = c.loop-k in
@@ -22,31 +22,30 @@ pub loop-k-preserved : goal.loop-k-preserved
 loop-k-preserved c = let a = c.args in
     let l = c.loop-k in
     let s = c.format_slot in (
-      omega arith,
       s.ensures.words_after
-          ∙ ap (put_part (stride_of a.layout) l.k (fresh_words a.layout a.sizes.pages l.k)) l.invariant.1
+          ∙ ap (put_part (stride_of a.layout) l.k (fresh_words a.layout a.sizes.pages l.k)) l.invariant.0
           ∙ filled_more (stride_of a.layout) (fresh_words a.layout a.sizes.pages) a.words.now l.k,
       s.ensures.contents_after
-          ∙ ap (put_part a.sizes.width l.k (fresh_bytes a.sizes.width a.sizes.pages l.k)) l.invariant.2
+          ∙ ap (put_part a.sizes.width l.k (fresh_bytes a.sizes.width a.sizes.pages l.k)) l.invariant.1
           ∙ filled_more a.sizes.width (fresh_bytes a.sizes.width a.sizes.pages) a.contents.now l.k,
-      s.auto.words ∙ l.invariant.3,
-      s.auto.contents ∙ l.invariant.4,
+      s.auto.words ∙ l.invariant.2,
+      s.auto.contents ∙ l.invariant.3,
     )
 
 pub shape_of-words : goal.shape_of-words
-shape_of-words c = c.loop-k.invariant.3
+shape_of-words c = c.loop-k.invariant.2
 
 pub shape_of-contents : goal.shape_of-contents
-shape_of-contents c = c.loop-k.invariant.4
+shape_of-contents c = c.loop-k.invariant.3
 
 pub returns : goal.returns
 returns c = let a = c.args in
     let l = c.loop-k in
     let e : l.k ≡ a.sizes.slots = omega arith in record {
-      words_after = l.invariant.1
+      words_after = l.invariant.0
           ∙ ap (λ (n : ℕ). filled (stride_of a.layout) (fresh_words a.layout a.sizes.pages) n a.words.now) e
           ∙ words_formatted a.layout a.sizes a.words.now c.requires.words_len;
-      contents_after = l.invariant.2
+      contents_after = l.invariant.1
           ∙ ap (λ (n : ℕ). filled a.sizes.width (fresh_bytes a.sizes.width a.sizes.pages) n a.contents.now) e
           ∙ contents_formatted a.sizes a.contents.now c.requires.contents_len;
     }

@@ -1,5 +1,4 @@
 -- The loop has written the slots below k, and nothing else; written whole, the buffers are the formatted ones.
-use Prim.Native.Nat.{◌≤◌, ◌-◌}
 use mathlib.Core.Path.{◌≡◌}
 use lib.ListN.{length}
 use Rattle.bounded.specs.Fill.{filled}
@@ -8,11 +7,7 @@ use Rattle.volume.specs.FormatLaws.{fresh_words, fresh_bytes}
 use Rattle.volume.proofs.format_flash.Given as goal
 
 abbrev pub invariant-loop-k : goal.invariant-loop-k
-invariant-loop-k l = (l.k ≤ l.sizes.slots)
-    × (l.words ≡ filled (stride_of l.layout) (fresh_words l.layout l.sizes.pages) l.k l.initial.words)
+invariant-loop-k l = (l.words ≡ filled (stride_of l.layout) (fresh_words l.layout l.sizes.pages) l.k l.initial.words)
     × (l.contents ≡ filled l.sizes.width (fresh_bytes l.sizes.width l.sizes.pages) l.k l.initial.contents)
     × (length l.words ≡ length l.initial.words)
     × (length l.contents ≡ length l.initial.contents)
-
-abbrev pub decreases-loop-k : goal.decreases-loop-k
-decreases-loop-k l = l.sizes.slots - l.k

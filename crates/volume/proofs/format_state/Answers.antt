@@ -1,4 +1,4 @@
-use Prim.Native.Nat.{ℕ, ◌-◌}
+use Prim.Native.Nat.{ℕ}
 use native.Mathlib.Omega.{arith}
 use mathlib.Core.Path.{◌≡◌, refl, ap, ◌∙◌}
 use Rattle.bounded.specs.Parts.{put_part}
@@ -11,24 +11,23 @@ use Rattle.volume.proofs.format_state.Invariants.{fresh_page}
 use Rattle.volume.proofs.format_state.Goals as goal
 
 pub loop-p-init : goal.loop-p-init
-loop-p-init c = (omega arith, filled_none 4 fresh_page _, refl)
+loop-p-init c = (filled_none 4 fresh_page _, refl)
 
 pub loop-p-preserved : goal.loop-p-preserved
 unfolding fresh_page fresh_state at_rest
 loop-p-preserved c = let a = c.args in
     let l = c.loop-p in
     let s = c.put_page in (
-      omega arith,
-      s.ensures ∙ ap (λ (x : PageState). put_part 4 l.p (page_words x) l.state) c.at_rest.ensures ∙ ap (put_part 4 l.p (fresh_page l.p)) l.invariant.1 ∙ filled_more 4 fresh_page a.state.now l.p,
-      s.auto.state ∙ l.invariant.2,
+      s.ensures ∙ ap (λ (x : PageState). put_part 4 l.p (page_words x) l.state) c.at_rest.ensures ∙ ap (put_part 4 l.p (fresh_page l.p)) l.invariant.0 ∙ filled_more 4 fresh_page a.state.now l.p,
+      s.auto.state ∙ l.invariant.1,
     )
 
 pub shape_of-state : goal.shape_of-state
-shape_of-state c = c.loop-p.invariant.2
+shape_of-state c = c.loop-p.invariant.1
 
 pub returns : goal.returns
 unfolding fresh_page
 returns c = let a = c.args in
     let l = c.loop-p in
     let e : l.p ≡ a.pages = omega arith in
-    l.invariant.1 ∙ ap (λ (n : ℕ). filled 4 fresh_page n a.state.now) e ∙ state_filled a.pages fresh_state a.state.now c.requires
+    l.invariant.0 ∙ ap (λ (n : ℕ). filled 4 fresh_page n a.state.now) e ∙ state_filled a.pages fresh_state a.state.now c.requires

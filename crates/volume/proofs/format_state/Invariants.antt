@@ -1,5 +1,5 @@
 -- The loop has written the pages below p, and nothing else; written whole, the state is the fresh one.
-use Prim.Native.Nat.{ℕ, ◌≤◌, ◌-◌}
+use Prim.Native.Nat.{ℕ}
 use mathlib.Core.Path.{◌≡◌}
 use mathlib.Core.List.{List}
 use lib.ListN.{length}
@@ -12,7 +12,4 @@ unfoldable pub fresh_page : ℕ → List ℕ
 fresh_page p = page_words (fresh_state p)
 
 abbrev pub invariant-loop-p : goal.invariant-loop-p
-invariant-loop-p l = (l.p ≤ l.pages) × (l.state ≡ filled 4 fresh_page l.p l.initial.state) × (length l.state ≡ length l.initial.state)
-
-abbrev pub decreases-loop-p : goal.decreases-loop-p
-decreases-loop-p l = l.pages - l.p
+invariant-loop-p l = (l.state ≡ filled 4 fresh_page l.p l.initial.state) × (length l.state ≡ length l.initial.state)

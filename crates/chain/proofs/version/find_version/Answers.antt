@@ -1,64 +1,46 @@
-use Prim.Native.Nat.{◌-◌}
 use native.Mathlib.Omega.{arith}
-use mathlib.Core.Path.{sym, ap, ◌∙◌}
+use mathlib.Core.Path.{refl, sym, ap, ◌∙◌}
 use Rattle.record.specs.Slot.{slot_in, holds}
 use Rattle.table.specs.Table.{of_version}
 use Rattle.table.proofs.Inside.{slot_inside}
-use Rattle.chain.proofs.ChainLaws.{chain_below, version_in_chain, search_begins, search_goes_on, search_falls, found_here, found_none}
+use Rattle.chain.proofs.ChainLaws.{chain_below, version_in_chain, search_begins, search_goes_on, found_here, found_none}
+use Rattle.chain.proofs.version.find_version.Invariants.{sought}
 use Rattle.chain.proofs.version.find_version.Goals as goal
 
-pub loop-end-init : goal.loop-end-init
-loop-end-init c = let a = c.args in (
-  omega arith,
-  a.key,
-  c.requires.key_value,
-  c.requires.chained,
-  rw c.chain_end-end.ensures
-      (search_begins _ _ _ c.requires.chained _ _ (version_in_chain a.key c.requires.key_value (slot_in a.layout a.words.now) a.«record») (chain_below a.key a.«record»)),
-)
-
-pub scan_version-requires : goal.scan_version-requires
-scan_version-requires c = let p = c.requires in record { n_in_bounds = p.n_in_bounds; n_bound = p.n_bound }
-
-pub returns-then-steps-ge-LONG : goal.returns-then-steps-ge-LONG
-returns-then-steps-ge-LONG c = c.scan_version.ensures
-
-pub slot_in-requires : goal.slot_in-requires
-slot_in-requires c = let l = c.loop-end in
-    let i = l.invariant.4.in_table in
-    slot_inside c.args.layout c.args.n (l.end - 1) c.args.words.now c.requires.n_in_bounds (omega arith)
-
-pub returns-then-holds_version : goal.returns-then-holds_version
-returns-then-holds_version c = let l = c.loop-end in
-    let a = c.args in
-    found_here _ _ _ l.invariant.3 _ _ (version_in_chain l.invariant.1 l.invariant.2 (slot_in a.layout a.words.now) a.«record») l.end (l.end - 1) l.invariant.4 (omega arith)
-    (ap (holds (of_version a.«record».p a.«record».v)) (sym c.slot_in.ensures) ∙ sym c.holds_version.ensures ∙ c.if-holds_version.true)
-
-pub end_before-end-requires : goal.end_before-end-requires
-end_before-end-requires c = let m = c.requires.n_bound in
-    let i = c.loop-end.invariant.4.in_table in
-    omega arith
-
-pub loop-end-smaller : goal.loop-end-smaller
-loop-end-smaller c = let l = c.loop-end in
-    let a = c.args in
-    let h = search_falls _ _ _ l.invariant.3 _ _ (version_in_chain l.invariant.1 l.invariant.2 (slot_in a.layout a.words.now) a.«record») l.end (l.end - 1) l.invariant.4 (omega arith) in
-    let e = c.end_before-end.ensures in
-    omega arith
-
-pub loop-end-preserved : goal.loop-end-preserved
-loop-end-preserved c = let l = c.loop-end in
-    let a = c.args in (
-      omega arith,
-      l.invariant.1,
-      l.invariant.2,
-      l.invariant.3,
-      rw c.end_before-end.ensures
-          (search_goes_on _ _ _ l.invariant.3 _ _ (version_in_chain l.invariant.1 l.invariant.2 (slot_in a.layout a.words.now) a.«record») l.end (l.end - 1) l.invariant.4 (omega arith)
-          (ap (holds (of_version a.«record».p a.«record».v)) (sym c.slot_in.ensures) ∙ sym c.holds_version.ensures ∙ c.if-holds_version.false)),
+pub loop-init : goal.loop-init
+loop-init c = let a = c.args in
+    let p = c.requires.chained_to in (
+      p.key,
+      p.versions_together,
+      p.chained,
+      rw p.last_is (search_begins _ _ _ p.chained _ _ (version_in_chain p.key p.versions_together (slot_in a.layout a.words.now) (sought a.page a.version)) (chain_below p.key (sought a.page a.version))),
     )
 
-pub returns : goal.returns
-returns c = let l = c.loop-end in
-    let a = c.args in
-    found_none _ _ _ l.invariant.3 _ _ (version_in_chain l.invariant.1 l.invariant.2 (slot_in a.layout a.words.now) a.«record») l.end l.invariant.4 (omega arith)
+pub slot_in-requires : goal.slot_in-requires
+slot_in-requires c = let b = c.loop.invariant.3.in_table in
+    slot_inside c.args.layout c.args.n c.loop.slot c.args.words.now c.requires.n_in_bounds (omega arith)
+
+pub returns-then-holds_version : goal.returns-then-holds_version
+returns-then-holds_version c = let a = c.args in
+    let l = c.loop.invariant in
+    found_here _ _ _ l.2 _ _ (version_in_chain l.0 l.1 (slot_in a.layout a.words.now) (sought a.page a.version)) _ c.loop.slot l.3 refl
+    (ap (holds (of_version a.page a.version)) (sym c.slot_in.ensures) ∙ sym c.holds_version.ensures ∙ c.if-holds_version.true)
+
+pub before-requires : goal.before-requires
+before-requires c = let b = c.loop.invariant.3.in_table in
+    let m = c.requires.n_bound in
+    omega arith
+
+pub returns-in_err-slot : goal.returns-in_err-slot
+returns-in_err-slot c = let a = c.args in
+    let l = c.loop.invariant in
+    let narrower = version_in_chain l.0 l.1 (slot_in a.layout a.words.now) (sought a.page a.version) in
+    let none = ap (holds (of_version a.page a.version)) (sym c.slot_in.ensures) ∙ sym c.holds_version.ensures ∙ c.if-holds_version.false in
+    rw c.from_residual.ensures (found_none _ _ _ l.2 _ _ narrower _ (search_goes_on _ _ _ l.2 _ _ narrower _ c.loop.slot l.3 refl none) (sym c.in_err-slot.ensures))
+
+pub loop-preserved : goal.loop-preserved
+loop-preserved c = let a = c.args in
+    let l = c.loop.invariant in
+    let narrower = version_in_chain l.0 l.1 (slot_in a.layout a.words.now) (sought a.page a.version) in
+    let none = ap (holds (of_version a.page a.version)) (sym c.slot_in.ensures) ∙ sym c.holds_version.ensures ∙ c.if-holds_version.false in
+    (l.0, l.1, l.2, rw c.in_ok-slot.ensures (search_goes_on _ _ _ l.2 _ _ narrower _ c.loop.slot l.3 refl none))

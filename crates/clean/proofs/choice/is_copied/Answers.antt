@@ -1,35 +1,38 @@
 -- Not blank, not erasable, no lower twin, tested in this order.
-use native.Mathlib.Omega.{arith}
 use mathlib.Core.Path.{sym, ap, ◌∙◌}
 use mathlib.Core.Bool.{not}
-use Rattle.record.specs.Slot.{is_blank}
+use borrow.Author.Tests.{not-true, not-false}
+use Rattle.record.specs.SlotLaws.{some_not_blank, not_some_blank}
+use Rattle.sizes.proofs.BlocksLaws.{inside_block}
 use Rattle.clean.specs.Choosing.{blank_stays, erasable_stays, lowest_copied, judged_so}
 use Rattle.clean.proofs.choice.is_copied.Goals as goal
+use Rattle.clean.proofs.choice.is_copied.Goals.{then-is_some, else-is_some}
 
-pub slot_at-requires : goal.slot_at-requires
-slot_at-requires c = let h = c.requires.chosen.judgeable.within.slots_in_lem in omega arith
+pub has_lower_twin-requires-clause-slot_value : goal.has_lower_twin-requires-clause-slot_value
+has_lower_twin-requires-clause-slot_value c = let p = c.requires in inside_block _ _ p.block_first_le_slot p.slot_lt_block_end
 
-pub returns-then-is_blank : goal.returns-then-is_blank
-returns-then-is_blank c = let blank = c.is_blank.ensures ∙ ap is_blank c.slot_at.ensures in
-    sym (blank_stays _ _ _ _ _ _ c.requires.slot_value (sym blank ∙ c.if-is_blank.true))
+pub returns-then-not-may_erase_from : goal.returns-then-not-may_erase_from
+returns-then-not-may_erase_from c = let p = c.requires in
+    let inside = inside_block _ _ p.block_first_le_slot p.slot_lt_block_end in
+    elim c.if-is_some.branch [
+      | then-is_some w ↦ ap not c.has_lower_twin.ensures
+          ∙ sym (lowest_copied _ _ _ _ _ _ inside (some_not_blank _ _ _ c.is_some.ensures c.slot_at.ensures w.if-is_some.true)
+          (sym (w.may_erase_from.ensures ∙ judged_so _ _ _ _ p.chosen _) ∙ not-true _ (sym w.value-is ∙ c.if-not-may_erase_from.true)))
+      | else-is_some w ↦ absurd (cc)
+    ]
 
-pub may_erase_from-requires : goal.may_erase_from-requires
-may_erase_from-requires c = record { judgeable = c.requires.chosen.judgeable; slot_lt_slots = c.requires.slot_lt_slots }
+pub returns-else-not-may_erase_from : goal.returns-else-not-may_erase_from
+returns-else-not-may_erase_from c = let p = c.requires in
+    let inside = inside_block _ _ p.block_first_le_slot p.slot_lt_block_end in
+    elim c.if-is_some.branch [
+      | then-is_some w ↦ c.if-not-may_erase_from.false
+          ∙ sym (erasable_stays _ _ _ _ _ _ inside (some_not_blank _ _ _ c.is_some.ensures c.slot_at.ensures w.if-is_some.true)
+          (sym (w.may_erase_from.ensures ∙ judged_so _ _ _ _ p.chosen _) ∙ not-false _ (sym w.value-is ∙ c.if-not-may_erase_from.false)))
+      | else-is_some w ↦ c.if-not-may_erase_from.false ∙ sym (blank_stays _ _ _ _ _ _ inside (not_some_blank _ _ _ c.is_some.ensures c.slot_at.ensures w.if-is_some.false))
+    ]
 
-pub returns-then-may_erase_from : goal.returns-then-may_erase_from
-returns-then-may_erase_from c = let p = c.requires in
-    let blank = c.is_blank.ensures ∙ ap is_blank c.slot_at.ensures in
-    let judged = c.may_erase_from.ensures ∙ judged_so _ _ _ _ p.chosen _ in
-    sym (erasable_stays _ _ _ _ _ _ p.slot_value (sym blank ∙ c.if-is_blank.false) (sym judged ∙ c.if-may_erase_from.true))
-
-pub has_lower_twin-requires : goal.has_lower_twin-requires
-has_lower_twin-requires c = let p = c.requires in
-    let blank = c.is_blank.ensures ∙ ap is_blank c.slot_at.ensures in
-    record { comparable = p.chosen.judgeable.comparable; slot_lt_slots = p.slot_lt_slots; slot_value = p.slot_value; slot_value_2 = sym blank ∙ c.if-is_blank.false }
-
-pub returns : goal.returns
-returns c = let p = c.requires in
-    let blank = c.is_blank.ensures ∙ ap is_blank c.slot_at.ensures in
-    let judged = c.may_erase_from.ensures ∙ judged_so _ _ _ _ p.chosen _ in
-    ap not c.has_lower_twin.ensures
-    ∙ sym (lowest_copied _ _ _ _ _ _ p.slot_value (sym blank ∙ c.if-is_blank.false) (sym judged ∙ c.if-may_erase_from.false))
+pub has_lower_twin-requires-clause-slot_value_2 : goal.has_lower_twin-requires-clause-slot_value_2
+has_lower_twin-requires-clause-slot_value_2 c = elim c.if-is_some.branch [
+  | then-is_some w ↦ some_not_blank _ _ _ c.is_some.ensures c.slot_at.ensures w.if-is_some.true
+  | else-is_some w ↦ absurd (cc)
+]

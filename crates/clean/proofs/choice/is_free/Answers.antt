@@ -1,12 +1,16 @@
--- Blank, and not in the block, tested in this order.
-use mathlib.Core.Path.{ap, ◌∙◌}
-use mathlib.Core.Bool.{not}
-use Rattle.bounded.specs.Choice.{told}
-use Rattle.record.specs.Slot.{is_blank}
+-- Blank, and not in the block.
+use mathlib.Core.Path.{◌≡◌, sym, ap, ◌∙◌}
+use mathlib.Core.Bool.{true, false, not}
+use Rattle.record.specs.SlotLaws.{none_blank}
+use Rattle.record.specs.Slot.{slot_at, is_blank}
 use Rattle.clean.proofs.choice.is_free.Goals as goal
 
-pub returns-then-not-is_blank : goal.returns-then-not-is_blank
-returns-then-not-is_blank c = rw (told (c.is_blank.ensures ∙ ap is_blank c.slot_at.ensures) c.if-not-is_blank.true)
+pub returns-then-is_none : goal.returns-then-is_none
+returns-then-is_none c = let a = c.args in
+    let b : is_blank (slot_at a.words.now a.slot) ≡ true = sym (none_blank _ _ c.is_none.ensures ∙ ap is_blank c.slot_at.ensures) ∙ c.if-is_none.true in
+    rw b (ap not c.in_block.ensures)
 
-pub returns : goal.returns
-returns c = rw (told (c.is_blank.ensures ∙ ap is_blank c.slot_at.ensures) c.if-not-is_blank.false) (ap not c.in_block.ensures)
+pub returns-else-is_none : goal.returns-else-is_none
+returns-else-is_none c = let a = c.args in
+    let b : is_blank (slot_at a.words.now a.slot) ≡ false = sym (none_blank _ _ c.is_none.ensures ∙ ap is_blank c.slot_at.ensures) ∙ c.if-is_none.false in
+    rw b c.if-is_none.false

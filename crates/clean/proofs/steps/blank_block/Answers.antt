@@ -1,4 +1,3 @@
-use Prim.Native.Nat.{◌-◌}
 use native.Mathlib.Omega.{arith}
 use mathlib.Core.Path.{◌≡◌, refl, ap, ◌∙◌}
 use Rattle.bounded.specs.PartsLaws.{part_inside}
@@ -8,7 +7,7 @@ use Rattle.clean.specs.BlockLaws.{blanked_up_to, none_blanked, one_blanked, all_
 use Rattle.clean.proofs.steps.blank_block.Goals as goal
 
 pub loop-k-init : goal.loop-k-init
-loop-k-init c = let a = c.args in (omega arith, c.requires.block_in.ordered, none_blanked a.sizes.width (flash a.words.now a.contents.now) a.block, refl, refl)
+loop-k-init c = let a = c.args in (none_blanked a.sizes.width (flash a.words.now a.contents.now) a.block, refl, refl)
 
 pub blank_slot-requires : goal.blank_slot-requires
 blank_slot-requires c = let p = c.requires in
@@ -22,24 +21,22 @@ pub loop-k-preserved : goal.loop-k-preserved
 loop-k-preserved c = let s = c.blank_slot in
     let l = c.loop-k in
     let a = c.args in (
-      omega arith,
-      omega arith,
       s.ensures
-          ∙ ap (λ (f : Flash). apply a.sizes.width f (Step.Blank l.k)) l.invariant.2
-          ∙ one_blanked a.sizes.width (flash a.words.now a.contents.now) a.block l.k (inside_block a.block l.k l.invariant.0 c.loop-k-test.true),
-      s.auto.words ∙ l.invariant.3,
-      s.auto.contents ∙ l.invariant.4,
+          ∙ ap (λ (f : Flash). apply a.sizes.width f (Step.Blank l.k)) l.invariant.0
+          ∙ one_blanked a.sizes.width (flash a.words.now a.contents.now) a.block l.k (inside_block a.block l.k (omega arith) c.loop-k-test.true),
+      s.auto.words ∙ l.invariant.1,
+      s.auto.contents ∙ l.invariant.2,
     )
 
 pub shape_of-words : goal.shape_of-words
-shape_of-words c = c.loop-k.invariant.3
+shape_of-words c = c.loop-k.invariant.1
 
 pub shape_of-contents : goal.shape_of-contents
-shape_of-contents c = c.loop-k.invariant.4
+shape_of-contents c = c.loop-k.invariant.2
 
 pub returns : goal.returns
 returns c = let l = c.loop-k in
     let a = c.args in
     let f = flash a.words.now a.contents.now in
     let e : l.k ≡ a.block.end = omega arith in
-    l.invariant.2 ∙ ap (blanked_up_to a.sizes.width f a.block) e ∙ all_blanked a.sizes.width f a.block a.sizes.slots c.requires.block_in
+    l.invariant.0 ∙ ap (blanked_up_to a.sizes.width f a.block) e ∙ all_blanked a.sizes.width f a.block a.sizes.slots c.requires.block_in

@@ -3,10 +3,10 @@ use Rattle.record.specs.Slot.{blank_record}
 use Rattle.upkeep.specs.Clean.{record_in}
 use Rattle.clean.proofs.steps.record_in.Goals as goal
 
-pub returns-in-Blank : goal.returns-in-Blank
+pub returns-in-None : goal.returns-in-None
 unfolding record_in blank_record
-returns-in-Blank c = rw c.in-Blank.is
+returns-in-None c = rw c.in-None.is
 
-pub returns-in-Holds : goal.returns-in-Holds
+pub returns-in-Some : goal.returns-in-Some
 unfolding record_in
-returns-in-Holds c = rw c.in-Holds.is
+returns-in-Some c = rw c.in-Some.is

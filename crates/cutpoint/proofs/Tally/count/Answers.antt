@@ -7,6 +7,6 @@ pub returns-then-same : goal.returns-then-same
 unfolding tallied sames differs
 returns-then-same c = rw (c.if-same.true, add-zero)
 
-pub returns : goal.returns
+pub returns-else-same : goal.returns-else-same
 unfolding tallied sames differs
-returns c = rw (c.if-same.false, add-zero)
+returns-else-same c = rw (c.if-same.false, add-zero)

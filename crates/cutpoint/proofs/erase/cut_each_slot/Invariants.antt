@@ -1,5 +1,5 @@
 -- The invariant: with the cuts counted that are still to come, the tally is that of all.
-use Prim.Native.Nat.{◌+◌, ◌≤◌, ◌-◌}
+use Prim.Native.Nat.{◌+◌}
 use mathlib.Core.Path.{◌≡◌}
 use lib.ListN.{length}
 use Rattle.bounded.specs.Limits.{two_widths}
@@ -10,14 +10,10 @@ use Rattle.cutpoint.specs.Judged.{tallied, erase_cuts}
 use Rattle.cutpoint.specs.JudgedLaws.{rest_tallied}
 use Rattle.cutpoint.proofs.erase.cut_each_slot.Given as goal
 
-abbrev pub invariant-loop-i : goal.invariant-loop-i
-invariant-loop-i l = (l.i ≤ length l.list)
-    × (l.so_far.same + l.so_far.differ ≡ l.initial.so_far.same + l.initial.so_far.differ + l.i)
-    × (rest_tallied two_widths l.sizes (flash l.from_words l.from_contents) (lost l.initial.state) (filled l.sizes.width l.fills) l.list l.i l.so_far
+abbrev pub invariant-loop-slot : goal.invariant-loop-slot
+invariant-loop-slot l = (l.so_far.same + l.so_far.differ ≡ l.initial.so_far.same + l.initial.so_far.differ + l.slot-index)
+    × (rest_tallied two_widths l.sizes (flash l.from_words l.from_contents) (lost l.initial.state) (filled l.sizes.width l.fills) l.list l.slot-index l.so_far
     ≡ tallied l.initial.so_far (erase_cuts two_widths l.sizes (flash l.from_words l.from_contents) (lost l.initial.state) (filled l.sizes.width l.fills) l.list))
     × (length l.words ≡ length l.initial.words)
     × (length l.contents ≡ length l.initial.contents)
     × (length l.state ≡ length l.initial.state)
-
-abbrev pub decreases-loop-i : goal.decreases-loop-i
-decreases-loop-i l = length l.list - l.i

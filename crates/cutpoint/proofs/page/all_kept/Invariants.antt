@@ -1,5 +1,4 @@
 -- The invariant: what is kept of the pages below `page` is read.
-use Prim.Native.Nat.{◌≤◌, ◌-◌}
 use mathlib.Core.Path.{◌≡◌}
 use mathlib.Core.Bool.{true}
 use Rattle.bounded.specs.Limits.{two_widths}
@@ -11,7 +10,4 @@ use Rattle.ledger.specs.Ledger.{filled}
 use Rattle.cutpoint.proofs.page.all_kept.Given as goal
 
 abbrev pub invariant-loop-page : goal.invariant-loop-page
-invariant-loop-page l = (l.page ≤ l.sizes.pages) × (all_below l.page (are_reads_kept back_pointer two_widths l.sizes (volume l.words l.contents l.state) (filled l.sizes.width l.fills)) ≡ true)
-
-abbrev pub decreases-loop-page : goal.decreases-loop-page
-decreases-loop-page l = l.sizes.pages - l.page
+invariant-loop-page l = all_below l.page (are_reads_kept back_pointer two_widths l.sizes (volume l.words l.contents l.state) (filled l.sizes.width l.fills)) ≡ true

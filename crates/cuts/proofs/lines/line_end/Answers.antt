@@ -1,26 +1,13 @@
-use Prim.Native.Nat.{◌-◌}
-use native.Mathlib.Omega.{arith}
-use mathlib.Core.Path.{refl}
-use Rattle.cuts.specs.Lines.{length_none, length_ends, length_more}
+use Rattle.std.proofs.Common.{arith, length-drop}
+use Rattle.cuts.specs.Lines.{feed_there, feed_none, length_within}
 use Rattle.cuts.proofs.lines.line_end.Goals as goal
 
-pub loop-i-init : goal.loop-i-init
-loop-i-init c = (c.requires, refl)
+pub overflow_add-result : goal.overflow_add-result
+overflow_add-result c = let a = c.args in
+    omega (arith, feed_there a.text.now a.at c.requires _ c.line_feed.ensures _ c.in-Some.is, length_within, length-drop a.at a.text.now)
 
-pub returns-then-text-i-eq10 : goal.returns-then-text-i-eq10
-returns-then-text-i-eq10 c = let l = c.loop-i in
-    let z = length_ends c.args.text.now l.i (omega arith) c.if-text-i-eq10.true in
-    let e = l.invariant.1 in
-    omega arith
+pub returns-in-Some : goal.returns-in-Some
+returns-in-Some c = feed_there _ _ c.requires _ c.line_feed.ensures _ c.in-Some.is
 
-pub loop-i-preserved : goal.loop-i-preserved
-loop-i-preserved c = let l = c.loop-i in
-    let z = length_more c.args.text.now l.i (omega arith) c.if-text-i-eq10.false in
-    let e = l.invariant.1 in
-    (omega arith, omega arith)
-
-pub returns : goal.returns
-returns c = let l = c.loop-i in
-    let z = length_none c.args.text.now l.i (omega arith) in
-    let e = l.invariant.1 in
-    omega arith
+pub returns-in-None : goal.returns-in-None
+returns-in-None c = feed_none _ _ c.requires _ c.line_feed.ensures c.in-None.is

@@ -1,10 +1,9 @@
-use Prim.Native.Nat.{◌-◌}
 use native.Mathlib.Omega.{arith}
-use mathlib.Core.Path.{refl, sym, ◌∙◌}
+use mathlib.Core.Path.{refl, sym, ◌∙◌, subst}
 use Rattle.rules.specs.Volume.{volume}
 use Rattle.recorded.specs.Desk.{desk}
 use Rattle.cuts.specs.Lines.{end_within}
-use Rattle.cuts.specs.Ran.{ran_as, AtMost}
+use Rattle.cuts.specs.Ran.{AtMost, most_cuts}
 use Rattle.cuts.specs.RunLaws.{at_most, still_ready, from_here, here_ends, here_many, here_refused, here_counted}
 use Rattle.cuts.proofs.run.run.Goals as goal
 
@@ -27,7 +26,7 @@ pub shape_of-kept-then-lines_done-ge256 : goal.shape_of-kept-then-lines_done-ge2
 shape_of-kept-then-lines_done-ge256 c = c.loop-at.invariant.3.kept
 
 pub returns-then-lines_done-ge256 : goal.returns-then-lines_done-ge256
-unfolding from_here ran_as AtMost
+unfolding from_here AtMost
 returns-then-lines_done-ge256 c = let a = c.args in
     let l = c.loop-at in
     record { finds = sym (here_many a.sizes a.trial a.text.now l.tally (desk (volume l.words l.contents l.state) l.entered l.kept) l.lines_done l.at c.loop-at-test.true refl refl c.if-lines_done-ge256.true) ∙ l.invariant.4; few = tt }
@@ -46,27 +45,12 @@ turn-requires c = let l = c.loop-at in
     let h = c.if-lines_done-ge256.false in
     record { ready = still_ready _ _ _ c.requires.ready l.invariant.3; differ_bound = omega (arith, l.invariant.2) }
 
-pub shape_of-words-in_default : goal.shape_of-words-in_default
-shape_of-words-in_default c = c.turn.auto.words ∙ c.loop-at.invariant.3.words
-
-pub shape_of-contents-in_default : goal.shape_of-contents-in_default
-shape_of-contents-in_default c = c.turn.auto.contents ∙ c.loop-at.invariant.3.contents
-
-pub shape_of-state-in_default : goal.shape_of-state-in_default
-shape_of-state-in_default c = c.turn.auto.state ∙ c.loop-at.invariant.3.state
-
-pub shape_of-entered-in_default : goal.shape_of-entered-in_default
-shape_of-entered-in_default c = c.turn.auto.entered ∙ c.loop-at.invariant.3.entered
-
-pub shape_of-kept-in_default : goal.shape_of-kept-in_default
-shape_of-kept-in_default c = c.turn.auto.kept ∙ c.loop-at.invariant.3.kept
-
-pub returns-in_default : goal.returns-in_default
-unfolding from_here ran_as AtMost
-returns-in_default c = let a = c.args in
+pub returns-in_err-tally : goal.returns-in_err-tally
+unfolding from_here AtMost
+returns-in_err-tally c = let a = c.args in
     let l = c.loop-at in
     let t = c.turn in
-    record { finds = sym (here_refused a.sizes a.trial a.text.now l.tally (desk (volume l.words l.contents l.state) l.entered l.kept) l.lines_done l.at c.loop-at-test.true c.line_end-end.ensures refl c.if-lines_done-ge256.false t.result t.ensures.counts c.in_default.is) ∙ l.invariant.4; few = tt }
+    record { finds = c.from_residual.ensures ∙ sym (here_refused a.sizes a.trial a.text.now l.tally (desk (volume l.words l.contents l.state) l.entered l.kept) l.lines_done l.at c.loop-at-test.true c.line_end-end.ensures refl c.if-lines_done-ge256.false t.result t.ensures.counts c.in_err-tally.was) ∙ l.invariant.4; few = subst (AtMost most_cuts) (sym c.from_residual.ensures) tt }
 
 pub next_line-at-requires : goal.next_line-at-requires
 next_line-at-requires c = (end_within c.args.text.now _ _ _ c.line_end-end.ensures refl c.loop-at.invariant.0).1
@@ -79,7 +63,7 @@ pub loop-at-preserved : goal.loop-at-preserved
 loop-at-preserved c = let a = c.args in
     let l = c.loop-at in
     let t = c.turn in
-    let is = c.in-Counted.is in
+    let is = c.in_ok-tally.was in
     let few = c.if-lines_done-ge256.false in
     let most = at_most _ t.result _ t.ensures.few is in (
       omega (arith, c.next_line-at.ensures),
@@ -111,7 +95,7 @@ pub shape_of-kept : goal.shape_of-kept
 shape_of-kept c = c.loop-at.invariant.3.kept
 
 pub returns : goal.returns
-unfolding from_here ran_as AtMost
+unfolding from_here AtMost
 returns c = let a = c.args in
     let l = c.loop-at in
     record { finds = sym (here_ends a.sizes a.trial a.text.now l.tally (desk (volume l.words l.contents l.state) l.entered l.kept) l.lines_done l.at c.loop-at-test.false) ∙ l.invariant.4; few = omega (arith, l.invariant.2, l.invariant.1) }

@@ -1,5 +1,6 @@
 -- The first is the highest; else the higher of the two is.
-use native.Mathlib.Omega.{arith}
+use Rattle.std.proofs.Common.{arith}
+use Rattle.std.proofs.lemmas.Bool.Decides.{nat_tests}
 use Rattle.doubtful.specs.Versions.{highest_noted}
 use Rattle.doubtful.proofs.versions.highest.Goals as goal
 
@@ -7,10 +8,6 @@ pub returns-then-first : goal.returns-then-first
 unfolding highest_noted
 returns-then-first c = rw c.if-first.true
 
-pub returns-then-version-so_far : goal.returns-then-version-so_far
+pub returns-else-first : goal.returns-else-first
 unfolding highest_noted
-returns-then-version-so_far c = rw c.if-first.false (omega arith)
-
-pub returns : goal.returns
-unfolding highest_noted
-returns c = rw c.if-first.false (omega arith)
+returns-else-first c = rw c.if-first.false (grind (arith, nat_tests))

@@ -1,4 +1,3 @@
-use Prim.Native.Nat.{◌-◌}
 use native.Mathlib.Omega.{arith}
 use mathlib.Core.Path.{◌≡◌, refl, ap, ◌∙◌}
 use lib.ListN.{length-set}
@@ -8,7 +7,7 @@ use Rattle.doubtful.specs.VersionsLaws.{noted_below, noted_more, noted_all}
 use Rattle.doubtful.proofs.versions.note.Goals as goal
 
 pub loop-page-init : goal.loop-page-init
-loop-page-init c = (omega arith, refl, filled_none _ _ _)
+loop-page-init c = (refl, filled_none _ _ _)
 
 pub bounds-out-low-in-loop-page-2 : goal.bounds-out-low-in-loop-page-2
 bounds-out-low-in-loop-page-2 c = simp length-set (omega arith)
@@ -19,15 +18,14 @@ bounds-out-low-in-loop-page-3 c = simp length-set (omega arith)
 pub loop-page-preserved : goal.loop-page-preserved
 loop-page-preserved c = let l = c.loop-page in
     let version = ap (λ (s : PageState). s.committed) c.page_at-version.ensures in (
-      omega arith,
-      simp length-set l.invariant.1,
-      noted_more _ _ c.args.state.now c.args.out.now c.requires.out_len l.page c.loop-page-test.true l.invariant.2 version c.lowest.ensures c.highest.ensures,
+      simp length-set l.invariant.0,
+      noted_more _ _ c.args.state.now c.args.out.now c.requires.out_len l.page c.loop-page-test.true l.invariant.1 version c.lowest.ensures c.highest.ensures,
     )
 
 pub shape_of-out : goal.shape_of-out
-shape_of-out c = c.loop-page.invariant.1
+shape_of-out c = c.loop-page.invariant.0
 
 pub returns : goal.returns
 returns c = let l = c.loop-page in
     let e : l.page ≡ c.args.pages = omega arith in
-    l.invariant.2 ∙ ap (noted_below c.args.first c.args.state.now c.args.out.now) e ∙ noted_all _ _ _ _ c.requires.out_len
+    l.invariant.1 ∙ ap (noted_below c.args.first c.args.state.now c.args.out.now) e ∙ noted_all _ _ _ _ c.requires.out_len

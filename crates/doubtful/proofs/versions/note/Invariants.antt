@@ -1,12 +1,8 @@
 -- The invariant: the pages below this one are noted, and the others' words as they were.
-use Prim.Native.Nat.{◌≤◌, ◌-◌}
 use mathlib.Core.Path.{◌≡◌}
 use lib.ListN.{length}
 use Rattle.doubtful.specs.VersionsLaws.{noted_below}
 use Rattle.doubtful.proofs.versions.note.Given as goal
 
 abbrev pub invariant-loop-page : goal.invariant-loop-page
-invariant-loop-page l = (l.page ≤ l.pages) × (length l.out ≡ length l.initial.out) × (l.out ≡ noted_below l.first l.state l.initial.out l.page)
-
-abbrev pub decreases-loop-page : goal.decreases-loop-page
-decreases-loop-page l = l.pages - l.page
+invariant-loop-page l = (length l.out ≡ length l.initial.out) × (l.out ≡ noted_below l.fn.first l.state l.initial.out l.page)

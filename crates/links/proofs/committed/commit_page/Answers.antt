@@ -9,5 +9,5 @@ pub returns : goal.returns
 unfolding committed_in walk_in
 returns c = let pre = c.requires in
     let a = c.args in
-    let walked : c.walk_numbered-walk.result ≡ walk_in a.layout a.sizes.pages a.sizes.slots (slot_in a.layout a.words.now) a.page =
-    c.walk_numbered-walk.ensures ∙ pre.followed.each a.page pre.page_lt_pages in record { value = ap (λ (w : Walk). w.links) walked; committed_after = ap (set a.committed.now a.page) (c.committed_by.ensures ∙ ap₂ (committed_by_in a.layout a.sizes.slots (slot_in a.layout a.words.now)) (ap (λ (w : Walk). w.end) walked) c.highest_of-highest.ensures) }
+    let walked : c.walk-walk.result ≡ walk_in a.layout a.sizes.pages a.sizes.slots (slot_in a.layout a.words.now) a.page =
+    c.walk-walk.ensures ∙ pre.followed.each a.page pre.page_lt_pages in record { value = ap (λ (w : Walk). w.links) walked; committed_after = ap (set a.committed.now a.page) (c.committed_by.ensures ∙ ap₂ (committed_by_in a.layout a.sizes.slots (slot_in a.layout a.words.now)) (ap (λ (w : Walk). w.end) walked) c.highest_of-highest.ensures) }

@@ -13,7 +13,7 @@ use Rattle.links.specs.Tables.{links_most_below, committed_beyond}
 use Rattle.links.proofs.committed.committed_versions.Goals as goal
 
 pub loop-page-init : goal.loop-page-init
-loop-page-init c = (omega arith, sym (sum_zero _), stored_none _ (replicate 256 0))
+loop-page-init c = (sym (sum_zero _), stored_none _ (replicate 256 0))
 
 pub commit_page-links-requires : goal.commit_page-links-requires
 commit_page-links-requires c = let pre = c.requires in
@@ -26,7 +26,7 @@ overflow_add-links c = let l = c.loop-page in
     let n = links_most_below a.layout a.sizes.pages a.sizes.slots (slot_in a.layout a.words.now) f.pages_most (l.page + 1) in
     let s = sum_more l.page (λ p. (walk_in a.layout a.sizes.pages a.sizes.slots (slot_in a.layout a.words.now) p).links) in
     let w = c.commit_page-links.ensures.value in
-    let i = l.invariant.1 in
+    let i = l.invariant.0 in
     let h = c.loop-page-test.true in
     let m = f.pages_most in
     omega arith
@@ -36,10 +36,9 @@ loop-page-preserved c = let l = c.loop-page in
     let a = c.args in
     let walk = walk_in a.layout a.sizes.pages a.sizes.slots (slot_in a.layout a.words.now) in
     let f = committed_in a.layout a.sizes.pages a.sizes.slots (slot_in a.layout a.words.now) in (
-      omega arith,
-      ap₂ ◌+◌ l.invariant.1 c.commit_page-links.ensures.value ∙ sym (sum_more l.page (λ p. (walk p).links)),
+      ap₂ ◌+◌ l.invariant.0 c.commit_page-links.ensures.value ∙ sym (sum_more l.page (λ p. (walk p).links)),
       c.commit_page-links.ensures.committed_after
-          ∙ ap (λ (x : List ℕ). set x l.page (f l.page)) l.invariant.2
+          ∙ ap (λ (x : List ℕ). set x l.page (f l.page)) l.invariant.1
           ∙ stored_more f (replicate 256 0) l.page,
     )
 
@@ -49,4 +48,4 @@ returns c = let l = c.loop-page in
     let a = c.args in
     let pre = c.requires in
     let f = committed_in a.layout a.sizes.pages a.sizes.slots (slot_in a.layout a.words.now) in
-    let e : l.page ≡ a.sizes.pages = omega arith in record { value = rw e at l.invariant.1; committed_after = l.invariant.2 ∙ ap (λ (n : ℕ). stored f n (replicate 256 0)) e ∙ tabulated_stored 256 f 0 a.sizes.pages pre.surveyed.pages_most (committed_beyond _ _ _ _ _ pre.surveyed) }
+    let e : l.page ≡ a.sizes.pages = omega arith in record { value = rw e at l.invariant.0; committed_after = l.invariant.1 ∙ ap (λ (n : ℕ). stored f n (replicate 256 0)) e ∙ tabulated_stored 256 f 0 a.sizes.pages pre.surveyed.pages_most (committed_beyond _ _ _ _ _ pre.surveyed) }

@@ -1,4 +1,3 @@
-use Prim.Native.Nat.{◌≤◌, ◌-◌}
 use mathlib.Core.Path.{◌≡◌}
 use lib.ListN.{replicate}
 use Rattle.bounded.specs.Below.{sum_below}
@@ -8,9 +7,5 @@ use Rattle.links.specs.Committed.{walk_in, committed_in}
 use Rattle.links.proofs.committed.committed_versions.Given as goal
 
 abbrev pub invariant-loop-page : goal.invariant-loop-page
-invariant-loop-page l = (l.page ≤ l.sizes.pages)
-    × (l.links ≡ sum_below l.page (λ p. (walk_in l.layout l.sizes.pages l.sizes.slots (slot_in l.layout l.words) p).links))
+invariant-loop-page l = (l.links ≡ sum_below l.page (λ p. (walk_in l.layout l.sizes.pages l.sizes.slots (slot_in l.layout l.words) p).links))
     × (l.committed ≡ stored (committed_in l.layout l.sizes.pages l.sizes.slots (slot_in l.layout l.words)) l.page (replicate 256 0))
-
-abbrev pub decreases-loop-page : goal.decreases-loop-page
-decreases-loop-page l = l.sizes.pages - l.page

@@ -1,4 +1,3 @@
-use Prim.Native.Nat.{◌≤◌, ◌-◌}
 use mathlib.Core.Path.{◌≡◌}
 use mathlib.Core.Bool.{true}
 use lib.ListN.{get_or}
@@ -8,7 +7,4 @@ use Rattle.table.specs.Table.{has_version}
 use Rattle.links.proofs.committed.versions_present.Given as goal
 
 abbrev pub invariant-loop-page : goal.invariant-loop-page
-invariant-loop-page l = (l.page ≤ l.sizes.pages) × (all_below l.page (λ p. has_version l.sizes.slots (slot_in l.layout l.words) p (get_or l.versions p 0)) ≡ true)
-
-abbrev pub decreases-loop-page : goal.decreases-loop-page
-decreases-loop-page l = l.sizes.pages - l.page
+invariant-loop-page l = all_below l.page (λ p. has_version l.sizes.slots (slot_in l.layout l.words) p (get_or l.versions p 0)) ≡ true

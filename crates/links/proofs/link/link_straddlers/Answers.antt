@@ -9,7 +9,7 @@ use Rattle.links.proofs.link.link_straddlers.Goals as goal
 
 pub link_sound_slots-requires : goal.link_sound_slots-requires
 link_sound_slots-requires c = let p = c.requires in
-    record { slots_in_bounds = p.slots_in_bounds; pages_bound = p.pages_bound; slots_bound = p.slots_bound; words_value = p.words_value }
+    record { slots_in_bounds = p.slots_in_bounds; slots_bound = p.slots_bound; words_value = p.words_value }
 
 pub returns-in-FiveWords : goal.returns-in-FiveWords
 returns-in-FiveWords c e = subst (λ (x : Layout). Chained Straddler c.args.sizes.slots (slot_in x c.args.words.now) c.link_sound_slots.new.chains) e c.link_sound_slots.ensures

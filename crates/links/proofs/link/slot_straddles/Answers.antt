@@ -7,4 +7,4 @@ returns-in_default c = rw c.in_default.is
 
 pub returns : goal.returns
 unfolding holds
-returns c = rw c.in-Holds.is c.straddles.ensures
+returns c = rw c.in-Some.is c.straddles.ensures

@@ -13,7 +13,7 @@ returns-in_default c = let a = c.args in
 
 pub link_verdict-requires : goal.link_verdict-requires
 link_verdict-requires c = let pre = c.requires in
-    let l = top_next _ _ _ _ _ pre.surveyed _ c.in-Holds.link (sym c.highest_of.ensures ∙ c.in-Holds.is) in
+    let l = top_next _ _ _ _ _ pre.surveyed _ c.in-Some.link (sym c.highest_of.ensures ∙ c.in-Some.is) in
     record { surveyed = pre.surveyed; straddlers_chained = pre.straddlers_chained; np_bound = let m = pre.surveyed.pages_most in omega arith }
 
 pub returns : goal.returns
@@ -21,4 +21,4 @@ unfolding slot_verdict_in
 returns c = let a = c.args in
     c.link_verdict.ensures
     ∙ sym (verdict_by_slot a.layout a.sizes.slots (slot_in a.layout a.words.now) a.page
-    ∙ ap (slot_verdict_in a.layout a.sizes.slots (slot_in a.layout a.words.now)) (sym c.highest_of.ensures ∙ c.in-Holds.is))
+    ∙ ap (slot_verdict_in a.layout a.sizes.slots (slot_in a.layout a.words.now)) (sym c.highest_of.ensures ∙ c.in-Some.is))

@@ -8,14 +8,14 @@ returns-in_default c = rw c.in_default.is
 
 pub returns-then-record-page : goal.returns-then-record-page
 unfolding mark_under
-returns-then-record-page c = rw (c.in-Holds.is, ne_eqb c.in-Holds.record.p c.args.page c.if-record-page.true)
+returns-then-record-page c = rw (c.in-Some.is, ne_eqb c.in-Some.record.p c.args.page c.if-record-page.true)
 
 pub returns-then-record-version : goal.returns-then-record-version
 unfolding mark_under
 returns-then-record-version c = let a = c.args in
-    rw (c.in-Holds.is, eq-eqb c.in-Holds.record.p a.page c.if-record-page.false, le-ltb c.in-Holds.record.v a.version c.if-record-version.true)
+    rw (c.in-Some.is, eq-eqb c.in-Some.record.p a.page c.if-record-page.false, le-ltb c.in-Some.record.v a.version c.if-record-version.true)
 
 pub returns : goal.returns
 unfolding mark_under
 returns c = let a = c.args in
-    rw (c.in-Holds.is, eq-eqb c.in-Holds.record.p a.page c.if-record-page.false, lt-ltb c.in-Holds.record.v a.version c.if-record-version.false)
+    rw (c.in-Some.is, eq-eqb c.in-Some.record.p a.page c.if-record-page.false, lt-ltb c.in-Some.record.v a.version c.if-record-version.false)

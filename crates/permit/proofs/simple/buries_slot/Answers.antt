@@ -12,8 +12,8 @@ returns-in_default c = sym (holds_none _ (sym c.slot_in.ensures ∙ c.in_default
 
 pub is_buried-requires : goal.is_buried-requires
 is_buried-requires c = let p = c.requires in
-    record_in_state _ _ _ _ p.readable _ _ p.slot_lt_slots (sym c.slot_in.ensures ∙ c.in-Holds.is)
+    record_in_state _ _ _ _ p.readable _ _ p.slot_lt_slots (sym c.slot_in.ensures ∙ c.in-Some.is)
 
 pub returns : goal.returns
 returns c = c.is_buried.ensures
-    ∙ sym (holds_record _ (sym c.slot_in.ensures ∙ c.in-Holds.is))
+    ∙ sym (holds_record _ (sym c.slot_in.ensures ∙ c.in-Some.is))

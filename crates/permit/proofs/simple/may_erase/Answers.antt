@@ -14,9 +14,9 @@ returns-in_default c = sym (holds_none _ (sym c.slot_in.ensures ∙ c.in_default
 
 pub may_erase_record-requires : goal.may_erase_record-requires
 may_erase_record-requires c = let p = c.requires in
-    record_in_state _ _ _ _ p.readable _ _ p.slot_lt_slots (sym c.slot_in.ensures ∙ c.in-Holds.is)
+    record_in_state _ _ _ _ p.readable _ _ p.slot_lt_slots (sym c.slot_in.ensures ∙ c.in-Some.is)
 
 pub returns : goal.returns
 unfolding simple_may_erase
 returns c = c.may_erase_record.ensures
-    ∙ sym (holds_record _ (sym c.slot_in.ensures ∙ c.in-Holds.is))
+    ∙ sym (holds_record _ (sym c.slot_in.ensures ∙ c.in-Some.is))

@@ -1,20 +1,16 @@
--- An obsolete record may go, an exposed one unless it is current; any other stays.
-use mathlib.Core.Path.{sym, ap, ◌∙◌}
-use mathlib.Core.Bool.{not}
-use Rattle.bounded.specs.Choice.{told}
-use Rattle.permit.specs.SimpleLaws.{simple_obsolete, simple_exposed, simple_committed}
+use Rattle.std.proofs.Common.{arith}
+use Rattle.std.proofs.lemmas.Grind.{common_steps}
+use Rattle.rules.specs.Simple.{simple_may_erase_record}
 use Rattle.permit.proofs.simple.may_erase_record.Goals as goal
 
 pub returns-then-is_obsolete : goal.returns-then-is_obsolete
-returns-then-is_obsolete c = sym (simple_obsolete _ _ (sym c.is_obsolete.ensures ∙ c.if-is_obsolete.true))
+unfolding simple_may_erase_record
+returns-then-is_obsolete c = grind (arith, common_steps)
 
-pub returns-then-not-is_exposed : goal.returns-then-not-is_exposed
-returns-then-not-is_exposed c = sym (simple_committed _ _
-    (sym c.is_obsolete.ensures ∙ c.if-is_obsolete.false)
-    (told c.is_exposed.ensures c.if-not-is_exposed.true))
+pub returns-then-is_exposed : goal.returns-then-is_exposed
+unfolding simple_may_erase_record
+returns-then-is_exposed c = grind (arith, common_steps)
 
-pub returns : goal.returns
-returns c = ap not c.is_current.ensures
-    ∙ sym (simple_exposed _ _
-    (sym c.is_obsolete.ensures ∙ c.if-is_obsolete.false)
-    (told c.is_exposed.ensures c.if-not-is_exposed.false))
+pub returns-else-is_exposed : goal.returns-else-is_exposed
+unfolding simple_may_erase_record
+returns-else-is_exposed c = grind (arith, common_steps)

@@ -1,7 +1,5 @@
-use Prim.Native.Nat.{◌-◌}
 use native.Mathlib.Omega.{arith}
 use mathlib.Core.Path.{sym, ap, ◌∙◌}
-use mathlib.Core.Bool.{false}
 use Rattle.bounded.specs.BelowLaws.{some_zero, some_more}
 use Rattle.sizes.specs.declared.Layout.TheVariants.{FourWords}
 use Rattle.record.specs.Slot.{slot_in}
@@ -15,7 +13,7 @@ pub page_at-version-requires : goal.page_at-version-requires
 page_at-version-requires c = let p = c.requires in page_in_state _ _ _ _ p.readable _ p.page_lt_pages
 
 pub loop-k-init : goal.loop-k-init
-loop-k-init c = (omega arith, some_zero _)
+loop-k-init c = some_zero _
 
 pub buries_slot-requires : goal.buries_slot-requires
 buries_slot-requires c = let p = c.requires in record { readable = p.readable; slot_lt_slots = c.loop-k-test.true }
@@ -25,9 +23,9 @@ returns-then-buries_slot c = let a = c.args in
     sym (some_buried a.sizes.slots (slot_in FourWords a.words.now) (state_at a.state.now) a.page _ (ap (λ (s : PageState). s.used) c.page_at-version.ensures) c.loop-k.k c.loop-k-test.true (sym c.buries_slot.ensures ∙ c.if-buries_slot.true))
 
 pub loop-k-preserved : goal.loop-k-preserved
-loop-k-preserved c = (omega arith, some_more _ _ c.loop-k.invariant.1 (sym c.buries_slot.ensures ∙ c.if-buries_slot.false))
+loop-k-preserved c = some_more _ _ c.loop-k.invariant (sym c.buries_slot.ensures ∙ c.if-buries_slot.false)
 
 pub returns : goal.returns
 returns c = let l = c.loop-k in
     let a = c.args in
-    sym (none_buried a.sizes.slots (slot_in FourWords a.words.now) (state_at a.state.now) a.page _ (ap (λ (s : PageState). s.used) c.page_at-version.ensures) l.k (omega arith) l.invariant.1)
+    sym (none_buried a.sizes.slots (slot_in FourWords a.words.now) (state_at a.state.now) a.page _ (ap (λ (s : PageState). s.used) c.page_at-version.ensures) l.k (omega arith) l.invariant)

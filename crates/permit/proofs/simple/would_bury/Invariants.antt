@@ -1,5 +1,4 @@
 -- The invariant: no slot below k holds a record that is buried. The version read is the page's used one.
-use Prim.Native.Nat.{◌≤◌, ◌-◌}
 use mathlib.Core.Path.{◌≡◌}
 use mathlib.Core.Bool.{false}
 use Rattle.bounded.specs.Below.{some_below}
@@ -10,7 +9,4 @@ use Rattle.rules.specs.Simple.{buried_by}
 use Rattle.permit.proofs.simple.would_bury.Given as goal
 
 abbrev pub invariant-loop-k : goal.invariant-loop-k
-invariant-loop-k l = (l.k ≤ l.sizes.slots) × (some_below l.k (λ j. holds (buried_by (state_at l.state) l.page l.version) (slot_in FourWords l.words j)) ≡ false)
-
-abbrev pub decreases-loop-k : goal.decreases-loop-k
-decreases-loop-k l = l.sizes.slots - l.k
+invariant-loop-k l = some_below l.k (λ j. holds (buried_by (state_at l.state) l.page l.version) (slot_in FourWords l.words j)) ≡ false

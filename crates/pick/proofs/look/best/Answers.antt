@@ -1,20 +1,16 @@
 -- What was found is taken for the exposed records, and judging by it for the rule's permission.
-use mathlib.Core.Path.{sym, ◌∙◌}
-use Rattle.bounded.specs.Noted.{noted_length}
+use mathlib.Core.Path.{◌∙◌}
 use Rattle.permit.specs.Prepared.{linkable_within}
 use Rattle.judge.specs.Judgeable.{judgeable}
 use Rattle.pick.specs.PickingLaws.{best_by_found}
 use Rattle.pick.proofs.look.best.Goals as goal
 
-pub find_exposed-count-requires : goal.find_exposed-count-requires
-find_exposed-count-requires c = let p = c.requires in linkable_within _ _ _ _ p.linkable p.pages_in_bounds
-
-pub slice_bounds-best_found-end : goal.slice_bounds-best_found-end
-slice_bounds-best_found-end c = sym (noted_length _ _ _ _ c.find_exposed-count.ensures.kept c.requires.linkable.slots_few)
+pub find_exposed-requires : goal.find_exposed-requires
+find_exposed-requires c = let p = c.requires in linkable_within _ _ _ _ p.linkable p.pages_in_bounds
 
 pub best_found-requires : goal.best_found-requires
 best_found-requires c = let p = c.requires in
-    record { judgeable = judgeable _ _ _ _ _ _ _ _ _ p.linkable p.pages_in_bounds p.slots_in_bounds c.link_slots.ensures c.find_exposed-count.ensures.kept; starts_value = p.starts_value; block_in_bounds = p.block_in_bounds; looked_in_bounds = p.looked_in_bounds }
+    record { judgeable = judgeable _ _ _ _ _ _ _ _ p.linkable p.pages_in_bounds p.slots_in_bounds c.link_sound_slots.ensures (c.as_slice.ensures ∙ c.find_exposed.ensures); starts_value = p.starts_value; block_in_bounds = p.block_in_bounds; looked_in_bounds = p.looked_in_bounds }
 
 pub returns : goal.returns
-returns c = c.best_found.ensures ∙ best_by_found _ _ _ _ c.find_exposed-count.ensures.finds
+returns c = c.best_found.ensures ∙ best_by_found _ _ _ _ (c.as_slice.ensures ∙ c.find_exposed.ensures)

@@ -1,4 +1,4 @@
-use Prim.Native.Nat.{ℕ, ◌-◌}
+use Prim.Native.Nat.{ℕ}
 use native.Mathlib.Omega.{arith}
 use mathlib.Core.Path.{◌≡◌, refl, ap, ◌∙◌}
 use Rattle.sizes.specs.Blocks.{NamedBlock, named, block_at}
@@ -12,7 +12,7 @@ use Rattle.pick.proofs.look.best_found.Goals as goal
 use Rattle.pick.proofs.look.best_found.Goals.{then-freed-best, else-freed-best}
 
 pub loop-i-init : goal.loop-i-init
-loop-i-init c = (omega arith, no_marks 1024 refl, best_none _ _ c.requires.block_in_bounds)
+loop-i-init c = (no_marks 1024 refl, best_none _ _ c.requires.block_in_bounds)
 
 pub seen_at-seen-requires : goal.seen_at-seen-requires
 seen_at-seen-requires c = let p = c.requires in
@@ -25,7 +25,7 @@ block_at-slots-requires c = let p = c.requires in
 pub frees-freed-requires : goal.frees-freed-requires
 frees-freed-requires c = let p = c.requires in
     let l = c.loop-i in
-    record { judgeable = p.judgeable; block_in = seen_inside _ _ l.i c.seen_at-seen.ensures p.block_in_bounds (omega arith) _ p.starts_value c.block_at-slots.ensures; no_marks = l.invariant.1 }
+    record { judgeable = p.judgeable; block_in = seen_inside _ _ l.i c.seen_at-seen.ensures p.block_in_bounds (omega arith) _ p.starts_value c.block_at-slots.ensures; no_marks = l.invariant.0 }
 
 pub loop-i-preserved : goal.loop-i-preserved
 loop-i-preserved c = let l = c.loop-i in
@@ -39,12 +39,12 @@ loop-i-preserved c = let l = c.loop-i in
     let counted : c.frees-freed.result ≡ frees_by a.sizes v a.found.now slots.result = says.value in
     let is_freed_lem : c.frees-freed.result ≡ freed (seen_at block l.i) = counted ∙ ap (frees_by a.sizes v a.found.now) (seen_block _ _ l.i seen _ slots.ensures) in
     elim c.if-freed-best.branch [
-      | then-freed-best w ↦ (omega arith, says.no_marks_2, w.best-is ∙ best_here block freed l.i l.invariant.2 seen is_freed_lem w.if-freed-best.true)
-      | else-freed-best w ↦ (omega arith, says.no_marks_2, w.best-is ∙ best_stays block freed l.i l.invariant.2 seen is_freed_lem w.if-freed-best.false)
+      | then-freed-best w ↦ (says.no_marks_2, w.best-is ∙ best_here block freed l.i l.invariant.1 seen is_freed_lem w.if-freed-best.true)
+      | else-freed-best w ↦ (says.no_marks_2, w.best-is ∙ best_stays block freed l.i l.invariant.1 seen is_freed_lem w.if-freed-best.false)
     ]
 
 pub returns : goal.returns
 returns c = let l = c.loop-i in
     let a = c.args in
     let e : l.i ≡ a.looked = omega arith in
-    l.invariant.2 ∙ ap (λ (n : ℕ). best_by (named a.starts.now a.block) n (λ b. frees_by a.sizes (volume a.words.now a.contents.now a.state.now) a.found.now (block_at a.sizes.slots b))) e
+    l.invariant.1 ∙ ap (λ (n : ℕ). best_by (named a.starts.now a.block) n (λ b. frees_by a.sizes (volume a.words.now a.contents.now a.state.now) a.found.now (block_at a.sizes.slots b))) e

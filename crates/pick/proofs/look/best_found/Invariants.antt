@@ -1,5 +1,4 @@
 -- The invariant: no mark stands, and this is the best of the first i blocks that are seen.
-use Prim.Native.Nat.{◌≤◌, ◌-◌}
 use mathlib.Core.Path.{◌≡◌}
 use Rattle.sizes.specs.Blocks.{named, block_at}
 use Rattle.rules.specs.Volume.{volume}
@@ -8,9 +7,5 @@ use Rattle.pick.specs.Picking.{frees_by, best_by}
 use Rattle.pick.proofs.look.best_found.Given as goal
 
 abbrev pub invariant-loop-i : goal.invariant-loop-i
-invariant-loop-i l = (l.i ≤ l.looked)
-    × NoMarks l.marks
+invariant-loop-i l = NoMarks l.marks
     × (l.best ≡ best_by (named l.starts l.block) l.i (λ b. frees_by l.sizes (volume l.words l.contents l.state) l.found (block_at l.sizes.slots b)))
-
-abbrev pub decreases-loop-i : goal.decreases-loop-i
-decreases-loop-i l = l.looked - l.i

@@ -1,4 +1,3 @@
-use Prim.Native.Nat.{◌-◌}
 use native.Mathlib.Omega.{arith}
 use mathlib.Core.Path.{◌≡◌, sym, ap, ◌∙◌}
 use Rattle.rules.specs.Volume.{volume}
@@ -9,12 +8,12 @@ use Rattle.pick.proofs.look.frees.Goals.{then-may_erase_alone, else-may_erase_al
 
 pub loop-slot-init : goal.loop-slot-init
 loop-slot-init c = let p = c.requires in
-    (omega arith, p.block_in.ordered, omega arith, p.no_marks, sym (freed_none _ _ _ _))
+    (omega arith, p.no_marks, sym (freed_none _ _ _ _))
 
 pub may_erase_alone-requires : goal.may_erase_alone-requires
 may_erase_alone-requires c = let p = c.requires in
     let b = p.block_in.inside in
-    record { judgeable = p.judgeable; slot_lt_slots = omega arith; no_marks = c.loop-slot.invariant.3 }
+    record { judgeable = p.judgeable; slot_lt_slots = omega arith; no_marks = c.loop-slot.invariant.1 }
 
 pub loop-slot-preserved : goal.loop-slot-preserved
 unfolding alone_by
@@ -25,11 +24,11 @@ loop-slot-preserved c = let l = c.loop-slot in
     let judged : c.may_erase_alone.result ≡ alone_by a.sizes v a.found.now l.slot = c.may_erase_alone.ensures.value in
     let none = c.may_erase_alone.ensures.no_marks_2 in
     elim c.if-may_erase_alone.branch [
-      | then-may_erase_alone w ↦ (omega arith, omega arith, omega arith, none, w.count-is ∙ freed_more a.sizes v a.found.now a.block l.slot l.invariant.0 h l.invariant.4 (sym judged ∙ w.if-may_erase_alone.true))
-      | else-may_erase_alone w ↦ (omega arith, omega arith, omega arith, none, w.count-is ∙ freed_stays a.sizes v a.found.now a.block l.slot l.invariant.0 h l.invariant.4 (sym judged ∙ w.if-may_erase_alone.false))
+      | then-may_erase_alone w ↦ (omega arith, none, w.count-is ∙ freed_more a.sizes v a.found.now a.block l.slot l.auto.slot h l.invariant.2 (sym judged ∙ w.if-may_erase_alone.true))
+      | else-may_erase_alone w ↦ (omega arith, none, w.count-is ∙ freed_stays a.sizes v a.found.now a.block l.slot l.auto.slot h l.invariant.2 (sym judged ∙ w.if-may_erase_alone.false))
     ]
 
 pub returns : goal.returns
 returns c = let l = c.loop-slot in
     let e : l.slot ≡ c.args.block.end = omega arith in
-    record { value = l.invariant.4 ∙ ap (freed_below _ _ _ _) e ∙ freed_all _ _ _ _ c.requires.block_in; no_marks_2 = l.invariant.3 }
+    record { value = l.invariant.2 ∙ ap (freed_below _ _ _ _) e ∙ freed_all _ _ _ _ c.requires.block_in; no_marks_2 = l.invariant.1 }

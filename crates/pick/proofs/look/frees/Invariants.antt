@@ -1,5 +1,5 @@
 -- The invariant: no mark stands, and of the block's slots below this one so many may be erased.
-use Prim.Native.Nat.{◌≤◌, ◌-◌}
+use Prim.Native.Nat.{◌≤◌}
 use mathlib.Core.Path.{◌≡◌}
 use Rattle.rules.specs.Volume.{volume}
 use Rattle.judge.specs.Marked.{NoMarks}
@@ -7,11 +7,6 @@ use Rattle.pick.specs.PickingLaws.{freed_below}
 use Rattle.pick.proofs.look.frees.Given as goal
 
 abbrev pub invariant-loop-slot : goal.invariant-loop-slot
-invariant-loop-slot l = (l.block.first ≤ l.slot)
-    × (l.slot ≤ l.block.end)
-    × (l.count ≤ l.slot)
+invariant-loop-slot l = (l.count ≤ l.slot)
     × NoMarks l.marks
-    × (l.count ≡ freed_below l.sizes (volume l.words l.contents l.state) l.found l.block l.slot)
-
-abbrev pub decreases-loop-slot : goal.decreases-loop-slot
-decreases-loop-slot l = l.block.end - l.slot
+    × (l.count ≡ freed_below l.sizes (volume l.words l.contents l.state) l.found l.fn.block l.slot)

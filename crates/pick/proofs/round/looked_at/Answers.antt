@@ -3,10 +3,6 @@ use native.Mathlib.Omega.{arith}
 use Rattle.upkeep.specs.Pick.{looked_at}
 use Rattle.pick.proofs.round.looked_at.Goals as goal
 
-pub returns-then-n-starts : goal.returns-then-n-starts
-unfolding looked_at
-returns-then-n-starts c = λ block. omega arith
-
 pub returns : goal.returns
 unfolding looked_at
-returns c = λ block. omega arith
+returns c = λ block. omega (arith, c.min.ensures)

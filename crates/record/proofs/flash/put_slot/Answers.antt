@@ -3,7 +3,6 @@ use Prim.Native.Nat.{ℕ, ◌+◌, ◌*◌, ◌-◌, ◌≤◌}
 use mathlib.Core.Path.{◌≡◌, refl, sym, ap, ◌∙◌, subst}
 use mathlib.Core.List.{List}
 use lib.ListN.{length}
-use borrow.Author.Rules.{rules}
 use borrow.Rule.Slice.PartMut.{put_mid}
 use Rattle.bounded.specs.Parts.{put_part}
 use Rattle.record.specs.Slot.{encoded}
@@ -17,18 +16,6 @@ inside k m e h = subst (λ (x : ℕ). x * k + x ≤ m) (sym e) h
 
 lent_as : {n w : ℕ} (xs ys s : List ℕ) (k : ℕ) → n ≡ w → ys ≡ s → length s ≡ w → put_mid (n * k) (n * k + n - n * k) xs ys ≡ put_part w k s xs
 lent_as {n} {w} xs ys s k e h l = lent_part xs ys s n k h (l ∙ sym e) ∙ ap (λ (x : ℕ). put_part x k s xs) e
-
-pub overflow_mul-a : goal.overflow_mul-a
-overflow_mul-a c = let i = inside c.args.slot (length c.args.words.now) c.stride-n.ensures c.requires.layout_in_bounds in search rules
-
-pub overflow_add-a : goal.overflow_add-a
-overflow_add-a c = let i = inside c.args.slot (length c.args.words.now) c.stride-n.ensures c.requires.layout_in_bounds in search rules
-
-pub offset_bounds-words-a : goal.offset_bounds-words-a
-offset_bounds-words-a c = let i = inside c.args.slot (length c.args.words.now) c.stride-n.ensures c.requires.layout_in_bounds in search rules
-
-pub slice_bounds-store_record-end : goal.slice_bounds-store_record-end
-slice_bounds-store_record-end c = inside c.args.slot (length c.args.words.now) c.stride-n.ensures c.requires.layout_in_bounds
 
 pub returns : goal.returns
 returns c = let s = c.store_record in

@@ -1,31 +1,26 @@
 -- Where erase answers 12 the trial blanks every listed slot; else both answer the same.
 use mathlib.Core.Path.{sym, ◌∙◌}
-use Rattle.bounded.specs.Choice.{not_no, not_yes}
+use Rattle.std.proofs.Common.{inl, inr}
 use Rattle.bounded.specs.Limits.{two_widths}
 use Rattle.sizes.proofs.SizesLaws.{width_most}
 use Rattle.rules.specs.Volume.{volume}
-use Rattle.recorded.specs.TrialLaws.{own_erase, trial_same, trial_listed, trial_done}
+use Rattle.collect.specs.EraseLaws.{converts_same}
+use Rattle.recorded.specs.TrialLaws.{is_twelve, trial_same, trial_listed, trial_done}
 use Rattle.recorded.proofs.erase.erase.Goals as goal
+use Rattle.recorded.proofs.erase.erase.Goals.{else-trial-via-then-trial+else-eq, else-trial-via-else-trial}
 
-pub returns-then-not-trial : goal.returns-then-not-trial
-returns-then-not-trial c = let a = c.args in
-    let erased = c.erase-r in
-    own_erase a.trial two_widths a.sizes (volume a.words.now a.contents.now a.state.now) a.list.now _ _ erased.ensures (not_no c.if-not-trial.true)
+pub blank_listed-requires : goal.blank_listed-requires
+blank_listed-requires c = let a = c.args in
+    let twelve = sym (c.eq.ensures ∙ is_twelve _) ∙ c.if-eq.true in
+    let listed = trial_listed a.trial two_widths a.sizes (volume a.words.now a.contents.now a.state.now) a.list.now _ _ c.erase-erased.ensures c.if-trial.true twelve in
+    record { listed_in = (a.list.now, converts_same a.list.now, listed.0); width_bound = width_most _ listed.1 }
 
-pub returns-then-answer_of-ne12 : goal.returns-then-answer_of-ne12
-returns-then-answer_of-ne12 c = let a = c.args in
-    let erased = c.erase-r in
-    trial_same a.trial two_widths a.sizes (volume a.words.now a.contents.now a.state.now) a.list.now _ _ erased.ensures (not_yes c.if-not-trial.false) (λ z. c.if-answer_of-ne12.true (c.answer_of.ensures ∙ z))
-
-pub blank_up_to-requires : goal.blank_up_to-requires
-blank_up_to-requires c = let a = c.args in
-    let erased = c.erase-r in
-    let twelve = sym c.answer_of.ensures ∙ c.if-answer_of-ne12.false in
-    let listed = trial_listed a.trial two_widths a.sizes (volume a.words.now a.contents.now a.state.now) a.list.now _ _ erased.ensures (not_yes c.if-not-trial.false) twelve in
-    record { listed_in = listed.0; width_bound = width_most _ listed.1 }
+pub returns-then-eq : goal.returns-then-eq
+returns-then-eq c = let a = c.args in
+    let twelve = sym (c.eq.ensures ∙ is_twelve _) ∙ c.if-eq.true in
+    trial_done a.trial two_widths a.sizes (volume a.words.now a.contents.now a.state.now) a.list.now _ _ c.erase-erased.ensures c.if-trial.true twelve _ (c.blank_listed.ensures a.list.now (converts_same a.list.now))
 
 pub returns : goal.returns
 returns c = let a = c.args in
-    let erased = c.erase-r in
-    let twelve = sym c.answer_of.ensures ∙ c.if-answer_of-ne12.false in
-    trial_done a.trial two_widths a.sizes (volume a.words.now a.contents.now a.state.now) a.list.now _ _ erased.ensures (not_yes c.if-not-trial.false) twelve _ _ c.reply.ensures c.blank_up_to.ensures
+    trial_same a.trial two_widths a.sizes (volume a.words.now a.contents.now a.state.now) a.list.now _ _ c.erase-erased.ensures
+    (elim c.else-trial.branch [ else-trial-via-then-trial+else-eq w ↦ inr (sym (w.eq.ensures ∙ is_twelve _) ∙ w.if-eq.false) | else-trial-via-else-trial w ↦ inl w.if-trial.false ])

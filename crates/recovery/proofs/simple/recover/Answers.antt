@@ -6,7 +6,7 @@ use Rattle.recovery.proofs.simple.recover.Goals as goal
 
 pub returns-then-not-table_ok : goal.returns-then-not-table_ok
 returns-then-not-table_ok c = let a = c.args in
-    sizes_wrong _ _ _ _ _ _ _ _ c.reply.ensures (told c.table_ok.ensures c.if-not-table_ok.true)
+    sizes_wrong _ _ _ _ _ _ _ (told c.table_ok.ensures c.if-not-table_ok.true)
     ∙ sym (simple_outcome two_widths a.sizes a.words.now a.state.now)
 
 pub table_sound-requires : goal.table_sound-requires
@@ -14,7 +14,7 @@ table_sound-requires c = (simple_fits _ _ _ _ (told c.table_ok.ensures c.if-not-
 
 pub returns-then-not-table_sound : goal.returns-then-not-table_sound
 returns-then-not-table_sound c = let a = c.args in
-    slot_unsound_lem _ _ _ _ _ _ _ _ c.reply-then-not-table_sound.ensures (told c.table_ok.ensures c.if-not-table_ok.false) (told c.table_sound.ensures c.if-not-table_sound.true)
+    slot_unsound_lem _ _ _ _ _ _ _ (told c.table_ok.ensures c.if-not-table_ok.false) (told c.table_sound.ensures c.if-not-table_sound.true)
     ∙ sym (simple_outcome two_widths a.sizes a.words.now a.state.now)
 
 pub some_clash-requires : goal.some_clash-requires
@@ -23,7 +23,7 @@ some_clash-requires c = let f = simple_fits _ _ _ _ (told c.table_ok.ensures c.i
 
 pub returns-then-some_clash : goal.returns-then-some_clash
 returns-then-some_clash c = let a = c.args in
-    records_conflict _ _ _ _ _ _ _ _ c.reply-then-some_clash.ensures (told c.table_ok.ensures c.if-not-table_ok.false) (told c.table_sound.ensures c.if-not-table_sound.false)
+    records_conflict _ _ _ _ _ _ _ (told c.table_ok.ensures c.if-not-table_ok.false) (told c.table_sound.ensures c.if-not-table_sound.false)
     (sym c.some_clash.ensures ∙ c.if-some_clash.true)
     ∙ sym (simple_outcome two_widths a.sizes a.words.now a.state.now)
 

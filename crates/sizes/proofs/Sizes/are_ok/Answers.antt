@@ -1,26 +1,13 @@
 -- Each return is what the tests on its way give.
-use borrow.Author.Tests.{ne_eqb, eq-eqb, lt-ltb, le-ltb, le-leb, lt-leb}
+use native.Mathlib.Omega.{arith}
+use Rattle.std.proofs.lemmas.Bool.Decides.{nat_tests}
 use Rattle.sizes.specs.Sizes.{sizes_ok}
 use Rattle.sizes.proofs.Sizes.are_ok.Goals as goal
 
-ruleset tests = (ne_eqb, eq-eqb, lt-ltb, le-ltb, le-leb, lt-leb)
-
-pub returns-then-self-lt1 : goal.returns-then-self-lt1
+pub returns-then-self-le1024 : goal.returns-then-self-le1024
 unfolding sizes_ok
-returns-then-self-lt1 c = search tests
+returns-then-self-le1024 c = grind (arith, nat_tests)
 
-pub returns-then-self-gt256 : goal.returns-then-self-gt256
+pub returns-else-self-le1024 : goal.returns-else-self-le1024
 unfolding sizes_ok
-returns-then-self-gt256 c = search tests
-
-pub returns-then-self : goal.returns-then-self
-unfolding sizes_ok
-returns-then-self c = search tests
-
-pub returns-then-self-gt1024 : goal.returns-then-self-gt1024
-unfolding sizes_ok
-returns-then-self-gt1024 c = search tests
-
-pub returns : goal.returns
-unfolding sizes_ok
-returns c = search (tests, c.width_ok.ensures)
+returns-else-self-le1024 c = grind (arith, nat_tests)

@@ -1,12 +1,13 @@
--- `state::PageState::versions_sound` meets its contract. Each return is the test that decides it.
-use borrow.Author.Tests.{lt-leb, le-leb}
+-- Each return is what the tests on its way give.
+use native.Mathlib.Omega.{arith}
+use Rattle.std.proofs.lemmas.Bool.Decides.{nat_tests}
 use Rattle.state.specs.State.{versions_sound}
 use Rattle.state.proofs.PageState.versions_sound.Goals as goal
 
 pub returns-then-self : goal.returns-then-self
 unfolding versions_sound
-returns-then-self c = rw (lt-leb _ _ c.if-self.true)
+returns-then-self c = grind (arith, nat_tests)
 
-pub returns : goal.returns
+pub returns-else-self : goal.returns-else-self
 unfolding versions_sound
-returns c = rw (le-leb _ _ c.if-self.false)
+returns-else-self c = grind (arith, nat_tests)

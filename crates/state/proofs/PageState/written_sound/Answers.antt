@@ -1,16 +1,17 @@
--- `state::PageState::written_sound` meets its contract. Each return is the test that decides it.
-use borrow.Author.Tests.{eq-eqb, ne_eqb}
+-- Each return is what the tests on its way give.
+use native.Mathlib.Omega.{arith}
+use Rattle.std.proofs.lemmas.Bool.Decides.{nat_tests}
 use Rattle.state.specs.State.{written_sound}
 use Rattle.state.proofs.PageState.written_sound.Goals as goal
 
 pub returns-then-self-eq0 : goal.returns-then-self-eq0
 unfolding written_sound
-returns-then-self-eq0 c = rw (eq-eqb _ _ c.if-self-eq0.true)
+returns-then-self-eq0 c = grind (arith, nat_tests)
 
-pub returns-then-self-ne1 : goal.returns-then-self-ne1
+pub returns-then-self-eq1 : goal.returns-then-self-eq1
 unfolding written_sound
-returns-then-self-ne1 c = rw (ne_eqb _ _ c.if-self-eq0.false, ne_eqb _ _ c.if-self-ne1.true)
+returns-then-self-eq1 c = grind (arith, nat_tests)
 
-pub returns : goal.returns
+pub returns-else-self-eq1 : goal.returns-else-self-eq1
 unfolding written_sound
-returns c = rw (ne_eqb _ _ c.if-self-eq0.false, eq-eqb _ _ c.if-self-ne1.false) c.in_flight.ensures
+returns-else-self-eq1 c = grind (arith, nat_tests)

@@ -1,5 +1,4 @@
 use native.Mathlib.Omega.{arith}
-use mathlib.Core.Path.{sym, ◌∙◌}
 use Rattle.state.specs.Walk.{cycle_ended}
 use Rattle.state.specs.WalkLaws.{walking_starts, walking_below, walking_length, walking_more, walking_less, walking_ends}
 use Rattle.state.proofs.cycle.end_cycle.Goals as goal
@@ -16,11 +15,6 @@ pub put_page-requires : goal.put_page-requires
 put_page-requires c = let w = c.requires in
     let h = c.loop-at.invariant in
     omega (arith, walking_below _ _ _ w _ _ _ h, walking_length _ _ _ w _ _ _ h)
-
-pub shape_of-state-then-at-page : goal.shape_of-state-then-at-page
-shape_of-state-then-at-page c = let w = c.requires in
-    let h = c.loop-at.invariant in
-    c.put_page.auto.state ∙ walking_length _ _ _ w _ _ _ h ∙ sym w.fits
 
 pub returns-then-at-page : goal.returns-then-at-page
 unfolding cycle_ended

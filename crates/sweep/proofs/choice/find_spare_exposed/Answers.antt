@@ -1,21 +1,10 @@
-use Prim.Native.Nat.{◌-◌}
 use native.Mathlib.Omega.{arith}
-use mathlib.Core.Path.{◌≡◌, refl}
-use Rattle.bounded.specs.Noted.{noted_none}
+use Rattle.std.proofs.Common.{rules}
+use Rattle.record.specs.Slot.{slot_at}
+use Rattle.state.specs.State.{state_at}
 use Rattle.upkeep.specs.Sweep.{is_spare_exposed}
 use Rattle.sweep.proofs.choice.find_spare_exposed.Goals as goal
 
-pub loop-k-init : goal.loop-k-init
-loop-k-init c = (omega arith, noted_none _ 0 1024 refl (λ k h. absurd (omega arith)))
-
-pub is_spare_exposed-requires : goal.is_spare_exposed-requires
-is_spare_exposed-requires c = record { within = c.requires; slot_lt_slots = c.loop-k-test.true }
-
-pub note-count-requires : goal.note-count-requires
-note-count-requires c = let few = c.requires.slots_few in record { number_bound = omega arith; count_le_number = c.loop-k.invariant.1.counted }
-
-pub loop-k-preserved : goal.loop-k-preserved
-loop-k-preserved c = (omega arith, c.note-count.ensures _ c.is_spare_exposed.ensures c.loop-k.invariant.1)
-
 pub returns : goal.returns
-returns c = let l = c.loop-k in let e : l.k ≡ c.args.slots = omega arith in rw e at l.invariant.1
+returns c = let a = c.args in
+    c.note_passing.ensures (is_spare_exposed (slot_at a.words.now) (state_at a.state.now)) (λ k h. absurd (omega arith)) (λ k b l h ran. search rules)

@@ -9,17 +9,10 @@ use Rattle.sweep.proofs.choice.is_erasable_obsolete.Goals as goal
 pub returns-in_default : goal.returns-in_default
 returns-in_default c = rw (blank_not_obsolete _ _ _ (sym c.slot_at.ensures ∙ c.in_default.is))
 
-pub is_obsolete-requires : goal.is_obsolete-requires
-is_obsolete-requires c = let p = c.requires in
-    p.within.pages_in_lem _ _ p.slot_lt_slots (sym c.slot_at.ensures ∙ c.in-Holds.is)
+pub returns-then-is_obsolete : goal.returns-then-is_obsolete
+returns-then-is_obsolete c = let a = c.args in
+    rw (obsolete_record (slot_at a.words.now) (state_at a.state.now) a.slot (sym c.slot_at.ensures ∙ c.in-Some.is), told c.is_obsolete.ensures c.if-is_obsolete.true) c.may_erase.ensures
 
-pub returns-then-not-is_obsolete : goal.returns-then-not-is_obsolete
-returns-then-not-is_obsolete c = let a = c.args in
-    rw (obsolete_record (slot_at a.words.now) (state_at a.state.now) a.slot (sym c.slot_at.ensures ∙ c.in-Holds.is), told c.is_obsolete.ensures c.if-not-is_obsolete.true)
-
-pub may_erase-requires : goal.may_erase-requires
-may_erase-requires c = c.requires
-
-pub returns : goal.returns
-returns c = let a = c.args in
-    rw (obsolete_record (slot_at a.words.now) (state_at a.state.now) a.slot (sym c.slot_at.ensures ∙ c.in-Holds.is), told c.is_obsolete.ensures c.if-not-is_obsolete.false) c.may_erase.ensures
+pub returns-else-is_obsolete : goal.returns-else-is_obsolete
+returns-else-is_obsolete c = let a = c.args in
+    rw (obsolete_record (slot_at a.words.now) (state_at a.state.now) a.slot (sym c.slot_at.ensures ∙ c.in-Some.is), told c.is_obsolete.ensures c.if-is_obsolete.false) c.if-is_obsolete.false

@@ -1,4 +1,4 @@
--- Exposed and not current, tested in this order; a blank slot holds neither, and the page of a record in the table is in the state.
+-- Exposed and not current, tested in this order; a blank slot holds neither.
 use mathlib.Core.Path.{sym, ap, ◌∙◌}
 use mathlib.Core.Bool.{not}
 use Rattle.bounded.specs.Choice.{told}
@@ -8,15 +8,10 @@ use Rattle.sweep.proofs.choice.is_spare_exposed.Goals as goal
 pub returns-in_default : goal.returns-in_default
 returns-in_default c = sym (blank_not_spare _ _ _ (sym c.slot_at.ensures ∙ c.in_default.is))
 
-pub is_exposed-requires : goal.is_exposed-requires
-is_exposed-requires c = let p = c.requires in p.within.pages_in_lem _ _ p.slot_lt_slots (sym c.slot_at.ensures ∙ c.in-Holds.is)
+pub returns-then-is_exposed : goal.returns-then-is_exposed
+returns-then-is_exposed c = ap not c.is_current.ensures
+    ∙ sym (spare_record _ _ _ (sym c.slot_at.ensures ∙ c.in-Some.is) ∙ rw (told c.is_exposed.ensures c.if-is_exposed.true))
 
-pub returns-then-not-is_exposed : goal.returns-then-not-is_exposed
-returns-then-not-is_exposed c = sym (spare_record _ _ _ (sym c.slot_at.ensures ∙ c.in-Holds.is) ∙ rw (told c.is_exposed.ensures c.if-not-is_exposed.true))
-
-pub is_current-requires : goal.is_current-requires
-is_current-requires c = let p = c.requires in p.within.pages_in_lem _ _ p.slot_lt_slots (sym c.slot_at.ensures ∙ c.in-Holds.is)
-
-pub returns : goal.returns
-returns c = ap not c.is_current.ensures
-    ∙ sym (spare_record _ _ _ (sym c.slot_at.ensures ∙ c.in-Holds.is) ∙ rw (told c.is_exposed.ensures c.if-not-is_exposed.false))
+pub returns-else-is_exposed : goal.returns-else-is_exposed
+returns-else-is_exposed c = c.if-is_exposed.false
+    ∙ sym (spare_record _ _ _ (sym c.slot_at.ensures ∙ c.in-Some.is) ∙ rw (told c.is_exposed.ensures c.if-is_exposed.false))

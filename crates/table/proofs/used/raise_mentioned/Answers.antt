@@ -27,20 +27,20 @@ returns-in_default c = c.requires.used_value
 
 pub raise_entry-requires : goal.raise_entry-requires
 raise_entry-requires c = let pre = c.requires in
-    let s = sound_facts _ _ (sound_at _ _ _ _ pre.words_value pre.k_lt_slots (sym c.slot_in.ensures ∙ c.in-Holds.is)) in
+    let s = sound_facts _ _ (sound_at _ _ _ _ pre.words_value pre.k_lt_slots (sym c.slot_in.ensures ∙ c.in-Some.is)) in
     let l = s.page_below in
     omega arith
 
 pub raise_entry-requires-2 : goal.raise_entry-requires-2
 raise_entry-requires-2 c = let pre = c.requires in
-    let s = sound_facts _ _ (sound_at _ _ _ _ pre.words_value pre.k_lt_slots (sym c.slot_in.ensures ∙ c.in-Holds.is)) in
+    let s = sound_facts _ _ (sound_at _ _ _ _ pre.words_value pre.k_lt_slots (sym c.slot_in.ensures ∙ c.in-Some.is)) in
     let l = s.next_below in
     omega arith
 
 pub returns : goal.returns
-returns c = let r = c.in-Holds.record in
+returns c = let r = c.in-Some.record in
     let pre = c.requires in
-    let holds = sym c.slot_in.ensures ∙ c.in-Holds.is in
+    let holds = sym c.slot_in.ensures ∙ c.in-Some.is in
     let s = sound_facts _ _ (sound_at _ _ _ _ pre.words_value pre.k_lt_slots holds) in
     let p = s.page_below in
     let n = s.next_below in

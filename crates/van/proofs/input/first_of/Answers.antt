@@ -8,14 +8,14 @@ use Rattle.van.proofs.input.first_of.Goals as goal
 pub returns-then-not-is_whole : goal.returns-then-not-is_whole
 returns-then-not-is_whole c = first_cut c.args.input.now (told c.is_whole.ensures c.if-not-is_whole.true)
 
-pub entry_at-entry-requires : goal.entry_at-entry-requires
-entry_at-entry-requires c = told c.is_whole.ensures c.if-not-is_whole.false
+pub entry_at-requires : goal.entry_at-requires
+entry_at-requires c = told c.is_whole.ensures c.if-not-is_whole.false
 
 pub sizes_at-requires : goal.sizes_at-requires
 sizes_at-requires c = (whole_facts two_widths c.args.input.now (told c.is_whole.ensures c.if-not-is_whole.false)).header
 
-pub volume_length-length-requires : goal.volume_length-length-requires
-volume_length-length-requires c = rw c.sizes_at.ensures (whole_facts two_widths c.args.input.now (told c.is_whole.ensures c.if-not-is_whole.false)).taken
+pub volume_length-requires : goal.volume_length-requires
+volume_length-requires c = rw c.sizes_at.ensures (whole_facts two_widths c.args.input.now (told c.is_whole.ensures c.if-not-is_whole.false)).taken
 
 pub returns : goal.returns
-returns c = first_whole c.args.input.now (told c.is_whole.ensures c.if-not-is_whole.false) _ _ _ c.entry_at-entry.ensures c.sizes_at.ensures c.volume_length-length.ensures
+returns c = first_whole c.args.input.now (told c.is_whole.ensures c.if-not-is_whole.false) _ _ _ c.entry_at.ensures c.sizes_at.ensures c.volume_length.ensures

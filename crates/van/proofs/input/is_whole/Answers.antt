@@ -1,5 +1,5 @@
 -- Each return is what the tests on its way give.
-use mathlib.Core.Path.{sym}
+use mathlib.Core.Path.{sym, ◌∙◌}
 use Rattle.bounded.specs.Limits.{two_widths}
 use Rattle.bounded.specs.Choice.{told}
 use Rattle.fleet.proofs.InputLaws.{broken_early}
@@ -9,11 +9,11 @@ use Rattle.van.proofs.input.is_whole.Goals as goal
 pub returns-then-input-lt12 : goal.returns-then-input-lt12
 returns-then-input-lt12 c = sym (broken_early two_widths c.args.input.now c.if-input-lt12.true)
 
-pub returns-then-not-sizes_taken : goal.returns-then-not-sizes_taken
-returns-then-not-sizes_taken c = wrong_sizes_lem c.args.input.now _ c.sizes_at-sizes.ensures c.if-input-lt12.false (told c.sizes_taken.ensures c.if-not-sizes_taken.true)
+pub returns-else-sizes_taken : goal.returns-else-sizes_taken
+returns-else-sizes_taken c = c.if-sizes_taken.false ∙ wrong_sizes_lem c.args.input.now _ c.sizes_at-sizes.ensures c.if-input-lt12.false (told c.sizes_taken.ensures c.if-sizes_taken.false)
 
 pub volume_length-requires : goal.volume_length-requires
-volume_length-requires c = told c.sizes_taken.ensures c.if-not-sizes_taken.false
+volume_length-requires c = told c.sizes_taken.ensures c.if-sizes_taken.true
 
-pub returns : goal.returns
-returns c = right_sizes c.args.input.now _ c.sizes_at-sizes.ensures c.if-input-lt12.false (told c.sizes_taken.ensures c.if-not-sizes_taken.false) _ c.volume_length.ensures
+pub returns-then-sizes_taken : goal.returns-then-sizes_taken
+returns-then-sizes_taken c = right_sizes c.args.input.now _ c.sizes_at-sizes.ensures c.if-input-lt12.false (told c.sizes_taken.ensures c.if-sizes_taken.true) _ c.volume_length.ensures

@@ -1,7 +1,6 @@
--- The bytes of a word are those of its part.
-use mathlib.Core.Path.{sym, ◌∙◌}
-use Rattle.van.specs.Reading.{word_is}
+use mathlib.Core.Path.{◌∙◌}
+use Rattle.van.specs.Reading.{word_from}
 use Rattle.van.proofs.input.word_at.Goals as goal
 
 pub returns : goal.returns
-returns c = let a = c.args in c.word_of.ensures ∙ sym (word_is a.bytes.now a.i)
+returns c = let a = c.args in c.from_le_bytes.ensures ∙ word_from a.bytes.now a.i

@@ -1,5 +1,0 @@
--- `run_all` ends: the measure is the number of turns that are left.
-use Rattle.script_main.proofs.run_all.Given as goal
-
-abbrev pub decreases-loop-turns : goal.decreases-loop-turns
-decreases-loop-turns g l = l.turns
