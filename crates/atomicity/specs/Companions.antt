@@ -1,6 +1,6 @@
 -- Promise 3's companions, stated: the paper's invariants, that the premises are met, what ties a call's stages to what it leaves and to a crash in it, that recovery finds the same
 -- committed versions and contents before and after a cleaning and a sweep, and after a crash in a sweep, that a block whose cleaning was cut can be cleaned again, how many records a sweep leaves, and how what it blanked is sorted into its erasures.
-use Rattle.std.specs.Prelude.{ℕ, suc, ◌+◌, ◌*◌, ◌≤◌, ◌<◌, ◌≡◌, Bool, true, false, not, ◌&&◌, length}
+use Rattle.std.specs.Prelude.{ℕ, ◌+◌, ◌*◌, ◌≤◌, ◌<◌, ◌≡◌, Bool, true, false, not, ◌&&◌, length}
 use mathlib.Core.List.{List, [], ◌∷◌, ◌++◌, map, flatten}
 use Rattle.bounded.specs.Limits.{Widths}
 use Rattle.bounded.specs.Below.{list_below}

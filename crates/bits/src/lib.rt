@@ -9,6 +9,7 @@ ghost use Rattle.bits.specs.Bits.{bit_at, set_bits, count_outcome};
 use outcome::Refusal;
 
 // "Stop s … is bit s mod 8 of byte s div 8, lowest bit first; 1 means drawn."
+// Kept: a shift and a mask that give a number, for document 01 has the bit by its place in the byte, and `count_bits` sums them.
 pub fn bit(bytes: &[u8], s: u32) -> u32
     requires { s < 8 * length bytes.now }
     ensures { result ≡ bit_at bytes.now s }

@@ -6,7 +6,7 @@ use native.Mathlib.Omega.{arith}
 use Rattle.std.specs.Prelude.{◌≡◌}
 use Rattle.std.proofs.Math.Path.{refl, sym, ap, ap₂, fun_ext}
 use mathlib.Core.List.{List, [], ◌∷◌, ◌++◌, append-nil, append_assoc}
-use lib.ListN.{length, take, drop, get_or, length-append, length-take, length-drop, take-append-drop}
+use lib.ListN.{length, take, drop, get_or, length-append, length-take, length-drop, take-append-drop, drop_of_length-le}
 use Rattle.std.proofs.Math.Seq.{take-append-le, take_at, drop-append-add, drop-drop, length-take-le}
 use Rattle.std.proofs.lemmas.List.{drop-append-le}
 use Rattle.bounded.specs.Choice.{on_lt, on_eq}
@@ -141,10 +141,7 @@ module _ {A : Type 0} where
   -- a list of n parts is its parts joined
   pub join_from_parts : (w n i : ℕ) (l : List A) → length l ≡ w * (i + n) → join_from n i (λ k. part w k l) ≡ drop (w * i) l
   unfolding join_from part
-  join_from_parts w zero i l q = sym (drop_past (w * i) l (omega (arith, ap (λ (x : ℕ). w * x) (let e : i + 0 ≡ i = omega arith in e))))
-    where
-      drop_past : (m : ℕ) (l : List A) → length l ≤ m → drop m l ≡ []
-      drop_past m l h = lib.ListN.drop_of_length-le l h
+  join_from_parts w zero i l q = sym (drop_of_length-le l (omega (arith, ap (λ (x : ℕ). w * x) (let e : i + 0 ≡ i = omega arith in e))))
   join_from_parts w (suc n) i l q =
       let e : i + suc n ≡ suc i + n = omega arith in
       let ih = join_from_parts w n (suc i) l (q ∙ ap (λ (x : ℕ). w * x) e) in

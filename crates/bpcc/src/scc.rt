@@ -23,6 +23,7 @@ ghost use Rattle.atomicity.specs.Burial.{Unburied};
 
 use super::sizes_of;
 use sizes::Layout;
+use volume::Volume;
 
 // Format a volume.
 #[unsafe(no_mangle)]
@@ -161,15 +162,14 @@ pub extern "C" fn scc_read(
     ensures { returned result out.new
         ≡ read_outcome_in FourWords two_widths (sizes_of pages slots width) (volume words.now contents.now state.now) page out.old }
 {
-    outcome::reply_done(reader::copy_page(
+    let volume = Volume::new(
         Layout::FourWords,
         sizes_of(pages, slots, width),
         words,
         contents,
         state,
-        page,
-        out,
-    ))
+    );
+    outcome::reply_done(reader::copy_page(&volume, page, out))
 }
 
 // Promise 3 of this family, whole: one theorem over all lists of calls and crashes, for any widths, and at the two that the calls take; that it holds of the volume's

@@ -1,7 +1,7 @@
 -- How the chains grow by a slot; and that a search over all slots, for a test that only slots of one chain pass, is the search along it.
 use Prim.Native.Nat.{ℕ, ◌+◌, ◌-◌, ◌%◌, ◌≤◌, ◌<◌, max}
 use native.Mathlib.Omega.{arith}
-use Rattle.std.specs.Prelude.{◌≡◌, refl, List, Bool, true, false, cond, ◌&&◌, ltb, get_or, set, replicate, Option, None, Some, is_some}
+use Rattle.std.specs.Prelude.{◌≡◌, refl, List, Bool, true, false, cond, ◌&&◌, ltb, get_or, set, replicate, Option, None, Some, SomeIff, is_some}
 use Rattle.std.proofs.Math.Path.{sym, ap}
 use Rattle.std.proofs.Common.{ap₂, ◌∙◌, length-set, get_or-set_same, get_or-set_other}
 use Rattle.std.proofs.lemmas.Bool.{false≢true}
@@ -261,18 +261,15 @@ module _ (n : ℕ) (t : ℕ → Slot) (p v : ℕ) where
   sought : ℕ → Bool
   sought k = holds (of_version p v) (t k)
 
-  pub found_lowest : lowest_slot n t p v < n → Found n (λ k. holds (of_version p v) (t k)) (lowest_slot n t p v + 1)
+  pub found_lowest : (lowest : Option ℕ) → SomeIff lowest (lowest_slot n t p v < n) (lowest_slot n t p v) → Found n (λ k. holds (of_version p v) (t k)) (end_of lowest)
   unfolding lowest_slot sought
-  found_lowest h = record {
-    tells = first_tells sought n ∙ lt-ltb (first_below n sought) n h ∙ sym (lt-ltb 0 (first_below n sought + 1) (omega arith));
-    passes = λ k e. let s : k ≡ first_below n sought = omega arith in (omega arith, ap sought s ∙ first_passes sought n h);
-  }
-
-  pub found_nowhere : n ≤ lowest_slot n t p v → Found n (λ k. holds (of_version p v) (t k)) 0
-  unfolding lowest_slot sought
-  found_nowhere h = record {
-    tells = first_tells sought n ∙ le-ltb (first_below n sought) n h ∙ sym (le-ltb 0 0 (omega arith));
+  found_lowest None h = record {
+    tells = first_tells sought n ∙ le-ltb (first_below n sought) n (on_lt (first_below n sought) n (λ l. absurd (h l)) (λ l. l)) ∙ sym (le-ltb 0 0 (omega arith));
     passes = λ k e. absurd (omega arith);
+  }
+  found_lowest (Some slot) h = record {
+    tells = first_tells sought n ∙ lt-ltb (first_below n sought) n h.0 ∙ sym (lt-ltb 0 (slot + 1) (omega arith));
+    passes = λ k e. let s : k ≡ first_below n sought = let i = h.1 in omega arith in (let l = h.0 in omega arith, ap sought s ∙ first_passes sought n h.0);
   }
 
 -- a blank slot is "of equal page and version" with none

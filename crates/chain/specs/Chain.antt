@@ -47,12 +47,12 @@ pub record Chained (key : Key) (n : ℕ) (t : ℕ → Slot) (chains : List ℕ) 
   pub chain_entry : (a : ℕ) → a < max_chains → get_or chains a 0 ≡ end_below n (in_chain key t a)
   pub slot_entry : (k : ℕ) (r : Record) → k < n → t k ≡ Some r → get_or chains (max_chains + k) 0 ≡ end_below k (in_chain key t (chain_of key r))
 
--- the slots below n are chained so that those of page p's version v are in one chain, and that chain's last slot is `last`
-pub record ChainedTo (n : ℕ) (t : ℕ → Slot) (chains : List ℕ) (last p v : ℕ) : Type 0 where
+-- the slots below n are chained so that those of page p's version v are in one chain, and that chain's end is `end`
+pub record ChainedTo (n : ℕ) (t : ℕ → Slot) (chains : List ℕ) (end p v : ℕ) : Type 0 where
   pub key : Key
   pub versions_together : by_version key ≡ true
   pub chained : Chained key n t chains
-  pub last_is : last + 1 ≡ get_or chains (chain_of key (record { p = p; v = v; c = 0; np = 0; nv = 0 })) 0
+  pub end_is : end ≡ get_or chains (chain_of key (record { p = p; v = v; c = 0; np = 0; nv = 0 })) 0
 
 -- what a search over the slots below n gives: where a slot that passes ends, 0 where there is none
 pub record Found (n : ℕ) (q : ℕ → Bool) (end : ℕ) : Type 0 where

@@ -14,32 +14,33 @@ use sizes::Layout;
 // a search without chains on any table.
 const LONG: u32 = 32;
 
-// A slot below n of the page and version, by a look at all slots below n.
+// A slot below n of the page and version, by a look at all slots below n. Few searches come to it, so it stands apart from their loop.
+#[cold]
+#[inline(never)]
 fn scan_version(layout: Layout, n: u32, words: &[u32], page: u32, version: u32) -> Option<u32>
     requires n_in_bounds { stride_of layout * n ≤ length words.now }
     requires n_bound { n ≤ 1024 }
     ensures { Found n (λ j. holds (of_version page version) (slot_in layout words.now j)) (end_of result) }
 {
-    let lowest = table::lowest_slot(layout, n, words, page, version);
-    if lowest < n { Some(lowest) } else { None }
+    table::lowest_slot(layout, n, words, page, version)
 }
 
-// The same along the chain that records of the page and version are in, from its last slot down.
+// The same along the chain that records of the page and version are in, from its last slot down, where the chain has one.
 pub fn find_version(
     layout: Layout,
     n: u32,
     words: &[u32],
     chains: &[u16; 2048],
-    last: u32,
+    last: Option<u32>,
     page: u32,
     version: u32,
 ) -> Option<u32>
     requires n_in_bounds { stride_of layout * n ≤ length words.now }
     requires n_bound { n ≤ 1024 }
-    requires chained_to { ChainedTo n (slot_in layout words.now) chains.now last page version }
+    requires chained_to { ChainedTo n (slot_in layout words.now) chains.now (end_of last) page version }
     ensures { Found n (λ j. holds (of_version page version) (slot_in layout words.now j)) (end_of result) }
 {
-    let mut slot = last;
+    let mut slot = last?;
     for _ in 0..LONG {
         if table::holds_version(record::slot_in(layout, words, slot), page, version) {
             return Some(slot);
@@ -59,6 +60,6 @@ pub fn find_clash(layout: Layout, words: &[u32], chains: &[u16; 2048], k: u32) -
     let Some(record) = record::slot_in(layout, words, k) else {
         return None;
     };
-    let last = last_of(chains, Key::Version, record)?;
+    let last = last_of(chains, Key::Version, record);
     find_version(layout, k, words, chains, last, record.p, record.v)
 }

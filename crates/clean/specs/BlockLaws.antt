@@ -1,6 +1,6 @@
 -- A block's slots: their marks, and their blanking one by one.
-use Rattle.std.specs.Prelude.{ℕ, ◌+◌, ◌-◌, ◌≤◌, ◌<◌, ◌≡◌, true, length, get_or, replicate}
-use Rattle.std.proofs.Common.{rules, arith, ◌∙◌}
+use Rattle.std.specs.Prelude.{ℕ, ◌+◌, ◌-◌, ◌≤◌, ◌<◌, ◌≡◌, Bool, true, false, length, get_or, replicate}
+use Rattle.std.proofs.Common.{rules, ◌∙◌}
 use Rattle.std.proofs.Math.Path.{sym, ap, fun_ext}
 use mathlib.Core.List.{List, [], ◌∷◌, map-append}
 use Rattle.std.proofs.lemmas.List.{places}
@@ -18,39 +18,40 @@ use Rattle.sizes.proofs.BlocksLaws.{inside_block, before_block, behind_block}
 use Rattle.record.specs.Flash.{Flash, Step, apply, apply_all_in, apply_all}
 use Rattle.record.specs.FlashLaws.{apply_append}
 use Rattle.rules.specs.Erase.{erase_steps}
-use Rattle.judge.specs.Marked.{marked, mark_down, mark_up}
+use Rattle.judge.specs.Marked.{marked}
 
 -- ---- the marks
 
--- zeros with ones written over them from a to before b: what stands at j
+-- no mark, and marks written over them from a to before b: what stands at j
 module _ (a b n j : ℕ) (h : a ≤ b) (l : b ≤ n) where
-  abbrev filled : List ℕ
-  filled = put_mid a (b - a) (replicate n 0) (replicate (b - a) 1)
+  abbrev filled : List Bool
+  filled = put_mid a (b - a) (replicate n false) (replicate (b - a) true)
 
-  one_inside : a ≤ j → j < b → get_or filled j 0 ≡ 1
-  one_inside p q = search (rules, places)
+  marked_inside : a ≤ j → j < b → get_or filled j false ≡ true
+  marked_inside p q = search (rules, places)
 
-  zero_before : j < a → get_or filled j 0 ≡ 0
-  zero_before p = search (rules, places)
+  none_before : j < a → get_or filled j false ≡ false
+  none_before p = search (rules, places)
 
-  zero_behind : b ≤ j → get_or filled j 0 ≡ 0
-  zero_behind p = search (rules, places)
+  none_behind : b ≤ j → get_or filled j false ≡ false
+  none_behind p = search (rules, places)
 
 -- no mark, and those of the block's slots written over
 pub filled_marks :
-    (block : Block) (n : ℕ) {part : List ℕ}
+    (block : Block) (n : ℕ) {part : List Bool}
     → BlockIn n block
-    → part ≡ replicate (length {A = ℕ} (mid_of block.first (block.end - block.first) (replicate n 0))) 1
-    → marked (put_mid block.first (block.end - block.first) (replicate n 0) part) ≡ in_block block
+    → part ≡ replicate (length {A = Bool} (mid_of block.first (block.end - block.first) (replicate n false))) true
+    → marked (put_mid block.first (block.end - block.first) (replicate n false) part) ≡ in_block block
+unfolding marked
 filled_marks block n b f = let h = b.ordered in
     let l = b.inside in
-    let m : length {A = ℕ} (mid_of block.first (block.end - block.first) (replicate n 0)) ≡ block.end - block.first = search (rules, places) in
+    let m : length {A = Bool} (mid_of block.first (block.end - block.first) (replicate n false)) ≡ block.end - block.first = search (rules, places) in
     rw (f, m)
     (fun_ext (λ j. on_lt j block.first
-    (λ p. mark_down _ j (zero_before block.first block.end n j h l p) ∙ sym (before_block block j p))
+    (λ p. none_before block.first block.end n j h l p ∙ sym (before_block block j p))
     (λ p. on_lt j block.end
-    (λ q. mark_up _ j (λ z. let o = one_inside block.first block.end n j h l p q in omega arith) ∙ sym (inside_block block j p q))
-    (λ q. mark_down _ j (zero_behind block.first block.end n j h l q) ∙ sym (behind_block block j h q)))))
+    (λ q. marked_inside block.first block.end n j h l p q ∙ sym (inside_block block j p q))
+    (λ q. none_behind block.first block.end n j h l q ∙ sym (behind_block block j h q)))))
 
 -- ---- blanked one by one
 

@@ -3,7 +3,6 @@ use Rattle.std.specs.Prelude.{ℕ, ◌≡◌, List, Bool, true, false, not, ◌&
 use Rattle.std.proofs.Common.{ap, ap₂, ◌∙◌}
 use Rattle.bounded.specs.Below.{some_below}
 use Rattle.sizes.specs.declared.Block.{Block}
-use Rattle.sizes.specs.declared.Sizes.{Sizes}
 use Rattle.sizes.specs.Blocks.{in_block}
 use Rattle.sizes.specs.BlocksLaws.{BlockIn}
 use Rattle.record.specs.Slot.{Slot}
@@ -12,12 +11,14 @@ use Rattle.record.specs.Flash.{flash}
 use Rattle.state.specs.declared.PageState.{PageState}
 use Rattle.state.specs.State.{state_at}
 use Rattle.twins.specs.Twins.{twins}
-use Rattle.rules.specs.Permission.{Scene, scene, may_erase_from}
-use Rattle.rules.specs.Found.{exposed_slots, by_found}
+use Rattle.rules.specs.Permission.{Scene, scene, scene_of, may_erase_from}
+use Rattle.rules.specs.Found.{by_found}
 use Rattle.upkeep.specs.Clean.{is_copied}
 use Rattle.rules.proofs.laws.Found.{found_scene}
+use Rattle.permit.specs.Shown.{AllFound}
 use Rattle.judge.specs.Marked.{marked}
-use Rattle.judge.specs.Judgeable.{Judgeable}
+use Rattle.judge.specs.declared.Evidence.{Evidence}
+use Rattle.judge.specs.Evidence.{volume_of, shown}
 
 -- ---- one slot of the block
 
@@ -41,19 +42,17 @@ module _ (S : ℕ) (t : ℕ → Slot) (st : ℕ → PageState) (twin : ℕ → �
 
 -- ---- what choosing rests on
 
-module _ (sizes : Sizes) (words contents state : List ℕ) where
-  -- the slots are judged, by the exposed records and with the block's slots marked
-  pub record Chosen (chains found marks : List ℕ) (block : Block) : Type 0 where
-    pub judgeable : Judgeable sizes.pages sizes.slots sizes.width words contents state chains found
-    pub exposed : found ≡ exposed_slots sizes.slots (slot_at words) (state_at state)
-    pub block_marked : marked marks ≡ in_block block
-    pub block_in : BlockIn sizes.slots block
+-- the slots are judged by the exposed records and with the block's slots marked
+pub record Chosen (e : Evidence) (marks : List Bool) (block : Block) : Type 0 where
+  pub all_found : AllFound e.table
+  pub block_marked : marked marks ≡ in_block block
+  pub block_in : BlockIn e.table.sizes.slots block
 
-  -- which is the rule's permission, "the whole block being listed"
-  pub judged_so :
-      {chains found marks : List ℕ} {block : Block} → Chosen chains found marks block → (k : ℕ)
-      → may_erase_from (by_found (scene sizes.slots (slot_at words) (state_at state) (twins sizes.width (flash words contents))) found) (marked marks) k
-      ≡ may_erase_from (scene sizes.slots (slot_at words) (state_at state) (twins sizes.width (flash words contents))) (in_block block) k
-  judged_so {block = block} c k =
-      ap₂ (λ (l : List ℕ) (f : ℕ → Bool). may_erase_from (by_found (scene sizes.slots (slot_at words) (state_at state) (twins sizes.width (flash words contents))) l) f k) c.exposed c.block_marked
-      ∙ ap (λ (s : Scene). may_erase_from s (in_block block) k) (found_scene sizes.slots (slot_at words) (state_at state) (twins sizes.width (flash words contents)))
+-- which is the rule's permission, "the whole block being listed"
+pub judged_so :
+    {e : Evidence} {marks : List Bool} {block : Block} → Chosen e marks block → (k : ℕ)
+    → may_erase_from (shown e) (marked marks) k ≡ may_erase_from (scene_of e.table.sizes (volume_of e)) (in_block block) k
+judged_so {e} {block = block} c k =
+    ap₂ (λ (l : List ℕ) (f : ℕ → Bool). may_erase_from (by_found (scene_of e.table.sizes (volume_of e)) l) f k) c.all_found c.block_marked
+    ∙ ap (λ (s : Scene). may_erase_from s (in_block block) k)
+    (found_scene e.table.sizes.slots (slot_at e.table.words.now) (state_at e.table.state.now) (twins e.table.sizes.width (flash e.table.words.now e.contents.now)))

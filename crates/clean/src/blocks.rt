@@ -15,10 +15,10 @@ pub fn in_block(block: Block, slot: u32) -> bool
 }
 
 // The block's slots marked, and no other.
-pub fn mark_block(block: Block, marks: &mut [u8; 1024])
+pub fn mark_block(block: Block, marks: &mut [bool; 1024])
     requires { BlockIn 1024 block }
     ensures { marked marks.new ≡ in_block block }
 {
-    *marks = [0; 1024];
-    marks[block.first as usize..block.end as usize].fill(1);
+    *marks = [false; 1024];
+    marks[block.first as usize..block.end as usize].fill(true);
 }

@@ -1,75 +1,60 @@
 // The choice, made on the table before the first step: the slots whose records are copied, and the blank slots to copy to.
 
-ghost use Rattle.std.specs.Prelude.{◌≡◌, true, false, not, ◌&&◌, ◌+◌, ◌*◌, ◌≤◌, ◌<◌, length, take};
+ghost use Rattle.std.specs.Prelude.{◌≡◌, not, ◌&&◌, ◌+◌, ◌*◌, ◌≤◌, ◌<◌, length};
 ghost use Rattle.noted.specs.Noted.{noted};
 ghost use Rattle.sizes.specs.Blocks.{in_block};
 ghost use Rattle.record.specs.Slot.{slot_at, is_blank};
-ghost use Rattle.record.specs.Flash.{flash};
-ghost use Rattle.state.specs.State.{state_at};
-ghost use Rattle.twins.specs.Twins.{twins};
 ghost use Rattle.rules.specs.Permission.{scene_of};
 ghost use Rattle.rules.specs.Volume.{volume};
 ghost use Rattle.upkeep.specs.Clean.{is_copied, blank_outside, clean_from};
+ghost use Rattle.judge.specs.Evidence.{volume_of};
 ghost use Rattle.clean.specs.Choosing.{Chosen};
 ghost use Rattle.clean.specs.CleanLaws.{Cleanable};
 
 use super::blocks;
-use chain::Key;
-use judge::choose;
+use judge::{Evidence, choose};
 use noted::Slots;
-use sizes::{Block, Layout, Sizes};
+use permit::Table;
+use sizes::{Block, Sizes};
 
 // "Every record there that may not be erased, the whole block being listed, is copied once (of twins within the block only the lowest)": the one in slot
 // `slot` is.
-fn is_copied(
-    sizes: Sizes,
-    words: &[u32],
-    contents: &[u8],
-    state: &[u32],
-    chains: &[u16; 2048],
-    found: &[u16],
-    marks: &[u8; 1024],
-    block: Block,
-    slot: u32,
-) -> bool
-    requires chosen { Chosen sizes words.now contents.now state.now chains.now found.now marks.now block }
+fn is_copied(evidence: &Evidence, marks: &[bool; 1024], block: Block, slot: u32) -> bool
+    requires chosen { Chosen evidence.now marks.now block }
     requires block_first_le_slot { block.first ≤ slot }
     requires slot_lt_block_end { slot < block.end }
-    ensures { result ≡ is_copied (scene_of sizes (volume words.now contents.now state.now)) (in_block block) slot }
+    ensures { result ≡ is_copied (scene_of evidence.now.table.sizes (volume_of evidence.now)) (in_block block) slot }
 {
-    record::slot_at(words, slot).is_some()
-        && !judge::may_erase_from(sizes, words, contents, state, chains, found, marks, slot)
-        && !choose::has_lower_twin(sizes, words, contents, chains, block, slot)
+    let table = &evidence.table;
+    record::slot_at(table.words, slot).is_some()
+        && !evidence.may_erase_from(marks, slot)
+        && !choose::has_lower_twin(
+            table.sizes,
+            table.words,
+            evidence.contents,
+            table.chains,
+            block,
+            slot,
+        )
 }
 
+// Kept: a function of its own, for one that makes an `Evidence` and hands a closure that has it is not covered by the borrow checker yet.
 // The block's slots whose records are copied, rising.
-fn note_copied(
-    sizes: Sizes,
-    words: &[u32],
-    contents: &[u8],
-    state: &[u32],
-    chains: &[u16; 2048],
-    found: &[u16],
-    marks: &[u8; 1024],
-    block: Block,
-    copied: &mut Slots,
-)
-    requires { Chosen sizes words.now contents.now state.now chains.now found.now marks.now block }
-    ensures { noted copied.new ≡ clean_from sizes (volume words.now contents.now state.now) block }
+fn note_copied(evidence: &Evidence, marks: &[bool; 1024], block: Block, copied: &mut Slots)
+    requires { Chosen evidence.now marks.now block }
+    ensures { noted copied.new ≡ clean_from evidence.now.table.sizes (volume_of evidence.now) block }
 {
     copied.note_passing(block.first, block.end, |k| {
-        is_copied(
-            sizes, words, contents, state, chains, found, marks, block, k,
-        )
+        is_copied(evidence, marks, block, k)
     });
 }
 
 // The slots to copy, rising, judged on the table as it is.
-pub fn find_copied(
+pub fn find_copied<'a>(
     sizes: Sizes,
-    words: &[u32],
-    contents: &[u8],
-    state: &[u32],
+    words: &'a [u32],
+    contents: &'a [u8],
+    state: &'a [u32],
     block: Block,
     copied: &mut Slots,
 )
@@ -77,22 +62,12 @@ pub fn find_copied(
     ensures { noted copied.new ≡ clean_from sizes (volume words.now contents.now state.now) block }
 {
     let mut chains = [0u16; 2048];
-    chain::link_sound_slots(Layout::FiveWords, Key::Pointer, sizes, words, &mut chains);
     let mut found = Slots::new();
-    permit::find_exposed(sizes.slots, words, state, &mut found);
-    let mut marks = [0u8; 1024];
+    let table = Table::prepare(sizes, words, state, &mut chains, &mut found);
+    let evidence = Evidence { table, contents };
+    let mut marks = [false; 1024];
     blocks::mark_block(block, &mut marks);
-    note_copied(
-        sizes,
-        words,
-        contents,
-        state,
-        &chains,
-        found.as_slice(),
-        &marks,
-        block,
-        copied,
-    );
+    note_copied(&evidence, &marks, block, copied);
 }
 
 // The slot is blank, and not in the block.

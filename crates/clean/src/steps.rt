@@ -12,15 +12,11 @@ ghost use Rattle.clean.specs.Copying.{Copying};
 use record::{Record, Slot};
 use sizes::{Block, Layout, Sizes};
 
-// Kept: a match, which says what a blank slot gives; `unwrap_or` would say the same.
 // The record in a slot; the words of a blank one.
 fn record_in(slot: Slot) -> Record
     ensures { result ≡ record_in slot }
 {
-    match slot {
-        None => Record::BLANK,
-        Some(record) => record,
-    }
+    slot.unwrap_or(Record::BLANK)
 }
 
 // One copy: a slot's record "with contents", its bytes through a buffer of as many, stored in another slot.

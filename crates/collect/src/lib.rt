@@ -15,13 +15,14 @@ ghost use Rattle.rules.specs.Permission.{scene};
 ghost use Rattle.rules.specs.Volume.{volume};
 ghost use Rattle.rules.specs.Erase.{erase_steps};
 ghost use Rattle.rules.specs.laws.Families.{may_erase_all_in, erase_answer_in, erase_outcome_in};
-ghost use Rattle.rules.specs.laws.Chains.{SpansIn};
+ghost use Rattle.volume.specs.Held.{held, slots, pages, Passed};
 ghost use Rattle.rules.specs.Suggest.{suggest_outcome};
 ghost use Rattle.collect.specs.EraseLaws.{ListedIn, Converts};
 
 use outcome::Refusal;
 use record::Record;
 use sizes::{Layout, Sizes};
+use volume::Volume;
 
 // One slot becomes "blank with bytes 255".
 pub fn blank_slot(layout: Layout, width: u32, words: &mut [u32], contents: &mut [u8], slot: u32)
@@ -53,43 +54,36 @@ pub fn blank_listed<T: Copy + Into<u32>>(
 }
 
 // Each listed slot may be erased, as the records' layout has it.
-fn may_erase_all(
-    layout: Layout,
-    sizes: Sizes,
-    words: &[u32],
-    contents: &[u8],
-    state: &[u32],
-    list: &[u32],
-) -> bool
-    requires spans_in { SpansIn layout sizes.pages sizes.slots words.now state.now }
-    requires slots_in_bounds { sizes.width * sizes.slots ≤ length contents.now }
-    requires words_value { table_sound sizes.pages sizes.slots (slot_in layout words.now) ≡ true }
-    requires listed { Listed sizes.slots list.now }
-    ensures { result ≡ may_erase_all_in layout (scene sizes.slots (slot_in layout words.now) (state_at state.now) (twins sizes.width (flash words.now contents.now))) list.now }
+fn may_erase_all(volume: &Volume, list: &[u32]) -> bool
+    requires passed { Passed volume.now }
+    requires listed { Listed volume.now.sizes.slots list.now }
+    ensures { result
+        ≡ may_erase_all_in volume.now.layout (scene volume.now.sizes.slots (slots volume.now) (pages volume.now) (twins volume.now.sizes.width (held volume.now).flash)) list.now }
 {
-    match layout {
-        Layout::FiveWords => judge::may_erase_all(sizes, words, contents, state, list),
-        Layout::FourWords => permit::simple::may_erase_all(sizes, words, state, list),
+    match volume.layout {
+        Layout::FiveWords => judge::may_erase_all(
+            volume.sizes,
+            volume.words,
+            volume.contents,
+            volume.state,
+            list,
+        ),
+        Layout::FourWords => {
+            permit::simple::may_erase_all(volume.sizes, volume.words, volume.state, list)
+        }
     }
 }
 
 // An erase is refused by the first condition that holds.
-fn may_erase(
-    layout: Layout,
-    sizes: Sizes,
-    words: &[u32],
-    contents: &[u8],
-    state: &[u32],
-    list: &[u32],
-) -> Result<(), Refusal>
-    ensures { answer_of result ≡ erase_answer_in layout two_widths sizes (volume words.now contents.now state.now) list.now }
+fn may_erase(volume: &Volume, list: &[u32]) -> Result<(), Refusal>
+    ensures { answer_of result
+        ≡ erase_answer_in volume.now.layout two_widths volume.now.sizes (held volume.now) list.now }
 {
-    let fits = volume::volume_fits(layout, sizes, words, contents, state);
-    volume::judged(layout, fits, sizes, words, state)?;
-    if !sizes::list_ok(sizes.slots, list) {
+    volume.judged()?;
+    if !sizes::list_ok(volume.sizes.slots, list) {
         return Err(Refusal::WrongList);
     }
-    if !may_erase_all(layout, sizes, words, contents, state, list) {
+    if !may_erase_all(volume, list) {
         return Err(Refusal::MayNotErase);
     }
     Ok(())
@@ -107,7 +101,8 @@ pub fn erase(
     ensures { ends result (flash words.new contents.new)
         ≡ erase_outcome_in layout two_widths sizes (volume words.old contents.old state.now) list.now }
 {
-    may_erase(layout, sizes, words, contents, state, list)?;
+    let volume = Volume::new(layout, sizes, words, contents, state);
+    may_erase(&volume, list)?;
     blank_listed(layout, sizes.width, words, contents, list);
     Ok(())
 }
@@ -116,11 +111,10 @@ pub fn erase(
 pub fn suggest(sizes: Sizes, words: &[u32], contents: &[u8], state: &[u32]) -> Result<u32, Refusal>
     ensures { outcome_by no_number result tt ≡ suggest_outcome two_widths sizes (volume words.now contents.now state.now) }
 {
-    let fits = volume::volume_fits(Layout::FiveWords, sizes, words, contents, state);
-    volume::judged(Layout::FiveWords, fits, sizes, words, state)?;
-    let slot = judge::first_erasable(sizes, words, contents, state);
-    if slot >= sizes.slots {
+    let volume = Volume::new(Layout::FiveWords, sizes, words, contents, state);
+    volume.judged()?;
+    let Some(slot) = judge::first_erasable(sizes, words, contents, state) else {
         return Err(Refusal::NothingToErase);
-    }
+    };
     Ok(slot)
 }

@@ -1,6 +1,5 @@
 -- Laws of pages read: what a volume that is judged once gives for all of them, and a page by its committed slot and the bytes there.
-use Rattle.std.specs.Prelude.{ℕ, zero, suc, ◌+◌, ◌*◌, ◌-◌, ◌≤◌, ◌<◌, ◌≡◌, Bool, true, false, not, ◌&&◌, ltb, eqb, length, get_or, take, drop, replicate, Result, Ok, Err, is_err}
-use Rattle.std.proofs.Math.Nat.{add-sub_cancel_left}
+use Rattle.std.specs.Prelude.{ℕ, zero, suc, ◌+◌, ◌*◌, ◌≤◌, ◌<◌, ◌≡◌, Bool, true, false, not, ◌&&◌, ltb, eqb, length, get_or, take, replicate, Result, Ok, Err, is_err}
 use Rattle.std.specs.List.{list_all}
 use Rattle.std.proofs.Common.{arith, sym, ◌∙◌, add-one}
 use Rattle.std.proofs.Math.Path.{refl}
@@ -12,7 +11,6 @@ use borrow.Author.Tests.{lt-ltb, le-ltb, eq-eqb, ne_eqb}
 use Rattle.bounded.specs.Limits.{Widths}
 use Rattle.bounded.specs.Below.{all_below}
 use Rattle.bounded.specs.Choice.{never, and_true}
-use Rattle.bounded.specs.Parts.{part}
 use Rattle.bounded.specs.PartsLaws.{part_inside}
 use Rattle.outcome.specs.declared.Refusal.{Refusal}
 use Rattle.outcome.specs.Result.{number_positive, answer_of}
@@ -72,9 +70,6 @@ module _ (widths : Widths) (sizes : Sizes) (v : Volume) where
   abbrev shared : ℕ
   shared = judged (volume_fits widths sizes v) sizes.pages sizes.slots v.flash.words v.state
 
-  pub shared_is : {test : Bool} {n : ℕ} → test ≡ volume_fits widths sizes v → n ≡ judged test sizes.pages sizes.slots v.flash.words v.state → n ≡ shared
-  shared_is e said = rw e at said
-
   -- a volume that passes spans all slots and pages, and each slot's bytes are inside the contents
   module _ (passed : shared ≡ 0) where
     fitting : volume_fits widths sizes v ≡ true
@@ -133,12 +128,12 @@ module _ (widths : Widths) (sizes : Sizes) (v : Volume) where
       pub none_read : sizes.slots ≤ k → false ≡ is_kept
       none_read h = rw (kept_by_slot, le-ltb k sizes.slots h)
 
-      -- the slot's bytes, as they are lent
+      -- the slot's bytes
       abbrev bytes : List ℕ
-      bytes = take (sizes.width * k + sizes.width - sizes.width * k) (drop (sizes.width * k) v.flash.contents)
+      bytes = bytes_at sizes.width v.flash.contents k
 
       pub slot_read : k < sizes.slots → {b : Bool} → b ≡ list_all (λ x. eqb x (get_or fills page 0)) bytes → b ≡ is_kept
-      unfolding bytes_at part filled
+      unfolding filled
       slot_read h e =
           let l = bytes_whole sizes.width sizes.slots v.flash (sized passed) k h in
-          rw (kept_by_slot, lt-ltb k sizes.slots h) (rw (add-sub_cancel_left, l) at (e ∙ all_same (get_or fills page 0) bytes))
+          rw (kept_by_slot, lt-ltb k sizes.slots h) (rw l at (e ∙ all_same (get_or fills page 0) bytes))

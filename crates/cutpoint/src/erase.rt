@@ -29,31 +29,42 @@ pub fn blank_up_to(width: u32, words: &mut [u32], contents: &mut [u8], list: &[u
     }
 }
 
-// All cuts in an erase of these slots, each of a copy of the flash before it.
-pub fn cut_each_slot(
-    tally: Tally,
-    sizes: Sizes,
-    list: &[u32],
-    from_words: &[u32],
-    from_contents: &[u8],
-    words: &mut [u32],
-    contents: &mut [u8],
-    state: &mut [u32],
-    fills: &[u32],
-) -> Tally
-    requires width_bound { sizes.width ≤ 64 }
-    requires pages_in_bounds { sizes.pages ≤ length fills.now }
-    requires words_len { length words.old ≡ length from_words.now }
-    requires contents_len { length contents.old ≡ length from_contents.now }
-    requires listed_in { ListedIn FiveWords sizes.width from_words.now from_contents.now list.now }
-    requires list_bound { tally.same + tally.differ + length list.now ≤ 4294967295 }
-    ensures { result ≡ tallied tally (erase_cuts two_widths sizes (flash from_words.now from_contents.now) (lost state.old) (filled sizes.width fills.now) list.now) }
-{
-    let mut so_far = tally;
-    for &slot in list {
-        copy_flash(from_words, from_contents, words, contents);
-        blank_up_to(sizes.width, words, contents, list, slot);
-        so_far = so_far.count(super::comes_back(sizes, words, contents, state, fills));
+// What an erase is cut in: the flash before it, and each page's kept fill, which every cut is held against.
+#[derive(Clone, Copy)]
+pub struct Before<'a> {
+    pub sizes: Sizes,
+    pub words: &'a [u32],
+    pub contents: &'a [u8],
+    pub fills: &'a [u8],
+    pub ghost narrow: { sizes.width ≤ 64 },
+    pub ghost filled_all: { sizes.pages ≤ length fills.now },
+}
+
+impl Before<'_> {
+    // All cuts in an erase of these slots, each of a copy of the flash before it.
+    pub fn cut_each_slot(
+        &self,
+        tally: Tally,
+        list: &[u32],
+        words: &mut [u32],
+        contents: &mut [u8],
+        state: &mut [u32],
+    ) -> Tally
+        requires words_len { length words.old ≡ length self.now.words.now }
+        requires contents_len { length contents.old ≡ length self.now.contents.now }
+        requires listed_in { ListedIn FiveWords self.now.sizes.width self.now.words.now self.now.contents.now list.now }
+        requires list_bound { tally.same + tally.differ + length list.now ≤ 4294967295 }
+        ensures { result ≡ tallied tally
+            (erase_cuts two_widths self.now.sizes (flash self.now.words.now self.now.contents.now) (lost state.old) (filled self.now.sizes.width self.now.fills.now) list.now) }
+    {
+        let mut so_far = tally;
+        for &slot in list {
+            copy_flash(self.words, self.contents, words, contents);
+            blank_up_to(self.sizes.width, words, contents, list, slot);
+            so_far = so_far.count(super::comes_back(
+                self.sizes, words, contents, state, self.fills,
+            ));
+        }
+        so_far
     }
-    so_far
 }

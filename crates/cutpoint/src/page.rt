@@ -10,13 +10,15 @@ ghost use Rattle.atomicity.specs.Family.{back_pointer};
 ghost use Rattle.everywhere.specs.Cuts.{are_reads_kept};
 ghost use Rattle.ledger.specs.Ledger.{filled};
 
+use record::flash;
 use sizes::{Layout, Sizes};
+use volume::Volume;
 
 // Every byte is the fill.
-fn all_are(bytes: &[u8], fill: u32) -> bool
+fn all_are(bytes: &[u8], fill: u8) -> bool
     ensures { result ≡ list_all (λ b. b == fill) bytes.now }
 {
-    bytes.iter().all(|&byte| byte as u32 == fill)
+    bytes.iter().all(|&byte| byte == fill)
 }
 
 // Of a volume that is judged and passes: read of the page answers 0 and copies bytes that are all its fill. They are compared where they lie.
@@ -25,7 +27,7 @@ fn is_kept(
     words: &[u32],
     contents: &[u8],
     state: &[u32],
-    fills: &[u32],
+    fills: &[u8],
     page: u32,
 ) -> bool
     requires state_value { judged (volume_fits two_widths sizes (volume words.now contents.now state.now)) sizes.pages sizes.slots words.now state.now ≡ 0 }
@@ -33,23 +35,24 @@ fn is_kept(
     requires pages_in_bounds { sizes.pages ≤ length fills.now }
     ensures { result ≡ are_reads_kept back_pointer two_widths sizes (volume words.now contents.now state.now) (filled sizes.width fills.now) page }
 {
-    let slot = reader::committed_slot(Layout::FiveWords, sizes.slots, words, state, page);
-    if slot >= sizes.slots {
+    let Some(slot) = reader::committed_slot(Layout::FiveWords, sizes.slots, words, state, page)
+    else {
         return false;
-    }
-    let w = sizes.width as usize;
-    let at = w * (slot as usize);
-    all_are(&contents[at..at + w], fills[page as usize])
+    };
+    all_are(
+        flash::bytes_of(contents, sizes.width as usize, slot),
+        fills[page as usize],
+    )
 }
 
 // Read of every page answers 0 and copies bytes that are all its fill.
-pub fn all_kept(sizes: Sizes, words: &[u32], contents: &[u8], state: &[u32], fills: &[u32]) -> bool
+pub fn all_kept(sizes: Sizes, words: &[u32], contents: &[u8], state: &[u32], fills: &[u8]) -> bool
     requires le_pages { 1 ≤ sizes.pages }
     requires pages_in_bounds { sizes.pages ≤ length fills.now }
     ensures { result ≡ all_below sizes.pages (are_reads_kept back_pointer two_widths sizes (volume words.now contents.now state.now) (filled sizes.width fills.now)) }
 {
-    let fits = volume::volume_fits(Layout::FiveWords, sizes, words, contents, state);
-    if volume::judged(Layout::FiveWords, fits, sizes, words, state).is_err() {
+    let volume = Volume::new(Layout::FiveWords, sizes, words, contents, state);
+    if volume.judged().is_err() {
         return false;
     }
     for page in 0..sizes.pages {

@@ -1,5 +1,5 @@
 -- The program's buffers, formatted: their fronts hold the volume that a script begins with.
-use Rattle.std.specs.Prelude.{ℕ, ◌*◌, ◌-◌, ◌≤◌, ◌≡◌, refl, List, true, length, replicate, take, drop, Result, Ok, Err}
+use Rattle.std.specs.Prelude.{ℕ, ◌*◌, ◌-◌, ◌≤◌, ◌≡◌, refl, List, true, length, replicate, take, drop, None, Result, Ok, Err}
 use Rattle.std.proofs.Common.{arith, sym, ◌∙◌, subst}
 use Rattle.std.proofs.Math.Path.{ap}
 use borrow.Rule.Slice.PartMut.{put_mid}
@@ -13,6 +13,8 @@ use Rattle.sizes.specs.Sizes.{sizes_ok}
 use Rattle.sizes.proofs.SizesLaws.{sizes_facts}
 use Rattle.rules.specs.Volume.{Volume, volume}
 use Rattle.rules.specs.Format.{formatted, format_outcome}
+use Rattle.ledger.specs.Fills.{fills_of}
+use Rattle.ledger.specs.FillsLaws.{fills_none}
 use Rattle.cutpoint.specs.JudgedLaws.{lent, front_again}
 use Rattle.recorded.specs.Buffers.{contents_room}
 use Rattle.recorded.specs.Desk.{Desk, desk, Ready}
@@ -55,7 +57,7 @@ module _ (z : Sizes) (ok : sizes_ok two_widths z ≡ true) where
         (take (5 * z.slots - 0) (drop 0 (put_mid 0 (5 * z.slots - 0) (replicate 5120 0) words)))
         (take (z.width * z.slots - 0) (drop 0 (put_mid 0 (z.width * z.slots - 0) (replicate 65536 0) contents)))
         (take (4 * z.pages - 0) (drop 0 (put_mid 0 (4 * z.pages - 0) (replicate 1024 0) state))))
-        (replicate 256 no_number) (replicate 256 0)
+        (fills_of (replicate 256 None)) (replicate 256 0)
         ≡ formatted_desk z
     unfolding formatted_desk
     begins =
@@ -63,7 +65,7 @@ module _ (z : Sizes) (ok : sizes_ok two_widths z ≡ true) where
         let b = front_again (z.width * z.slots) 65536 bytes_room contents contents_kept in
         let s = front_again (4 * z.pages) 1024 state_room state state_kept in
         let v : volume words contents state ≡ formatted z = sym (ends_left r (volume words contents state)) ∙ ap (λ (o : Outcome Volume). o.left) (says ∙ ap (format_outcome two_widths z) fronts ∙ zeroed_formats two_widths z ok) in
-        rw (w, b, s) (ap (λ (u : Volume). desk u (replicate 256 no_number) (replicate 256 0)) v)
+        rw (w, b, s, fills_none 256) (ap (λ (u : Volume). desk u (replicate 256 no_number) (replicate 256 0)) v)
 
   pub begun_ready : (d : Desk) → d ≡ formatted_desk z → Ready two_widths z d
   begun_ready d e = subst (Ready two_widths z) (sym e) (fresh_follows two_widths z ok).ready

@@ -27,7 +27,7 @@ use Rattle.everywhere.proofs.Laws.{differs_append, sames_append, same_or_not}
 use Rattle.cutpoint.specs.declared.Tally.{Tally}
 use Rattle.cutpoint.specs.Judged.{tallied, erase_cuts}
 use Rattle.ledger.specs.Ledger.{filled}
-use Rattle.recorded.specs.Desk.{Desk, Ready, write_desk, desk_back, write_cuts, cuts_of_erase, desk_after, desk_cuts}
+use Rattle.recorded.specs.Desk.{Desk, write_desk, desk_back, write_cuts, cuts_of_erase, desk_after, desk_cuts}
 use Rattle.recorded.specs.StepLaws.{none_counted}
 use Rattle.text.specs.Lines.{lines_of}
 use Rattle.cuts.specs.Lines.{line_length, lines_next}
@@ -105,28 +105,6 @@ unfolding AtMost
 at_most n r t f k = subst (AtMost n) k f
 
 -- ---- the lines from a place on
-
--- the buffers have the same lengths
-pub record SameLengths (d e : Desk) : Type 0 where
-  pub words : length d.volume.flash.words ≡ length e.volume.flash.words
-  pub contents : length d.volume.flash.contents ≡ length e.volume.flash.contents
-  pub state : length d.volume.state ≡ length e.volume.state
-  pub entered : length d.entered ≡ length e.entered
-  pub kept : length d.kept ≡ length e.kept
-
-pub still_ready : (sizes : Sizes) (d e : Desk) → Ready two_widths sizes e → SameLengths d e → Ready two_widths sizes d
-still_ready sizes d e r same =
-    let f = r.fits in
-    record {
-      fits = record {
-        bounds = f.bounds;
-        allowed = f.allowed;
-        flash_sized = record { words_sized = same.words ∙ f.flash_sized.words_sized; contents_sized = same.contents ∙ f.flash_sized.contents_sized };
-        state_sized = same.state ∙ f.state_sized;
-      };
-      entered_room = rw same.entered r.entered_room;
-      kept_room = rw same.kept r.kept_room;
-    }
 
 module _ (sizes : Sizes) (trial : Bool) (text : List ℕ) where
   -- what the lines from a place on come to, where n lines are before them and this tally is counted

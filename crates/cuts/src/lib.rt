@@ -21,7 +21,8 @@ ghost use Rattle.cuts.specs.Cases.{TextsComputed};
 
 use cutpoint::Tally;
 use line::Line;
-use sizes::{Layout, NO_NUMBER, Sizes};
+use recorded::Desk;
+use sizes::{Layout, Sizes};
 use text::print::Printout;
 
 // The lines from `from` on, carried out on a volume that is formatted.
@@ -38,8 +39,8 @@ fn counted(trial: bool, sizes: Sizes, text: &[u8], from: usize) -> Option<Tally>
     let mut words = [0u32; 5120];
     let mut contents = [0u8; 65536];
     let mut state = [0u32; 1024];
-    let mut entered = [NO_NUMBER; 256];
-    let mut kept = [0u32; 256];
+    let mut entered = [None; 256];
+    let mut kept = [0u8; 256];
     // It answers 0: the sizes are right, and so are the buffers.
     let _ = volume::format(
         Layout::FiveWords,
@@ -48,17 +49,16 @@ fn counted(trial: bool, sizes: Sizes, text: &[u8], from: usize) -> Option<Tally>
         &mut contents[0..b],
         &mut state[0..s],
     );
-    run::run(
+    let mut desk = Desk {
         trial,
         sizes,
-        text,
-        from,
-        &mut words[0..w],
-        &mut contents[0..b],
-        &mut state[0..s],
-        &mut entered,
-        &mut kept,
-    )
+        words: &mut words[0..w],
+        contents: &mut contents[0..b],
+        state: &mut state[0..s],
+        entered: &mut entered,
+        kept: &mut kept,
+    };
+    run::run(&mut desk, text, from)
 }
 
 // "and only answer=line is printed"

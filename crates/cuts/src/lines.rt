@@ -26,8 +26,5 @@ pub fn next_line(text: &[u8], end: usize) -> usize
     requires { end ≤ length text.now }
     ensures { result ≡ min (end + 1) (length text.now) }
 {
-    if end < text.len() {
-        return end + 1;
-    }
-    end
+    text.len().min(end + 1)
 }

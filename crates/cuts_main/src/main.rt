@@ -18,35 +18,25 @@ fn run<R: Read, W: Write>(trial: bool, from: &mut R, to: &mut W) {
     let _ = to.write_all(&out[..end]);
 }
 
-fn refuse<W: Write>(errors: &mut W) {
-    let _ = errors.write_all(b"usage: cuts_main [trial] < SCRIPT\n");
-}
-
-// What the arguments ask for.
-fn answer<E: Env, R: Read, W: Write, X: Write>(env: &E, from: &mut R, to: &mut W, errors: &mut X) {
+// Whether the arguments ask for the trial; none where they are others.
+fn trial_of<E: Env>(env: &E) -> Option<bool> {
     if !program::has_argument(env, 1) {
-        run(false, from, to);
-        return;
+        return Some(false);
     }
     let mut word = [0u8; 8];
-    let Ok(n) = env.arg(1, &mut word) else {
-        refuse(errors);
-        return;
-    };
-    if program::has_argument(env, 2) {
-        refuse(errors);
-        return;
-    }
-    if &word[..n] != b"trial".as_slice() {
-        refuse(errors);
-        return;
-    }
-    run(true, from, to);
+    let n = env.arg(1, &mut word).ok()?;
+    let alone = !program::has_argument(env, 2);
+    (alone && &word[..n] == b"trial".as_slice()).then_some(true)
 }
 
 fn main(rt: HostRuntime) -> ExitCode {
     let mut to = Output::new(rt.stdout());
     let mut errors = Output::new(rt.stderr());
-    answer(&rt, &mut rt.stdin(), &mut to, &mut errors);
+    match trial_of(&rt) {
+        Some(trial) => run(trial, &mut rt.stdin(), &mut to),
+        None => {
+            let _ = errors.write_all(b"usage: cuts_main [trial] < SCRIPT\n");
+        }
+    }
     program::status(to.unread || errors.unread)
 }

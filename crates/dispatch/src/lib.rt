@@ -20,6 +20,8 @@ pub fn lose(state: &mut [u32])
     state.fill(sizes::NO_NUMBER);
 }
 
+// Kept, here and in `call`: the three buffers one by one, as each call below takes them and as a recorded run holds them.
+
 // A write whose bytes are all `fill`, as many as the width says. A width above the largest has fewer, and the write refuses it whatever they are.
 fn write_filled(
     sizes: Sizes,

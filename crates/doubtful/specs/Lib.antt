@@ -6,3 +6,4 @@ pub mod Versions
 pub mod VersionsLaws
 pub mod Ends
 pub mod Recoveries
+pub mod Held

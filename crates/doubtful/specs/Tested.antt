@@ -6,6 +6,7 @@ use Rattle.std.proofs.Math.Seq.{take-length}
 use Rattle.std.proofs.lemmas.List.Folds.{list_all_more}
 use Rattle.std.proofs.Math.Path.{refl}
 use Rattle.std.proofs.Math.Bool.{true, false, not}
+use mathlib.Core.Bool.{and_assoc}
 use borrow.Author.Tests.{le-leb, ltb-false, eq-eqb, ne_eqb}
 use Rattle.bounded.specs.Limits.{Widths}
 use Rattle.bounded.specs.Below.{all_below}
@@ -36,11 +37,7 @@ module _ (S : ℕ) (words list : List ℕ) where
   -- of any other list the two other rules do,
   list_split : ¬ (length list ≡ 0) → doubtful_list_ok S words list ≡ (list_ok S list && all_below (length list) (held_at words list))
   unfolding doubtful_list_ok list_ok held_at
-  list_split d = rw (list_ok, le-leb 1 (length list) (omega arith)) (by (in_range S list) (no_repeats list) (all_below (length list) (held_at words list)))
-    where
-      by : (a b c : Bool) → (a && (b && c)) ≡ ((a && b) && c)
-      by true b c = refl
-      by false b c = refl
+  list_split d = rw (list_ok, le-leb 1 (length list) (omega arith)) (sym (and_assoc (in_range S list) (no_repeats list) (all_below (length list) (held_at words list))))
 
   pub list_fails : ¬ (length list ≡ 0) → list_ok S list ≡ false → false ≡ doubtful_list_ok S words list
   list_fails some e = sym (list_split some ∙ rw e)

@@ -26,29 +26,17 @@ fn blank_slot(filled: &mut [u32], slot: u32)
     record::flash::store_five(&mut filled[a..a + 5], Record::BLANK);
 }
 
-// All words of one slice, into another of the same length.
-// Kept: a loop, for `copy_from_slice` calls memmove, and the archive needs memcpy and memset alone.
-fn copy_words(from: &[u32], to: &mut [u32])
-    requires { length to.old ≡ length from.now }
-    ensures { to.new ≡ from.now }
-{
-    for i in 0..from.len() {
-        to[i] = from[i];
-    }
-}
-
 // Filling m: the words with the slots blank whose digits in m, in base 2, are 1.
 pub fn fill(words: &[u32], list: &[u32], m: u32, filled: &mut [u32])
     requires filled_len { length filled.old ≡ length words.now }
     requires by_index { (i : ℕ) → i < length list.now → 5 * get_or list.now i 0 + 5 ≤ length words.now }
+    requires few { length list.now ≤ 8 }
     ensures { filled.new ≡ blanked_words words.now (absent_in list.now m) }
 {
-    copy_words(words, filled);
-    let mut digits = m;
-    for &slot in list {
-        if digits % 2 != 0 {
+    record::flash::copy_contents(&mut *filled, words);
+    for (i, &slot) in list.iter().enumerate() {
+        if (m >> i) % 2 != 0 {
             blank_slot(filled, slot);
         }
-        digits /= 2;
     }
 }

@@ -18,60 +18,62 @@ ghost use Rattle.doubtful.specs.Versions.{filling_noted};
 use outcome::Refusal;
 use sizes::Sizes;
 
-// Filling m is recovered, and its versions noted where that succeeds; says whether it does. `filled` and `state` are for this filling.
-fn recover_filling(
+// A flash some of whose slots are in doubt: what every filling is made of.
+#[derive(Clone, Copy)]
+struct Doubted<'a> {
     sizes: Sizes,
-    words: &[u32],
-    contents: &[u8],
-    list: &[u32],
-    m: u32,
-    first: bool,
-    filled: &mut [u32],
-    state: &mut [u32],
-    out: &mut [u32],
-) -> bool
-    requires fillable { Fillable sizes words.now contents.now list.now }
-    requires filled_len { length filled.old ≡ length words.now }
-    requires state_len { length state.old ≡ 4 * sizes.pages }
-    requires out_len { length out.old ≡ 2 * sizes.pages }
-    ensures value { result ≡ recovers two_widths sizes (flash words.now contents.now) list.now m }
-    ensures out_after { out.new ≡ filling_noted two_widths sizes (flash words.now contents.now) list.now m first out.old }
-{
-    filling::fill(words, list, m, filled);
-    if recovery::recover(sizes, filled, contents, state).is_err() {
-        return false;
-    }
-    versions::note(sizes.pages, first, state, out);
-    true
+    words: &'a [u32],
+    contents: &'a [u8],
+    list: &'a [u32],
+    ghost fillable: { Fillable sizes words.now contents.now list.now },
 }
 
-// The fillings whose recovery succeeds: how many there are, and, where there is one, each page's lowest and highest version. `filled` and `state` are for each filling in turn.
-fn recover_fillings(
-    sizes: Sizes,
-    words: &[u32],
-    contents: &[u8],
-    list: &[u32],
-    filled: &mut [u32],
-    state: &mut [u32],
-    out: &mut [u32],
-) -> u32
-    requires fillable { Fillable sizes words.now contents.now list.now }
-    requires filled_len { length filled.old ≡ length words.now }
-    requires state_len { length state.old ≡ 4 * sizes.pages }
-    requires out_len { length out.old ≡ 2 * sizes.pages }
-    ensures value { result ≡ recovering two_widths sizes (flash words.now contents.now) list.now }
-    ensures out_unchanged { result ≡ 0 → out.new ≡ out.old }
-    ensures out_after { ¬ (result ≡ 0) → out.new ≡ doubtful_words two_widths sizes (flash words.now contents.now) list.now }
-{
-    let total = filling::count_fillings(list);
-    let mut count = 0;
-    for m in 0..total {
-        let first = count == 0;
-        if recover_filling(sizes, words, contents, list, m, first, filled, state, out) {
-            count += 1;
+// Kept: `filled`, `state` and `out` are parameters, for tools/shape reads no struct that holds what can be altered.
+impl Doubted<'_> {
+    ghost use Rattle.doubtful.specs.Held.{held};
+
+    // Filling m is recovered, and its versions noted where that succeeds; says whether it does. `filled` and `state` are for this filling.
+    fn recover_filling(
+        &self,
+        m: u32,
+        first: bool,
+        filled: &mut [u32],
+        state: &mut [u32],
+        out: &mut [u32],
+    ) -> bool
+        requires filled_len { length filled.old ≡ length self.now.words.now }
+        requires state_len { length state.old ≡ 4 * self.now.sizes.pages }
+        requires out_len { length out.old ≡ 2 * self.now.sizes.pages }
+        ensures value { result ≡ recovers two_widths self.now.sizes (held self.now) self.now.list.now m }
+        ensures out_after { out.new ≡ filling_noted two_widths self.now.sizes (held self.now) self.now.list.now m first out.old }
+    {
+        filling::fill(self.words, self.list, m, filled);
+        if recovery::recover(self.sizes, filled, self.contents, state).is_err() {
+            return false;
         }
+        versions::note(self.sizes.pages, first, state, out);
+        true
     }
-    count
+
+    // The fillings whose recovery succeeds: how many there are, and, where there is one, each page's lowest and highest version. `filled` and `state` are for each filling in turn.
+    fn recover_fillings(&self, filled: &mut [u32], state: &mut [u32], out: &mut [u32]) -> u32
+        requires filled_len { length filled.old ≡ length self.now.words.now }
+        requires state_len { length state.old ≡ 4 * self.now.sizes.pages }
+        requires out_len { length out.old ≡ 2 * self.now.sizes.pages }
+        ensures value { result ≡ recovering two_widths self.now.sizes (held self.now) self.now.list.now }
+        ensures out_unchanged { result ≡ 0 → out.new ≡ out.old }
+        ensures out_after { ¬ (result ≡ 0) → out.new ≡ doubtful_words two_widths self.now.sizes (held self.now) self.now.list.now }
+    {
+        let total = filling::count_fillings(self.list);
+        let mut count = 0;
+        for m in 0..total {
+            let first = count == 0;
+            if self.recover_filling(m, first, filled, state, out) {
+                count += 1;
+            }
+        }
+        count
+    }
 }
 
 // The versions that each page may have, some slots being in doubt.
@@ -85,13 +87,15 @@ pub fn doubtful(
     ensures { outcome_by 0 result out.new ≡ doubtful_outcome two_widths sizes (flash words.now contents.now) list.now out.old }
 {
     tests::judged(sizes, words, contents, list, out)?;
-    let mut filled = [0u32; 5120];
-    let mut state = [0u32; 1024];
-    let count = recover_fillings(
+    let flash = Doubted {
         sizes,
         words,
         contents,
         list,
+    };
+    let mut filled = [0u32; 5120];
+    let mut state = [0u32; 1024];
+    let count = flash.recover_fillings(
         &mut filled[..words.len()],
         &mut state[..4 * (sizes.pages as usize)],
         out,

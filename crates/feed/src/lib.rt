@@ -1,44 +1,82 @@
 // The bytes of a script one by one: a line is held in a buffer until it ends.
 #![tactic(auto)]
 
-ghost use Rattle.std.specs.Prelude.{◌≡◌, length};
+ghost use Rattle.std.specs.Prelude.{◌≡◌, [], length};
 ghost use Rattle.bounded.specs.Limits.{two_widths};
-ghost use Rattle.text.specs.Print.{shown, added};
-ghost use Rattle.report.specs.Report.{standing};
-ghost use Rattle.script.specs.Held.{memory_of};
+ghost use Rattle.text.specs.Print.{shown};
+ghost use Rattle.text.specs.Puts.{Puts};
+ghost use Rattle.report.specs.Report.{standing, start_run};
+ghost use Rattle.script.specs.Held.{memory_of, SameBuffers};
 ghost use Rattle.feed.specs.Feed.{carried, fed};
+ghost use Rattle.feed.specs.Stands.{stands_of, held_of, SameHeld};
 
 use report::Run;
 use script::Memory;
+use text::print::Printout;
+
+// A script that is carried out: where its run stands, the line that has not ended, the memory of its volumes, and what is printed.
+#[derive(Drop)]
+pub struct Script<'a> {
+    pub run: Run,
+    pub line: Printout<'a>,
+    pub memory: Memory<'a>,
+    pub out: Printout<'a>,
+}
+
+impl<'a> Script<'a> {
+    // A script before its first byte: nothing is held of a line, and nothing printed.
+    pub fn new(line: &'a mut [u8], memory: Memory<'a>, out: &'a mut [u8]) -> Script<'a>
+        ensures stands { stands_of result ≡ standing start_run (memory_of memory.entry) }
+        ensures holds { held_of result ≡ [] }
+        ensures room { length result.line.out.now ≡ length line.old }
+        ensures prints { shown result.out.out.now result.out.at ≡ [] }
+        ensures out_room { length result.out.out.now ≡ length out.old }
+        ensures same_memory { SameBuffers memory.entry result.memory }
+        ensures same_line { result.line.out.ghost_name ≡ line.entry.ghost_name }
+        ensures same_out { result.out.out.ghost_name ≡ out.entry.ghost_name }
+    {
+        let run = Run::start();
+        let line = Printout::new(line, 0);
+        let out = Printout::new(out, 0);
+        Script {
+            run,
+            line,
+            memory,
+            out,
+        }
+    }
+}
 
 // The line that is held, carried out.
-pub fn end_line(run: Run, buffer: &[u8], memory: &mut Memory, out: &mut [u8]) -> Run
-    ensures stands { standing result (memory_of memory.new)
-        ≡ (carried two_widths (standing run (memory_of memory.old)) (shown buffer.now run.held)).leaves }
-    ensures prints { shown out.new result.at ≡ added out.old run.at
-        (carried two_widths (standing run (memory_of memory.old)) (shown buffer.now run.held)).prints }
-    ensures holds { result.held ≡ 0 }
+pub fn end_line(script: &mut Script)
+    ensures stands { stands_of script.new ≡ (carried two_widths (stands_of script.old) (held_of script.old)).leaves }
+    ensures prints { Puts script.old.out script.new.out (carried two_widths (stands_of script.old) (held_of script.old)).prints }
+    ensures holds { held_of script.new ≡ [] }
+    ensures bytes { script.new.line.out.now ≡ script.old.line.out.now }
+    ensures same_buffers { SameHeld script.old script.new }
 {
-    let n = run.held.min(buffer.len());
     let mut list = [0u32; 64];
-    let line = line::line_of(&buffer[0..n], &mut list);
-    script::step(run.holding(0), line, &list, memory, out)
+    let line = line::line_of(script.line.text(), &mut list);
+    script.line.at = 0;
+    script.run = script::step(script.run, line, &list, &mut script.memory, &mut script.out);
 }
 
 // The next byte of a script, which does nothing once the run is over.
-pub fn feed(run: Run, byte: u8, buffer: &mut [u8], memory: &mut Memory, out: &mut [u8]) -> Run
-    ensures stands { standing result (memory_of memory.new)
-        ≡ (fed two_widths (length buffer.old) (standing run (memory_of memory.old)) (shown buffer.old run.held) byte).turned.leaves }
-    ensures prints { shown out.new result.at ≡ added out.old run.at
-        (fed two_widths (length buffer.old) (standing run (memory_of memory.old)) (shown buffer.old run.held) byte).turned.prints }
-    ensures holds { shown buffer.new result.held
-        ≡ (fed two_widths (length buffer.old) (standing run (memory_of memory.old)) (shown buffer.old run.held) byte).held }
+pub fn feed(script: &mut Script, byte: u8)
+    ensures stands { stands_of script.new
+        ≡ (fed two_widths (length script.old.line.out.now) (stands_of script.old) (held_of script.old) byte).turned.leaves }
+    ensures prints { Puts script.old.out script.new.out
+        (fed two_widths (length script.old.line.out.now) (stands_of script.old) (held_of script.old) byte).turned.prints }
+    ensures holds { held_of script.new
+        ≡ (fed two_widths (length script.old.line.out.now) (stands_of script.old) (held_of script.old) byte).held }
+    ensures room { length script.new.line.out.now ≡ length script.old.line.out.now }
+    ensures same_buffers { SameHeld script.old script.new }
 {
-    if run.over {
-        return run;
+    if script.run.over {
+        return;
     }
-    if byte != 10 {
-        return run.holding(text::print::put(buffer, run.held, byte));
+    if byte == b'\n' {
+        return end_line(script);
     }
-    end_line(run, buffer, memory, out)
+    script.line.put(byte);
 }

@@ -12,13 +12,14 @@ ghost use Rattle.state.specs.State.{state_at};
 ghost use Rattle.chain.specs.Chain.{Linkable};
 ghost use Rattle.fleet.specs.Entry.{comes_to};
 ghost use Rattle.fleet.specs.Figures.{set_pages, figures_of, entry_of};
-ghost use Rattle.figures.specs.Counting.{obsolete_below, Countable};
+ghost use Rattle.permit.specs.Shown.{AllFound};
+ghost use Rattle.figures.specs.Counting.{obsolete_below};
 
-use chain::Key;
 use fleet::Figures;
 use noted::Slots;
 use outcome::Refusal;
-use sizes::{Layout, Sizes};
+use permit::Table;
+use sizes::Sizes;
 
 // How many records are obsolete, and how many of these are needed straddlers.
 #[derive(Clone, Copy)]
@@ -42,28 +43,20 @@ fn set_pages(pages: u32, state: &[u32]) -> u32
 }
 
 // Slot k, where it holds an obsolete record, counted with those before it: such a record is a needed straddler exactly where document 01, which knows no twins, does not let it go.
-fn count_slot(
-    slots: u32,
-    words: &[u32],
-    state: &[u32],
-    chains: &[u16; 2048],
-    found: &[u16],
-    k: u32,
-    before: Obsolete,
-) -> Obsolete
-    requires countable { Countable slots words.now state.now chains.now found.now }
-    requires k_lt_slots { k < slots }
-    requires before_value { before ≡ obsolete_below slots (slot_at words.now) (state_at state.now) k }
-    ensures { result ≡ obsolete_below slots (slot_at words.now) (state_at state.now) (k + 1) }
+fn count_slot(table: &Table, k: u32, before: Obsolete) -> Obsolete
+    requires all_found { AllFound table.now }
+    requires k_lt_slots { k < table.now.sizes.slots }
+    requires before_value { before ≡ obsolete_below table.now.sizes.slots (slot_at table.now.words.now) (state_at table.now.state.now) k }
+    ensures { result ≡ obsolete_below table.now.sizes.slots (slot_at table.now.words.now) (state_at table.now.state.now) (k + 1) }
 {
-    let Some(record) = record::slot_at(words, k) else {
+    let Some(record) = record::slot_at(table.words, k) else {
         return before;
     };
-    if !permit::is_obsolete(state, record) {
+    if !permit::is_obsolete(table.state, record) {
         return before;
     }
     let all = before.all + 1;
-    if permit::may_erase(slots, words, state, chains, found, k) {
+    if table.may_erase(k) {
         Obsolete { all, ..before }
     } else {
         Obsolete {
@@ -74,40 +67,32 @@ fn count_slot(
 }
 
 // How many records are obsolete, and how many of these are needed straddlers, in one pass over the slots.
-fn obsolete_records(
-    slots: u32,
-    words: &[u32],
-    state: &[u32],
-    chains: &[u16; 2048],
-    found: &[u16],
-) -> Obsolete
-    requires { Countable slots words.now state.now chains.now found.now }
-    ensures { result ≡ obsolete_below slots (slot_at words.now) (state_at state.now) slots }
+fn obsolete_records(table: &Table) -> Obsolete
+    requires { AllFound table.now }
+    ensures { result ≡ obsolete_below table.now.sizes.slots (slot_at table.now.words.now) (state_at table.now.state.now) table.now.sizes.slots }
 {
     let mut count = Obsolete { all: 0, needed: 0 };
-    for k in 0..slots {
-        count = count_slot(slots, words, state, chains, found, k, count);
+    for k in 0..table.sizes.slots {
+        count = count_slot(table, k, count);
     }
     count
 }
 
 // What is counted of a volume with a sound table. The exposed records are found once, and every slot is judged by them.
-fn figures_of(sizes: Sizes, words: &[u32], state: &[u32]) -> Figures
+fn figures_of<'a>(sizes: Sizes, words: &'a [u32], state: &'a [u32]) -> Figures
     requires linkable { Linkable sizes.pages sizes.slots words.now }
     requires pages_in_bounds { 4 * sizes.pages ≤ length state.now }
     ensures { result ≡ figures_of sizes.pages sizes.slots (slot_at words.now) (state_at state.now) }
 {
     let pages = set_pages(sizes.pages, state);
     let mut chains = [0u16; 2048];
-    chain::link_sound_slots(Layout::FiveWords, Key::Pointer, sizes, words, &mut chains);
     let mut found = Slots::new();
-    permit::find_exposed(sizes.slots, words, state, &mut found);
-    let exposed = found.as_slice().len() as u32;
-    let obsolete = obsolete_records(sizes.slots, words, state, &chains, found.as_slice());
+    let table = Table::prepare(sizes, words, state, &mut chains, &mut found);
+    let obsolete = obsolete_records(&table);
     Figures {
         pages,
         obsolete: obsolete.all,
-        exposed,
+        exposed: table.found.len() as u32,
         needed: obsolete.needed,
     }
 }

@@ -2,7 +2,9 @@
 use Rattle.std.specs.Prelude.{ℕ, zero, suc, ◌+◌, ◌-◌, ◌/◌, ◌%◌, ◌^◌, ◌≤◌, ◌<◌, ◌≡◌, refl, List, [], ◌∷◌, ◌++◌, Bool, true, false, ◌&&◌, ◌||◌, ltb, eqb, length, get_or, drop, replicate}
 use Rattle.std.proofs.Common.{arith, pow-suc, sym, ap, ◌∙◌, append-nil, append_assoc, length-append, take_all, take_at, drop_at, drop-drop, le-leb, le-ltb, ne_eqb, leb-true}
 use Rattle.std.proofs.Math.Option.{some}
+use Rattle.std.specs.List.{list_all}
 use Rattle.std.proofs.lemmas.List.{length-replicate}
+use Rattle.std.proofs.lemmas.List.Folds.{list_all-append}
 use Rattle.bounded.specs.Choice.{on_lt, and_false, both, both_left, both_right, either_right}
 use Rattle.text.specs.Scan.{max_number, scanned, is_digit, number}
 use Rattle.text.specs.Print.{decimal_in, decimal}
@@ -13,30 +15,24 @@ use Rattle.fleet.specs.Shown.{Cell, Empty, Number, past_blanks, ends_with, numbe
 -- ---- digits
 
 -- each byte is a digit
-unfoldable all_digits : List ℕ → Bool
-all_digits [] = true
-all_digits (b ∷ s) = is_digit b && all_digits s
-
-digits_append : (s t : List ℕ) → all_digits s ≡ true → all_digits t ≡ true → all_digits (s ++ t) ≡ true
-unfolding all_digits
-digits_append [] t a b = b
-digits_append (x ∷ s) t a b = both (both_left (is_digit x) (all_digits s) a) (digits_append s t (both_right (is_digit x) (all_digits s) a) b)
+abbrev all_digits : List ℕ → Bool
+all_digits = list_all is_digit
 
 one_digit : (n : ℕ) → n < 10 → all_digits ((48 + n) ∷ []) ≡ true
-unfolding all_digits is_digit
+unfolding is_digit
 one_digit n h = rw (le-leb 48 (48 + n) (omega arith), le-leb (48 + n) 57 (omega arith))
 
 decimal_digits : (k n : ℕ) → all_digits (decimal_in k n) ≡ true
-unfolding decimal_in all_digits
+unfolding decimal_in
 decimal_digits zero n = refl
 decimal_digits (suc k) n =
     on_lt n 10
     (λ h. rw (decimal_short k n h) (one_digit n h))
-    (λ h. rw (decimal_long k n h) (digits_append (decimal_in k (n / 10)) ((48 + n % 10) ∷ []) (decimal_digits k (n / 10)) (one_digit (n % 10) (omega arith))))
+    (λ h. rw (decimal_long k n h) (list_all-append is_digit (decimal_in k (n / 10)) ((48 + n % 10) ∷ []) ∙ both (decimal_digits k (n / 10)) (one_digit (n % 10) (omega arith))))
 
 -- digits are no blanks
 digits_past : (s : List ℕ) → all_digits s ≡ true → past_blanks s ≡ s
-unfolding past_blanks all_digits is_digit
+unfolding past_blanks is_digit
 digits_past [] e = refl
 digits_past (b ∷ s) e = let h = leb-true 48 b (both_left _ _ (both_left _ _ e)) in rw (ne_eqb b 32 (λ q. omega arith))
 
@@ -46,7 +42,7 @@ blanks_past zero s = refl
 blanks_past (suc n) s = blanks_past n s
 
 digits_plain : (s : List ℕ) → all_digits s ≡ true → is_plain s ≡ true
-unfolding all_digits is_plain
+unfolding is_plain
 digits_plain [] e = refl
 digits_plain (b ∷ s) e = both (either_right (eqb b 32) (both_left (is_digit b) (all_digits s) e)) (digits_plain s (both_right (is_digit b) (all_digits s) e))
 

@@ -1,5 +1,5 @@
 -- Laws of the reading: a volume is read as it was written, one cut short or with wrong sizes ends the reading, and the bytes that are read decide.
-use Rattle.std.specs.Prelude.{ℕ, ◌+◌, ◌-◌, ◌*◌, ◌≤◌, ◌≡◌, true}
+use Rattle.std.specs.Prelude.{ℕ, ◌+◌, ◌*◌, ◌≤◌, ◌≡◌, true}
 use mathlib.Core.List.{List}
 use Rattle.std.proofs.Math.ListN.{length}
 use Rattle.bounded.specs.Limits.{Widths}

@@ -20,7 +20,7 @@ use Rattle.follow.proofs.Course.{walk_astray, as_many}
 use Rattle.follow.proofs.Links.{walked_exactly, walked_most}
 use Rattle.follow.specs.Ends.{last_committed, last_uncommitted}
 use Rattle.follow.proofs.Ends.{ends_on, ends_led, ends_walked, ends_some, start_in_ring, ring_on, ring_follow}
-use Rattle.follow.specs.Walks.{walk_told, Followed, Tells, committed_end, uncommitted_end, ring_end, links_found, found_on, Known, HasEntry, Given, Underway, WalkFound}
+use Rattle.follow.specs.Walks.{walk_told, Followed, Tells, committed_end, uncommitted_end, ring_end, links_found, found_on, Known, HasEntry, Given, Underway}
 
 -- ---- the walk that an entry tells
 
@@ -70,9 +70,6 @@ module _ {P : ℕ} {v : ℕ → Verdict} where
 -- ---- on the way from a start
 
 module _ {P : ℕ} {v : ℕ → Verdict} {start : ℕ} where
-  pub walk_found : {n : Found} → Tells P v start n → WalkFound P v start n
-  walk_found t = record { astray = λ z. absurd (some_found t z); tells = λ s. t }
-
   pub at_start : start < P → Underway P v start start 0
   at_start h = record { inside = h; leads = here }
 
@@ -80,27 +77,27 @@ module _ {P : ℕ} {v : ℕ → Verdict} {start : ℕ} where
     open way use {inside, leads}
 
     -- the page's verdict decides,
-    pub found_committed : v page ≡ says.Committed → WalkFound P v start (found.Committed (before + 1))
-    found_committed e = walk_found (committed_end (ends_led leads (last_committed e)) refl)
+    pub found_committed : v page ≡ says.Committed → Tells P v start (found.Committed (before + 1))
+    found_committed e = (committed_end (ends_led leads (last_committed e)) refl)
 
-    pub found_uncommitted : v page ≡ says.Uncommitted → WalkFound P v start (found.Uncommitted (before + 1))
-    found_uncommitted e = walk_found (uncommitted_end (ends_led leads (last_uncommitted e)) refl)
+    pub found_uncommitted : v page ≡ says.Uncommitted → Tells P v start (found.Uncommitted (before + 1))
+    found_uncommitted e = (uncommitted_end (ends_led leads (last_uncommitted e)) refl)
 
     -- "Back at the start: committed.",
-    pub found_ring : start < P → StaysInside P v → v page ≡ says.On start → WalkFound P v start (found.Ring (before + 1))
-    found_ring h closed e = walk_found (ring_end (start_in_ring leads e P h closed) (ap found.Ring (omega arith)))
+    pub found_ring : start < P → StaysInside P v → v page ≡ says.On start → Tells P v start (found.Ring (before + 1))
+    found_ring h closed e = (ring_end (start_in_ring leads e P h closed) (ap found.Ring (omega arith)))
 
     -- or it goes on at a page:
     module _ {next : ℕ} (on : v page ≡ says.On next) (past : ¬ (next ≡ start)) where
       -- the page has an end,
-      pub found_known_committed : {rest : ℕ} → Tells P v next (found.Committed rest) → WalkFound P v start (found.Committed (before + 1 + rest))
-      found_known_committed {rest} (committed_end {links = k} x i) = let e : k ≡ rest = cc in walk_found (committed_end (ends_led (onward leads on past) x) (ap found.Committed (omega arith)))
+      pub found_known_committed : {rest : ℕ} → Tells P v next (found.Committed rest) → Tells P v start (found.Committed (before + 1 + rest))
+      found_known_committed {rest} (committed_end {links = k} x i) = let e : k ≡ rest = cc in (committed_end (ends_led (onward leads on past) x) (ap found.Committed (omega arith)))
       found_known_committed {rest} (uncommitted_end x i) = absurd (let z : ◌≡◌ {A = ℕ} 0 1 = cc in omega arith)
       found_known_committed {rest} (ring_end x i) = absurd (let z : ◌≡◌ {A = ℕ} 0 1 = cc in omega arith)
 
-      pub found_known_uncommitted : {rest : ℕ} → Tells P v next (found.Uncommitted rest) → WalkFound P v start (found.Uncommitted (before + 1 + rest))
+      pub found_known_uncommitted : {rest : ℕ} → Tells P v next (found.Uncommitted rest) → Tells P v start (found.Uncommitted (before + 1 + rest))
       found_known_uncommitted {rest} (committed_end x i) = absurd (let z : ◌≡◌ {A = ℕ} 0 1 = cc in omega arith)
-      found_known_uncommitted {rest} (uncommitted_end {links = k} x i) = let e : k ≡ rest = cc in walk_found (uncommitted_end (ends_led (onward leads on past) x) (ap found.Uncommitted (omega arith)))
+      found_known_uncommitted {rest} (uncommitted_end {links = k} x i) = let e : k ≡ rest = cc in (uncommitted_end (ends_led (onward leads on past) x) (ap found.Uncommitted (omega arith)))
       found_known_uncommitted {rest} (ring_end x i) = absurd (let z : ◌≡◌ {A = ℕ} 0 1 = cc in omega arith)
 
       -- or the way goes on there,
@@ -108,9 +105,9 @@ module _ {P : ℕ} {v : ℕ → Verdict} {start : ℕ} where
       one_link_on closed = record { inside = closed page next inside on; leads = as_many (onward leads on past) (omega arith) }
 
   -- until P links are followed: "the links run into a ring that lacks the start".
-  pub found_astray : {page : ℕ} → Underway P v start page P → WalkFound P v start found.Nothing
+  pub found_astray : {page : ℕ} → Underway P v start page P → (follow P v start).end ≡ ends.Astray
   unfolding follow
-  found_astray way = record { astray = λ z. ap (λ (w : Walk). w.end) (walk_astray way.leads); tells = λ s. absurd (s refl) }
+  found_astray way = ap (λ (w : Walk). w.end) (walk_astray way.leads)
 
 -- ---- the table, page by page
 
@@ -130,11 +127,7 @@ module _ {P : ℕ} {v : ℕ → Verdict} where
     pub uncommitted_known : {p k : ℕ} → p < P → get_or walks p found.Nothing ≡ found.Uncommitted k → Tells P v p (found.Uncommitted k)
     uncommitted_known h e = entry_tells h e (λ z. let y : ◌≡◌ {A = ℕ} 0 1 = cc z in omega arith)
 
-    -- a page has its walk already,
-    pub already_given : {p : ℕ} → HasEntry walks p → Given P v p walks walks
-    already_given h = record { known = known; has = h; keeps = λ p b. b }
-
-    -- or it is stored,
+    -- a page's walk is stored,
     pub walk_stored : {q : ℕ} {n : Found} → q < 256 → Tells P v q n → Given P v q walks (set walks q n)
     walk_stored {q} {n} h t =
         record {

@@ -1,5 +1,7 @@
 -- Every page's walk found once: an entry for each page in a table, and what is known of the table while it is filled.
-use Rattle.std.specs.Prelude.{ℕ, ◌-◌, ◌<◌, ◌≡◌, List, length, get_or}
+use Rattle.std.specs.Prelude.{ℕ, ◌-◌, ◌<◌, ◌≡◌, List, length, get_or, Result, Ok, Err}
+use Rattle.outcome.specs.declared.Refusal.{Refusal}
+use Rattle.outcome.specs.declared.Refusal.TheVariants.{LinksAstray}
 use Rattle.follow.specs.declared.Verdict.{Verdict}
 use Rattle.follow.specs.declared.End.TheVariants as ends
 use Rattle.follow.specs.declared.Walk.{Walk}
@@ -66,7 +68,11 @@ pub record Underway (P : ℕ) (v : ℕ → Verdict) (start page links : ℕ) : T
   pub inside : page < P
   pub leads : Leads v start links page
 
--- what is found of a start: nothing where its links run astray, else its walk
-pub record WalkFound (P : ℕ) (v : ℕ → Verdict) (start : ℕ) (n : Found) : Type 0 where
-  pub astray : n ≡ found.Nothing → (follow P v start).end ≡ ends.Astray
-  pub tells : ¬ (n ≡ found.Nothing) → Tells P v start n
+-- a start's links run astray, which is why it is refused
+abbrev pub GoesAstray : (P : ℕ) → (ℕ → Verdict) → (start : ℕ) → Refusal → Type 0
+GoesAstray P v start refusal = (refusal ≡ LinksAstray) × ((follow P v start).end ≡ ends.Astray)
+
+-- what is found of a start: its walk, or that its links run astray
+abbrev pub WalkFound : (P : ℕ) → (ℕ → Verdict) → (start : ℕ) → Result Found Refusal → Type 0
+WalkFound P v start (Ok n) = Tells P v start n
+WalkFound P v start (Err refusal) = GoesAstray P v start refusal

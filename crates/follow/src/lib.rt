@@ -1,12 +1,15 @@
 // Following links over a table of verdicts, every page's walk found once: no record is mentioned. The definitions are in specs/.
 #![tactic(auto)]
 
-ghost use Rattle.std.specs.Prelude.{◌≡◌, true, false, ◌≤◌, ◌<◌};
+ghost use Rattle.std.specs.Prelude.{◌≡◌, ◌≤◌, ◌<◌, IfErr, OnOk};
 ghost use Rattle.bounded.specs.Below.{some_below};
-ghost use Rattle.follow.specs.declared.End.TheVariants as ends;
+ghost use Rattle.outcome.specs.Outcome.{◌⇒◌otherwise◌};
+ghost use Rattle.outcome.specs.Result.{answer_of};
 ghost use Rattle.follow.specs.Follow.{follow, is_astray, StaysInside};
 ghost use Rattle.follow.specs.Verdicts.{listed};
-ghost use Rattle.follow.specs.Walks.{walk_told, Followed, links_found, found_on, Tells, Known, Given, WalkFound};
+ghost use Rattle.follow.specs.Walks.{walk_told, Followed, links_found, found_on, Tells, Known, Given, GoesAstray, WalkFound};
+
+use outcome::Refusal;
 
 // What one link says: the start is committed, it is uncommitted, or go on at a page's highest record. A page fits a byte, so that a table of verdicts takes 512
 // bytes of the stack that a call may use.
@@ -72,9 +75,14 @@ impl Found {
     }
 }
 
-// What is found of the start, or nothing where its links run astray: they are followed up to a verdict that is not an on, a page whose end is known, or back
+// What is found of the start, where its links do not run astray: they are followed up to a verdict that is not an on, a page whose end is known, or back
 // to the start. A known ring met on the way lacks the start, and going round it uses up the links.
-fn find_walk(verdicts: &[Verdict; 256], pages: u32, walks: &[Found; 256], start: u32) -> Found
+fn find_walk(
+    verdicts: &[Verdict; 256],
+    pages: u32,
+    walks: &[Found; 256],
+    start: u32,
+) -> Result<Found, Refusal>
     requires pages_bound { pages ≤ 256 }
     requires start_lt_pages { start < pages }
     requires stays_inside { StaysInside pages (listed verdicts.now) }
@@ -86,21 +94,21 @@ fn find_walk(verdicts: &[Verdict; 256], pages: u32, walks: &[Found; 256], start:
     for before in 0..pages {
         let links = before as u16 + 1;
         let next = match verdicts[page] {
-            Verdict::Committed => return Found::Committed(links),
-            Verdict::Uncommitted => return Found::Uncommitted(links),
+            Verdict::Committed => return Ok(Found::Committed(links)),
+            Verdict::Uncommitted => return Ok(Found::Uncommitted(links)),
             Verdict::On(next) => next as usize,
         };
         if next == start {
-            return Found::Ring(links);
+            return Ok(Found::Ring(links));
         }
         let known = walks[next];
         match known {
-            Found::Committed(rest) => return Found::Committed(links + rest),
-            Found::Uncommitted(rest) => return Found::Uncommitted(links + rest),
+            Found::Committed(rest) => return Ok(Found::Committed(links + rest)),
+            Found::Uncommitted(rest) => return Ok(Found::Uncommitted(links + rest)),
             Found::Ring(_) | Found::Nothing => page = next,
         }
     }
-    Found::Nothing
+    Err(Refusal::LinksAstray)
 }
 
 // Stores what is found of the start, and of the pages that its links lead to, up to one that has its entry.
@@ -134,38 +142,42 @@ fn give_walks(
     }
 }
 
-// The page has its walk in the table, and so have the pages found on the way; says whether its links run astray.
-fn follow_page(verdicts: &[Verdict; 256], pages: u32, walks: &mut [Found; 256], page: u32) -> bool
+// The page has its walk in the table, and so have the pages found on the way, where its links do not run astray.
+fn follow_page(
+    verdicts: &[Verdict; 256],
+    pages: u32,
+    walks: &mut [Found; 256],
+    page: u32,
+) -> Result<(), Refusal>
     requires pages_bound { pages ≤ 256 }
     requires page_lt_pages { page < pages }
     requires stays_inside { StaysInside pages (listed verdicts.now) }
     requires known { Known pages (listed verdicts.now) walks.old }
-    ensures page_value { result ≡ true → (follow pages (listed verdicts.now) page).end ≡ ends.Astray }
-    ensures given { result ≡ false → Given pages (listed verdicts.now) page walks.old walks.new }
+    ensures astray { IfErr result (GoesAstray pages (listed verdicts.now) page) }
+    ensures given { OnOk result (Given pages (listed verdicts.now) page walks.old walks.new) }
 {
     let Found::Nothing = walks[page as usize] else {
-        return false;
+        return Ok(());
     };
-    let found = find_walk(verdicts, pages, walks, page);
-    if let Found::Nothing = found {
-        return true;
-    }
+    let found = find_walk(verdicts, pages, walks, page)?;
     give_walks(verdicts, pages, walks, page, found);
-    false
+    Ok(())
 }
 
-// Every page's walk, where none runs astray: each page is walked at most twice. Says whether some page's links run astray.
-pub fn follow_all(verdicts: &[Verdict; 256], pages: u32, walks: &mut [Found; 256]) -> bool
+// Every page's walk, where none runs astray: each page is walked at most twice. Refused where some page's links run astray.
+pub fn follow_all(
+    verdicts: &[Verdict; 256],
+    pages: u32,
+    walks: &mut [Found; 256],
+) -> Result<(), Refusal>
     requires pages_bound { pages ≤ 256 }
     requires stays_inside { StaysInside pages (listed verdicts.now) }
-    ensures astray { result ≡ some_below pages (λ p. is_astray (follow pages (listed verdicts.now) p).end) }
-    ensures followed { result ≡ false → Followed pages (listed verdicts.now) walks.new }
+    ensures astray { answer_of result ≡ some_below pages (λ p. is_astray (follow pages (listed verdicts.now) p).end) ⇒ 4 otherwise 0 }
+    ensures followed { OnOk result (Followed pages (listed verdicts.now) walks.new) }
 {
     *walks = [Found::Nothing; 256];
     for page in 0..pages {
-        if follow_page(verdicts, pages, walks, page) {
-            return true;
-        }
+        follow_page(verdicts, pages, walks, page)?;
     }
-    false
+    Ok(())
 }

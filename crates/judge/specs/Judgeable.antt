@@ -1,4 +1,4 @@
--- What judging listed slots rests on: a sound table with the bytes of its slots, their chains, the state of its pages, and the exposed records found.
+-- What the search for twins rests on: a sound table with the bytes of its slots, and their chains.
 use Rattle.std.specs.Prelude.{ℕ, ◌+◌, ◌*◌, ◌≤◌, ◌<◌, ◌≡◌, List, true, length}
 use Rattle.std.proofs.Common.{arith}
 use Rattle.bounded.specs.Limits.{two_widths}
@@ -12,12 +12,10 @@ use Rattle.record.specs.FlashLaws.{SizedIn}
 use Rattle.table.specs.Table.{table_sound}
 use Rattle.chain.specs.declared.Key.TheVariants.{Pointer}
 use Rattle.chain.specs.Chain.{Linkable, Chained}
-use Rattle.state.specs.State.{state_at}
-use Rattle.rules.specs.Found.{exposed_slots}
 use Rattle.rules.specs.Volume.{volume, volume_fits}
 use Rattle.rules.proofs.laws.Volume.{fits_facts}
 use Rattle.rules.proofs.laws.Chains.{volume_spans}
-use Rattle.permit.specs.Prepared.{Within, Searchable, judged_linkable, linkable_within, searchable}
+use Rattle.permit.specs.Prepared.{judged_linkable}
 
 -- slot k is in the words, and its w bytes in the contents
 pub record SlotInside (w : ℕ) (words contents : List ℕ) (k : ℕ) : Type 0 where
@@ -32,26 +30,6 @@ pub record Comparable (P S w : ℕ) (words contents chains : List ℕ) : Type 0 
   pub linkable : Linkable P S words
   pub bytes_in : w * S ≤ length contents
   pub chained : Chained Pointer S (slot_at words) chains
-
--- its slots are judged
-pub record Judgeable (P S w : ℕ) (words contents state chains found : List ℕ) : Type 0 where
-  pub comparable : Comparable P S w words contents chains
-  pub within : Within S words state
-  pub searchable : Searchable S words chains found
-
-pub judgeable :
-    (P S w : ℕ) (words contents state chains found : List ℕ)
-    → Linkable P S words
-    → 4 * P ≤ length state
-    → w * S ≤ length contents
-    → Chained Pointer S (slot_at words) chains
-    → found ≡ exposed_slots S (slot_at words) (state_at state)
-    → Judgeable P S w words contents state chains found
-judgeable P S w words contents state chains found l p b c e = record {
-  comparable = record { linkable = l; bytes_in = b; chained = c };
-  within = linkable_within P S words state l p;
-  searchable = searchable P S words state chains found l c e;
-}
 
 -- ---- a flash whose slots are judged, and then stored or blanked
 

@@ -1,2 +1,4 @@
 pub mod Ledger
+pub mod Fills
+pub mod FillsLaws
 pub mod LedgerLaws

@@ -1,49 +1,49 @@
-// What a recorded run's ledger says of each page: the fill entered for it in an open ring, NO_NUMBER where none is, and the fill that is kept. A ring is closed exactly where
-// its pages have left flight, so whether what was entered still stands is read off the state behind each call.
+// What a recorded run's ledger says of each page: the fill entered for it in an open ring, if any, and the fill that is kept. A ring is closed exactly where its pages have left
+// flight, so whether what was entered still stands is read off the state behind each call.
 
 #![tactic(auto, unfolding(crate::specs::Ledger::entered_then, crate::specs::Ledger::kept_then))]
 
 ghost use Rattle.std.specs.Prelude.{◌≡◌, ◌*◌, ◌≤◌, length, set};
 ghost use Rattle.state.specs.State.{state_at};
 ghost use Rattle.ledger.specs.Ledger.{entered_then, kept_then, settled_entered, settled_kept};
+ghost use Rattle.ledger.specs.Fills.{fill_of, fills_of};
 
-use sizes::NO_NUMBER;
 use state::PageState;
 
 // A fill entered for a page.
-pub fn enter(entered: &mut [u32], page: u32, fill: u8)
-    ensures { entered.new ≡ set entered.old page fill }
+pub fn enter(entered: &mut [Option<u8>], page: u32, fill: u8)
+    ensures { fills_of entered.new ≡ set (fills_of entered.old) page fill }
 {
     if (page as usize) < entered.len() {
-        entered[page as usize] = fill as u32;
+        entered[page as usize] = Some(fill);
     }
 }
 
 // What is entered for a page: it stays while the page is in flight.
-fn entered_then(s: PageState, entered: u32) -> u32
-    ensures { result ≡ entered_then s entered }
+fn entered_then(s: PageState, entered: Option<u8>) -> Option<u8>
+    ensures { fill_of result ≡ entered_then s (fill_of entered) }
 {
-    if s.in_flight() { entered } else { NO_NUMBER }
+    if s.in_flight() { entered } else { None }
 }
 
 // What is kept of a page: what is entered for it, where its ring was completed.
-fn kept_then(done: bool, s: PageState, entered: u32, kept: u32) -> u32
-    ensures { result ≡ kept_then done s entered kept }
+fn kept_then(done: bool, s: PageState, entered: Option<u8>, kept: u8) -> u8
+    ensures { result ≡ kept_then done s (fill_of entered) kept }
 {
-    if done && !s.in_flight() && entered != NO_NUMBER {
-        entered
+    if done && !s.in_flight() {
+        entered.unwrap_or(kept)
     } else {
         kept
     }
 }
 
 // The ledger behind a call that left this state; `done` says that it completed a ring.
-pub fn settle(pages: u32, done: bool, state: &[u32], entered: &mut [u32], kept: &mut [u32])
+pub fn settle(pages: u32, done: bool, state: &[u32], entered: &mut [Option<u8>], kept: &mut [u8])
     requires pages_in_bounds { 4 * pages ≤ length state.now }
     requires pages_in_bounds_2 { pages ≤ length entered.old }
     requires pages_in_bounds_3 { pages ≤ length kept.old }
-    ensures entered { entered.new ≡ settled_entered pages (state_at state.now) entered.old }
-    ensures kept { kept.new ≡ settled_kept pages done (state_at state.now) entered.old kept.old }
+    ensures entered { fills_of entered.new ≡ settled_entered pages (state_at state.now) (fills_of entered.old) }
+    ensures kept { kept.new ≡ settled_kept pages done (state_at state.now) (fills_of entered.old) kept.old }
 {
     for page in 0..pages {
         let s = state::page_at(state, page);

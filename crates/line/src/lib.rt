@@ -9,6 +9,7 @@ use sizes::Sizes;
 use text::scan::number;
 
 // A line: a call with its numbers. A list of pages or slots stands beside it, in a lent slice; `count` says how many.
+// Kept: a count, not the list, as a line is Copy and has no lifetime; the list lives in the caller's buffer.
 #[derive(Clone, Copy)]
 pub enum Line {
     Format { sizes: Sizes },

@@ -1,5 +1,5 @@
 -- Verdicts and committed versions of either layout of records, in the form in which the code computes them, and that they are the rules'.
-use Rattle.std.specs.Prelude.{ℕ, zero, suc, ◌+◌, ◌-◌, ◌%◌, ◌≤◌, ◌<◌, max, ◌≡◌, Bool, false, cond, ◌&&◌, ltb, eqb}
+use Rattle.std.specs.Prelude.{ℕ, zero, suc, ◌+◌, ◌%◌, ◌≤◌, ◌<◌, max, ◌≡◌, Bool, false, cond, ◌&&◌, ltb, eqb}
 use Rattle.std.proofs.Common.{arith, sym, ◌∙◌, lt-ltb, le-ltb, ne_eqb}
 use Rattle.std.proofs.Math.Path.{refl, ap}
 use Rattle.std.proofs.Math.Bool.{true, not}
@@ -10,7 +10,9 @@ use Rattle.sizes.specs.declared.Layout.{Layout}
 use Rattle.sizes.specs.declared.Layout.TheVariants.{FiveWords, FourWords}
 use Rattle.record.specs.declared.Record.{Record}
 use Rattle.record.specs.Slot.{Slot}
-use Rattle.std.specs.Prelude.{None, Some}
+use Rattle.std.specs.Prelude.{Option, None, Some}
+use Rattle.std.specs.Option.{unwrap_or, option_cmp}
+use Rattle.std.specs.Ordering.{ord_max, nat_cmp}
 use Rattle.record.specs.Slot.{holds, is_blank}
 use Rattle.record.specs.SlotLaws.{sound_facts}
 use Rattle.table.specs.Table.{table_sound, has_version, of_page, above, better, raised, highest, highest_version_of, version_in}
@@ -111,10 +113,27 @@ unfoldable pub version_or_none : Slot → ℕ
 version_or_none None = no_number
 version_or_none (Some r) = r.v
 
--- 1 more than it; 0 where the slot is blank
-mark : Slot → ℕ
+-- the version in a slot, if it holds a record
+abbrev pub held_version : Slot → Option ℕ
+held_version None = None
+held_version (Some r) = Some r.v
+
+pub held_or_none : (s : Slot) → unwrap_or (held_version s) no_number ≡ version_or_none s
+unfolding version_or_none
+held_or_none None = refl
+held_or_none (Some r) = refl
+
+-- 1 more than a version; 0 where there is none
+abbrev pub mark : Option ℕ → ℕ
 mark None = 0
-mark (Some r) = r.v + 1
+mark (Some v) = v + 1
+
+-- of two versions, or none, the higher has the higher mark
+pub mark_max : (a b : Option ℕ) → mark (ord_max (option_cmp nat_cmp) a b) ≡ max (mark a) (mark b)
+mark_max None None = refl
+mark_max None (Some y) = omega arith
+mark_max (Some x) None = omega arith
+mark_max (Some x) (Some y) = on_lt y x (λ h. rw (lt-ltb y x h) (omega arith)) (λ h. rw (le-ltb y x h) (on_test (eqb y x) (λ e. rw e (omega arith)) (λ e. rw e (omega arith))))
 
 -- 1 more than the version of a record of page p below version v; 0 of any other slot
 unfoldable pub mark_under : (p v : ℕ) → Slot → ℕ
@@ -122,37 +141,30 @@ mark_under p v None = 0
 mark_under p v (Some r) = cond (eqb r.p p && ltb r.v v) (r.v + 1) 0
 
 -- the highest of them is that of page p's highest record below version v,
-marks : (p v n : ℕ) (t : ℕ → Slot) → mark (highest n (under v t) p) ≡ max_below n (λ k. mark_under p v (t k))
-unfolding mark mark_under highest max_below raised better of_page above under holds
+marks : (p v n : ℕ) (t : ℕ → Slot) → mark (held_version (highest n (under v t) p)) ≡ max_below n (λ k. mark_under p v (t k))
+unfolding mark_under highest max_below raised better of_page above under holds
 marks p v zero t = refl
 marks p v (suc n) t = one_more_lem (highest n (under v t) p) (t n) ∙ ap (λ (m : ℕ). max m (mark_under p v (t n))) (marks p v n t)
   where
-    higher : (b : Slot) (r : Record) → mark (cond (above b r) (Some r) b) ≡ max (mark b) (r.v + 1)
+    higher : (b : Slot) (r : Record) → mark (held_version (cond (above b r) (Some r) b)) ≡ max (mark (held_version b)) (r.v + 1)
     higher None r = omega arith
     higher (Some q) r = on_lt q.v r.v (λ l. rw (lt-ltb q.v r.v l) (omega arith)) (λ l. rw (le-ltb q.v r.v l) (omega arith))
 
-    one_more_lem : (b s : Slot) → mark (raised p b (cond (holds (λ r. ltb r.v v) s) s None)) ≡ max (mark b) (mark_under p v s)
+    one_more_lem : (b s : Slot) → mark (held_version (raised p b (cond (holds (λ r. ltb r.v v) s) s None))) ≡ max (mark (held_version b)) (mark_under p v s)
     one_more_lem b None = omega arith
     one_more_lem b (Some r) = on_test (ltb r.v v)
         (λ l. on_test (eqb r.p p) (λ e. rw (l, e) (higher b r)) (λ e. rw (l, e) (omega arith)))
         (λ l. on_test (eqb r.p p) (λ e. rw (l, e) (omega arith)) (λ e. rw (l, e) (omega arith)))
 
--- so that it tells the version, and that there is none
-pub marked_version : (p v S : ℕ) (t : ℕ → Slot) (best : ℕ) → max_below S (λ k. mark_under p v (t k)) ≡ best → 0 < best → best - 1 ≡ version_or_none (highest S (under v t) p)
-unfolding mark version_or_none
-marked_version p v S t best e h = by (highest S (under v t) p) (marks p v S t ∙ e)
+-- so that it tells the version, if there is one
+pub marked_version : (p v S : ℕ) (t : ℕ → Slot) (best : Option ℕ) → max_below S (λ k. mark_under p v (t k)) ≡ mark best → best ≡ held_version (highest S (under v t) p)
+marked_version p v S t best e = same best (held_version (highest S (under v t) p)) (sym (marks p v S t ∙ e))
   where
-    by : (s : Slot) → mark s ≡ best → best - 1 ≡ version_or_none s
-    by None f = absurd (omega arith)
-    by (Some r) f = omega arith
-
-pub marked_none : (p v S : ℕ) (t : ℕ → Slot) (best : ℕ) → max_below S (λ k. mark_under p v (t k)) ≡ best → best < 1 → no_number ≡ version_or_none (highest S (under v t) p)
-unfolding mark version_or_none
-marked_none p v S t best e h = by (highest S (under v t) p) (marks p v S t ∙ e)
-  where
-    by : (s : Slot) → mark s ≡ best → no_number ≡ version_or_none s
-    by None f = refl
-    by (Some r) f = absurd (omega arith)
+    same : (a b : Option ℕ) → mark a ≡ mark b → a ≡ b
+    same None None f = refl
+    same None (Some y) f = absurd (omega arith)
+    same (Some x) None f = absurd (omega arith)
+    same (Some x) (Some y) f = ap Some (omega arith)
 
 -- only slots of the page's chain have one
 pub marked_in_chain : (t : ℕ → Slot) (p v k : ℕ) → in_chain Page t (p % 256) k ≡ false → mark_under p v (t k) ≡ 0
@@ -165,10 +177,20 @@ marked_in_chain t p v k e = by (t k) refl
 
 -- ---- committed versions
 
+-- the version before the highest record, r, if there is one
+unfoldable pub earlier_in : Layout → ℕ → (ℕ → Slot) → Record → Option ℕ
+earlier_in FiveWords S t r = Some r.c
+earlier_in FourWords S t r = held_version (highest S (under r.v t) r.p)
+
 -- the committed version where the highest record, r, is uncommitted
 unfoldable pub before_in : Layout → ℕ → (ℕ → Slot) → Record → ℕ
 before_in FiveWords S t r = r.c
 before_in FourWords S t r = version_or_none (highest S (under r.v t) r.p)
+
+pub earlier_or_none : (layout : Layout) (S : ℕ) (t : ℕ → Slot) (r : Record) → unwrap_or (earlier_in layout S t r) no_number ≡ before_in layout S t r
+unfolding earlier_in before_in
+earlier_or_none FiveWords S t r = refl
+earlier_or_none FourWords S t r = held_or_none (highest S (under r.v t) r.p)
 
 unfoldable pub committed_by_in : Layout → ℕ → (ℕ → Slot) → End → Slot → ℕ
 committed_by_in layout S t e None = 0

@@ -1,3 +1,4 @@
 pub mod Committed
+pub mod Shown
 pub mod Tables
 pub mod Answer

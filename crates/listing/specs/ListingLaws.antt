@@ -96,14 +96,15 @@ module _ (widths : Widths) (sizes : Sizes) (v : Volume) where
       ∙ ap (λ (b : Bool). first_of (judged b sizes.pages sizes.slots v.flash.words v.state) (read_own FiveWords sizes.pages sizes.slots v.flash.words v.state page)) e
 
   pub page_answered :
-      (page first answer : ℕ) (fits : Bool) → fits ≡ volume_fits widths sizes v → first ≡ judged fits sizes.pages sizes.slots v.flash.words v.state
+      (page first answer : ℕ) → first ≡ judged (volume_fits widths sizes v) sizes.pages sizes.slots v.flash.words v.state
       → answer ≡ first_of first (read_own FiveWords sizes.pages sizes.slots v.flash.words v.state page) → answer ≡ (page_read widths sizes v page).answer
-  page_answered page first answer fits same said e = rw (page_chain page, ← same, ← said) e
+  page_answered page first answer said e = rw (page_chain page, ← said) e
 
-  -- Where the read of a page is accepted: the buffers have the table, the page's state and the slot's bytes, and those are what is read.
+  -- Where the read of a page is accepted: the buffers have the table, the page's state and the bytes of its slot, which is there, and those are what is read.
   pub record Readable (page : ℕ) : Type 0 where
     pub table_there : 5 * sizes.slots ≤ length v.flash.words
     pub state_there : 4 * page + 4 ≤ length v.state
+    pub slot_there : read_slot sizes.slots v page < sizes.slots
     pub bytes_there : sizes.width * read_slot sizes.slots v page + sizes.width ≤ length v.flash.contents
     pub drawn_there : (count_outcome widths (bytes_at sizes.width v.flash.contents (read_slot sizes.slots v page))).second ≡ drawn_of widths sizes v page
 
@@ -122,6 +123,7 @@ module _ (widths : Widths) (sizes : Sizes) (v : Volume) where
       record {
         table_there = let size = f.flash_sized.words_sized in omega arith;
         state_there = let size = f.state_sized in omega arith;
+        slot_there = ltb-true (read_slot sizes.slots v page) sizes.slots found.0;
         bytes_there =
             let size = f.flash_sized.contents_sized in
             let inside = part_inside sizes.width sizes.slots (read_slot sizes.slots v page) (ltb-true (read_slot sizes.slots v page) sizes.slots found.0) in

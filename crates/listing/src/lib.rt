@@ -14,8 +14,10 @@ ghost use Rattle.rules.specs.laws.Chains.{SpansIn, read_own};
 ghost use Rattle.listing.specs.Listing.{answer_text, page_read, state_text, fields_text, page_text, list_answer, list_text};
 
 use outcome::Refusal;
+use record::flash;
 use sizes::{Layout, Sizes};
 use text::print::Printout;
+use volume::Volume;
 
 // "answer=" and the number back.
 pub fn put_answer(out: &mut Printout, answer: u32)
@@ -52,10 +54,9 @@ fn read_own(sizes: Sizes, words: &[u32], state: &[u32], page: u32) -> Result<(),
     requires page_lt_pages { page < sizes.pages }
     ensures { answer_of result ≡ read_own FiveWords sizes.pages sizes.slots words.now state.now page }
 {
-    if reader::committed_slot(Layout::FiveWords, sizes.slots, words, state, page) < sizes.slots {
-        Ok(())
-    } else {
-        Err(Refusal::NoCommittedRecord)
+    match reader::committed_slot(Layout::FiveWords, sizes.slots, words, state, page) {
+        Some(_) => Ok(()),
+        None => Err(Refusal::NoCommittedRecord),
     }
 }
 
@@ -63,8 +64,8 @@ fn read_own(sizes: Sizes, words: &[u32], state: &[u32], page: u32) -> Result<(),
 fn list_answer(sizes: Sizes, words: &[u32], contents: &[u8], state: &[u32]) -> Result<(), Refusal>
     ensures { answer_of result ≡ list_answer two_widths sizes (volume words.now contents.now state.now) }
 {
-    let fits = volume::volume_fits(Layout::FiveWords, sizes, words, contents, state);
-    let first = volume::judged(Layout::FiveWords, fits, sizes, words, state);
+    let volume = Volume::new(Layout::FiveWords, sizes, words, contents, state);
+    let first = volume.judged();
     for page in 0..sizes.pages {
         first?;
         read_own(sizes, words, state, page)?;
@@ -77,9 +78,7 @@ fn drawn_in(width: u32, contents: &[u8], slot: u32) -> u32
     requires { width * slot + width ≤ length contents.now }
     ensures { result ≡ (count_outcome two_widths (bytes_at width contents.now slot)).second }
 {
-    let w = width as usize;
-    let b = w * (slot as usize);
-    bits::count(&contents[b..b + w]).unwrap_or(0)
+    bits::count(flash::bytes_of(contents, width as usize, slot)).unwrap_or(0)
 }
 
 // The line of a page whose read is accepted.
@@ -95,7 +94,10 @@ fn put_page(
     ensures { Puts out.old out.new (page_text two_widths sizes (volume words.now contents.now state.now) page) }
 {
     let s = state::page_at(state, page);
-    let slot = reader::committed_slot(Layout::FiveWords, sizes.slots, words, state, page);
+    let Some(slot) = reader::committed_slot(Layout::FiveWords, sizes.slots, words, state, page)
+    else {
+        return;
+    };
     let drawn = drawn_in(sizes.width, contents, slot);
     put_fields(out, page, s.committed, slot, drawn, s.is_set());
 }

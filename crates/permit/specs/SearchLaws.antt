@@ -72,11 +72,7 @@ module _ (S : ℕ) (t : ℕ → Slot) (st : ℕ → PageState) (found : List ℕ
   unfolding by_found
   obsolete_by e = by_kind (by_found (untwinned S t st) found) r ∙ rw e
 
-  pub exposed_by : is_obsolete st r ≡ false → is_exposed st r ≡ true → may_erase_record (by_found (untwinned S t st) found) r ≡ not (is_current st r)
-  unfolding by_found
-  exposed_by e h = by_kind (by_found (untwinned S t st) found) r ∙ rw (e, h)
-
-  -- a committed record stays
-  pub committed_stays : is_obsolete st r ≡ false → is_exposed st r ≡ false → may_erase_record (by_found (untwinned S t st) found) r ≡ false
-  unfolding by_found
-  committed_stays e h = by_kind (by_found (untwinned S t st) found) r ∙ rw (e, h)
+  -- a committed record is neither
+  pub spare_by : is_obsolete st r ≡ false → may_erase_record (by_found (untwinned S t st) found) r ≡ (is_exposed st r && not (is_current st r))
+  unfolding may_erase_record by_found
+  spare_by e = rw e

@@ -1,6 +1,6 @@
 // Records without a back pointer: what may be erased, and what a write would bury. The definitions are in crate rules.
 
-ghost use Rattle.std.specs.Prelude.{◌≡◌, true, ◌+◌, ◌*◌, ◌≤◌, ◌<◌, length};
+ghost use Rattle.std.specs.Prelude.{◌≡◌, ◌+◌, ◌*◌, ◌≤◌, ◌<◌, length};
 ghost use Rattle.sizes.specs.declared.Layout.TheVariants.{FourWords};
 ghost use Rattle.sizes.specs.Lists.{Listed};
 ghost use Rattle.record.specs.Slot.{holds, slot_in};
@@ -8,7 +8,7 @@ ghost use Rattle.state.specs.State.{state_at};
 ghost use Rattle.rules.specs.Simple.{simple_may_erase_record, simple_may_erase, simple_may_erase_all, buried_by, would_bury};
 ghost use Rattle.permit.specs.Readable.{Readable};
 
-use super::{is_current, is_exposed, is_obsolete};
+use super::{is_exposed, is_obsolete, is_spare_exposed};
 use record::Record;
 use sizes::{Layout, Sizes};
 
@@ -17,7 +17,7 @@ fn may_erase_record(state: &[u32], record: Record) -> bool
     requires { 4 * «record».p + 4 ≤ length state.now }
     ensures { result ≡ simple_may_erase_record (state_at state.now) «record» }
 {
-    is_obsolete(state, record) || is_exposed(state, record) && !is_current(state, record)
+    is_obsolete(state, record) || is_spare_exposed(state, record)
 }
 
 // The slot may be erased.

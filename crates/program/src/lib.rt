@@ -98,10 +98,7 @@ impl<W: Write> Write for Output<W> {
 // The program has an argument at this place; its own name is at 0.
 pub fn has_argument<E: Env>(env: &E, at: usize) -> bool {
     let mut none = [0u8; 0];
-    match env.arg(at, &mut none) {
-        Err(FillError::NotPresent) => false,
-        _ => true,
-    }
+    !matches!(env.arg(at, &mut none), Err(FillError::NotPresent))
 }
 
 // Tells what failed, and the system's words for it. A pipe whose reader has gone is told by the exit status alone.
@@ -112,10 +109,9 @@ pub fn fail<W: Write>(to: &mut W, what: &str, error: io::Error) {
     let text = InlineText::<128>::of(error);
     let all = text.as_str();
     // std writes the error's number behind the words.
-    let words = match all.split_once(" (os error ") {
-        Some((words, _)) => words,
-        None => all,
-    };
+    let words = all
+        .split_once(" (os error ")
+        .map_or(all, |(words, _)| words);
     let _ = writeln!(to, "{what}: {words}");
 }
 

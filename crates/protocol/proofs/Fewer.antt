@@ -14,7 +14,7 @@ use Rattle.state.specs.State.{in_flight}
 use Rattle.state.specs.StateLaws.{StateFacts}
 use Rattle.protocol.specs.View.{View, Finds, Search, record_view, LinksTo, decide_links, IsCommitted, Exposed, greatest}
 use Rattle.protocol.specs.Shared.{SharedCore, SharedLive, OpenAtOnce, OpenWithin, plan, comm_of}
-use Rattle.protocol.specs.BackPointer.{AheadOrStraddled, Core}
+use Rattle.protocol.specs.BackPointer.{Core}
 use Rattle.protocol.specs.Permitted.{Spare, Permitted}
 
 -- fewer records, and the committed ones among them

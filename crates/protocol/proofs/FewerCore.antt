@@ -1,5 +1,5 @@
 -- An erase of five-word records keeps the core, and what is live.
-use Rattle.std.specs.Prelude.{ℕ, List, ◌⊎◌}
+use Rattle.std.specs.Prelude.{ℕ, List}
 use Rattle.std.proofs.Math.Logic.{inl, inr}
 use Rattle.record.specs.declared.Record.{Record}
 use Rattle.state.specs.declared.PageState.{PageState}

@@ -1,8 +1,8 @@
 // The reader: the slot words by reference and the page count, and what is read through it. It is thin: the work is in
-// `copy_page`, on plain slices and for either layout.
+// `copy_page`, for either layout.
 #![tactic(auto)]
 
-ghost use Rattle.std.specs.Prelude.{◌≡◌, ◌+◌, ◌*◌, ◌≤◌, length};
+ghost use Rattle.std.specs.Prelude.{◌≡◌, ◌+◌, ◌*◌, ◌≤◌, ◌<◌, length, SomeIff};
 ghost use Rattle.bounded.specs.Limits.{two_widths};
 ghost use Rattle.outcome.specs.Result.{ends};
 ghost use Rattle.sizes.specs.Sizes.{stride_of, sizes_of};
@@ -11,9 +11,11 @@ ghost use Rattle.state.specs.State.{state_at};
 ghost use Rattle.table.specs.Table.{lowest_slot};
 ghost use Rattle.rules.specs.Volume.{volume};
 ghost use Rattle.rules.specs.Read.{read_outcome_in, read_outcome};
+ghost use Rattle.volume.specs.Held.{held};
 
 use outcome::Refusal;
 use sizes::{Layout, Sizes};
+use volume::Volume;
 
 #[derive(Clone, Copy)]
 pub struct Reader<'a> {
@@ -47,51 +49,44 @@ impl<'a> Reader<'a> {
             slots,
             width,
         };
-        copy_page(
-            Layout::FiveWords,
-            sizes,
-            self.words,
-            contents,
-            state,
-            page,
-            out,
-        )
+        let volume = Volume::new(Layout::FiveWords, sizes, self.words, contents, state);
+        copy_page(&volume, page, out)
     }
 }
 
-// "the lowest slot holding the page at its committed version"; `slots` where there is none
-pub fn committed_slot(layout: Layout, slots: u32, words: &[u32], state: &[u32], page: u32) -> u32
+// "the lowest slot holding the page at its committed version", where there is one
+pub fn committed_slot(
+    layout: Layout,
+    slots: u32,
+    words: &[u32],
+    state: &[u32],
+    page: u32,
+) -> Option<u32>
     requires slots_in_bounds { stride_of layout * slots ≤ length words.now }
     requires page_in_bounds { 4 * page + 4 ≤ length state.now }
-    ensures { result ≡ lowest_slot slots (slot_in layout words.now) page (state_at state.now page).committed }
+    ensures { SomeIff result
+        (lowest_slot slots (slot_in layout words.now) page (state_at state.now page).committed < slots)
+        (lowest_slot slots (slot_in layout words.now) page (state_at state.now page).committed) }
 {
     let s = state::page_at(state, page);
     table::lowest_slot(layout, slots, words, page, s.committed)
 }
 
 // The bytes of the page's committed version, copied to `out`.
-pub fn copy_page(
-    layout: Layout,
-    sizes: Sizes,
-    words: &[u32],
-    contents: &[u8],
-    state: &[u32],
-    page: u32,
-    out: &mut [u8],
-) -> Result<(), Refusal>
+pub fn copy_page(volume: &Volume, page: u32, out: &mut [u8]) -> Result<(), Refusal>
     ensures { ends result out.new
-        ≡ read_outcome_in layout two_widths sizes (volume words.now contents.now state.now) page out.old }
+        ≡ read_outcome_in volume.now.layout two_widths volume.now.sizes (held volume.now) page out.old }
 {
-    let fits = volume::slice_fits(layout, sizes, words, contents, state, out.len());
-    volume::judged(layout, fits, sizes, words, state)?;
+    volume.slice_judged(out.len())?;
+    let sizes = volume.sizes;
     if page >= sizes.pages {
         return Err(Refusal::WrongList);
     }
-    let slot = committed_slot(layout, sizes.slots, words, state, page);
-    if slot >= sizes.slots {
+    let Some(slot) = committed_slot(volume.layout, sizes.slots, volume.words, volume.state, page)
+    else {
         return Err(Refusal::NoCommittedRecord);
-    }
-    record::flash::read_slot(contents, slot, out);
+    };
+    record::flash::read_slot(volume.contents, slot, out);
     Ok(())
 }
 

@@ -2,6 +2,7 @@
 use Rattle.std.specs.Prelude.{ℕ, ◌≤◌, ◌<◌, ◌≡◌, refl, ◌⊎◌, ◌↔◌, List, [], ◌∷◌, Bool, true, false, not, ◌&&◌, ◌||◌, ltb, leb, length, get_or}
 use Rattle.std.proofs.Common.{arith, sym, ap, ◌∙◌, inl, inr}
 use Rattle.std.proofs.lemmas.Bool.{false≢true}
+use Rattle.std.proofs.lemmas.Option.{same_Some}
 use Rattle.std.proofs.Math.Dec.{eqb}
 use borrow.Author.Tests.{ltb-true, leb-true, eqb-true, lt-ltb, le-leb, eq-eqb, ne_eqb}
 use Rattle.bounded.specs.Limits.{no_number, highest_version}
@@ -282,10 +283,7 @@ holds_one e h = cc
 pub holds_exactly : (f : Record → Bool) (s : Slot) → (holds f s ≡ true) ↔ ((r : Record) × (s ≡ Some r) × (f r ≡ true))
 unfolding holds
 holds_exactly f None = (λ e. absurd (false≢true e), λ w. absurd (let e = w.1 in let z : ◌≡◌ {A = ℕ} 0 1 = cc in omega arith))
-holds_exactly f (Some r) = (λ e. (r, refl, e), λ w. ap f (let e = w.1 in same e) ∙ w.2)
-  where
-    same : {a b : Record} → Some a ≡ Some b → a ≡ b
-    same e = cc
+holds_exactly f (Some r) = (λ e. (r, refl, e), λ w. ap f (same_Some r w.0 w.1) ∙ w.2)
 
 -- some slot below S of the table t holds a record that passes
 abbrev pub SomeRecord : ℕ → (ℕ → Slot) → (Record → Bool) → Type 0

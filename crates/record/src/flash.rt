@@ -29,9 +29,9 @@ pub fn store_five(part: &mut [u32], record: Record)
     store_record(Layout::FiveWords, part, record);
 }
 
-// The contents copier: bytes, one slot's or a whole volume's, from one slice into another of the same length.
+// The contents copier: bytes, one slot's or a whole volume's, or words, from one slice into another of the same length.
 // Kept: a loop, for `copy_from_slice` calls memmove, and the archive needs memcpy and memset alone.
-pub fn copy_contents(to: &mut [u8], from: &[u8])
+pub fn copy_contents<T: Copy>(to: &mut [T], from: &[T])
     requires { length to.old ≡ length from.now }
     ensures { to.new ≡ from.now }
 {
@@ -91,12 +91,21 @@ pub fn fill_slot(
     );
 }
 
-// A slot's bytes, copied out: bytes wk to wk+w-1, where w is the length of `out`.
+// A slot's bytes, where they lie: bytes wk to wk+w-1, for contents of w bytes a slot.
+pub fn bytes_of(contents: &[u8], width: usize, slot: u32) -> &[u8]
+    requires { width * slot + width ≤ length contents.now }
+    ensures these { result.now ≡ bytes_at width contents.now slot }
+    ensures as_many { length result.now ≡ width }
+{
+    let b = width * (slot as usize);
+    &contents[b..b + width]
+}
+
+// … copied out, as many as `out` has.
 pub fn read_slot(contents: &[u8], slot: u32, out: &mut [u8])
     requires { length out.old * slot + length out.old ≤ length contents.now }
     ensures { out.new ≡ bytes_at (length out.old) contents.now slot }
 {
-    let w = out.len();
-    let b = w * (slot as usize);
-    copy_contents(&mut *out, &contents[b..b + w]);
+    let width = out.len();
+    copy_contents(&mut *out, bytes_of(contents, width, slot));
 }

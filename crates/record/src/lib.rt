@@ -97,6 +97,7 @@ impl Record {
 }
 
 // A slot's words, decoded, as many as the layout says; of four, the back pointer is 0.
+// Kept: by places, for a slice's pattern needs an arm for other lengths, which never runs.
 fn decode_slot(layout: Layout, words: &[u32]) -> Slot
     requires { length words.now ≡ stride_of layout }
     ensures { result ≡ slot_from layout words.now }
@@ -143,6 +144,7 @@ pub fn slot_in(layout: Layout, words: &[u32], slot: u32) -> Slot
 }
 
 // The same of five words.
+// Kept: beside `slot_in`, for the contracts on records of five words name it.
 pub fn slot_at(words: &[u32], slot: u32) -> Slot
     requires { 5 * slot + 5 ≤ length words.now }
     ensures { result ≡ slot_at words.now slot }

@@ -21,12 +21,6 @@ pub contents_room : (sizes : Sizes) → two_widths sizes.width ≡ true → size
 contents_room sizes allowed most = le_trans (mul-le-mul_right sizes.slots (width_most _ allowed)) (mul-le-mul_left 64 most)
 
 module _ (sizes : Sizes) (v : Volume) (fits : FitsIn FiveWords two_widths sizes v) where
-  pub words_most : length v.flash.words ≤ 5120
-  words_most =
-      let e = fits.flash_sized.words_sized in
-      let b = fits.bounds in
-      omega arith
-
   pub contents_most : length v.flash.contents ≤ 65536
   contents_most =
       let e = fits.flash_sized.contents_sized in

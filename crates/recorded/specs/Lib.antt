@@ -1,4 +1,6 @@
 pub mod Desk
+pub mod Held
+pub mod HeldLaws
 pub mod Buffers
 pub mod TrialLaws
 pub mod StepLaws

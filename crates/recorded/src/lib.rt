@@ -4,10 +4,11 @@
 
 pub mod erase; // erase.rt: an erase, our own or the trial one, with all its cuts
 
-ghost use Rattle.std.specs.Prelude.{◌≡◌, ◌+◌, ◌*◌, ◌≤◌, length};
+ghost use Rattle.std.specs.Prelude.{◌≡◌, ◌+◌, ◌≤◌, length};
 ghost use Rattle.bounded.specs.Limits.{two_widths};
 ghost use Rattle.line.specs.Line.{said};
 ghost use Rattle.rules.specs.Volume.{volume};
+ghost use Rattle.ledger.specs.Fills.{fills_of};
 ghost use Rattle.cutpoint.specs.Judged.{tallied};
 ghost use Rattle.recorded.specs.Desk.{desk, Ready, write_desk, write_cuts, other_desk, desk_after, desk_cuts};
 
@@ -15,98 +16,79 @@ use cutpoint::Tally;
 use line::Line;
 use sizes::Sizes;
 
-// A line that is neither a write nor an erase: one that may stand in a script alters no flash.
-fn other_line(
-    sizes: Sizes,
-    line: Line,
-    list: &[u32],
-    words: &mut [u32],
-    contents: &mut [u8],
-    state: &mut [u32],
-    entered: &mut [u32],
-    kept: &mut [u32],
-)
-    requires { Ready two_widths sizes (desk (volume words.old contents.old state.old) entered.old kept.old) }
-    ensures { desk (volume words.new contents.new state.new) entered.new kept.new
-        ≡ other_desk two_widths sizes (desk (volume words.old contents.old state.old) entered.old kept.old) (said line list.now) }
-{
-    let _ = dispatch::call(sizes, line, list, words, contents, state);
-    ledger::settle(sizes.pages, false, state, entered, kept);
+// What a script is carried out on: a volume's buffers, and what the ledger says of its pages. Where `trial`, its erase never answers 12.
+#[derive(Drop)]
+pub struct Desk<'a> {
+    pub trial: bool,
+    pub sizes: Sizes,
+    pub words: &'a mut [u32],
+    pub contents: &'a mut [u8],
+    pub state: &'a mut [u32],
+    pub entered: &'a mut [Option<u8>],
+    pub kept: &'a mut [u8],
+    pub ghost ready: { Ready two_widths sizes (desk (volume words.now contents.now state.now) (fills_of entered.now) kept.now) },
 }
 
-// A write, and the cut behind it: recovery alters no flash, so that the flash itself is judged.
-fn write_line(
-    tally: Tally,
-    sizes: Sizes,
-    page: u32,
-    slot: u32,
-    fill: u8,
-    words: &mut [u32],
-    contents: &mut [u8],
-    state: &mut [u32],
-    entered: &mut [u32],
-    kept: &mut [u32],
-) -> Tally
-    requires ready { Ready two_widths sizes (desk (volume words.old contents.old state.old) entered.old kept.old) }
-    requires differ_bound { tally.same + tally.differ + 1 ≤ 4294967295 }
-    ensures leaves { desk (volume words.new contents.new state.new) entered.new kept.new
-        ≡ write_desk two_widths sizes (desk (volume words.old contents.old state.old) entered.old kept.old) page slot fill }
-    ensures counts { result ≡ tallied tally
-        (write_cuts two_widths sizes (desk (volume words.old contents.old state.old) entered.old kept.old) page slot fill) }
-{
-    let no_list = [0u32; 1];
-    let line = Line::Write { page, slot, fill };
-    let Ok(done) = dispatch::call(sizes, line, &no_list, words, contents, state) else {
-        return tally;
-    };
-    ledger::enter(entered, page, fill);
-    ledger::settle(sizes.pages, done == 1, state, entered, kept);
-    let mut cut_state = [0u32; 1024];
-    let s = state.len();
-    tally.count(cutpoint::comes_back(sizes, words, contents, &mut cut_state[0..s], kept))
-}
+impl Desk<'_> {
+    ghost use Rattle.recorded.specs.Held.{desk_of, SameBuffers};
 
-// A line, with its cuts.
-pub fn step(
-    trial: bool,
-    tally: Tally,
-    sizes: Sizes,
-    line: Line,
-    list: &[u32],
-    words: &mut [u32],
-    contents: &mut [u8],
-    state: &mut [u32],
-    entered: &mut [u32],
-    kept: &mut [u32],
-) -> Tally
-    requires ready { Ready two_widths sizes (desk (volume words.old contents.old state.old) entered.old kept.old) }
-    requires list_len { length list.now ≡ 64 }
-    requires differ_bound { tally.same + tally.differ + 64 ≤ 4294967295 }
-    ensures leaves { desk (volume words.new contents.new state.new) entered.new kept.new
-        ≡ desk_after two_widths sizes trial (desk (volume words.old contents.old state.old) entered.old kept.old) (said line list.now) }
-    ensures counts { result ≡ tallied tally
-        (desk_cuts two_widths sizes trial (desk (volume words.old contents.old state.old) entered.old kept.old) (said line list.now)) }
-{
-    match line {
-        Line::Write { page, slot, fill } => write_line(
-            tally, sizes, page, slot, fill, words, contents, state, entered, kept,
-        ),
-        Line::Erase { count } => {
-            let n = count.min(list.len());
-            erase::erase_line(
-                trial,
-                tally,
-                sizes,
-                &list[0..n],
-                words,
-                contents,
-                state,
-                kept,
-            )
-        }
-        _ => {
-            other_line(sizes, line, list, words, contents, state, entered, kept);
-            tally
+    // A line that is neither a write nor an erase: one that may stand in a script alters no flash.
+    fn other_line(&mut self, line: Line, list: &[u32])
+        ensures leaves { desk_of self.new ≡ other_desk two_widths self.old.sizes (desk_of self.old) (said line list.now) }
+        ensures same_sizes { self.new.sizes ≡ self.old.sizes }
+        ensures same_trial { self.new.trial ≡ self.old.trial }
+        ensures same_buffers { SameBuffers self.old self.new }
+    {
+        let state = &mut *self.state;
+        let _ = dispatch::call(self.sizes, line, list, self.words, self.contents, state);
+        ledger::settle(self.sizes.pages, false, state, self.entered, self.kept);
+    }
+
+    // A write, and the cut behind it: recovery alters no flash, so that the flash itself is judged.
+    fn write_line(&mut self, tally: Tally, page: u32, slot: u32, fill: u8) -> Tally
+        requires { tally.same + tally.differ + 1 ≤ 4294967295 }
+        ensures leaves { desk_of self.new ≡ write_desk two_widths self.old.sizes (desk_of self.old) page slot fill }
+        ensures counts { result ≡ tallied tally (write_cuts two_widths self.old.sizes (desk_of self.old) page slot fill) }
+        ensures same_sizes { self.new.sizes ≡ self.old.sizes }
+        ensures same_trial { self.new.trial ≡ self.old.trial }
+        ensures same_buffers { SameBuffers self.old self.new }
+    {
+        let words = &mut *self.words;
+        let contents = &mut *self.contents;
+        let state = &mut *self.state;
+        let kept = &mut *self.kept;
+        let no_list = [0u32; 1];
+        let line = Line::Write { page, slot, fill };
+        let Ok(done) = dispatch::call(self.sizes, line, &no_list, words, contents, state) else {
+            return tally;
+        };
+        ledger::enter(self.entered, page, fill);
+        ledger::settle(self.sizes.pages, done == 1, state, self.entered, kept);
+        let mut cut_state = [0u32; 1024];
+        let s = state.len();
+        tally.count(cutpoint::comes_back(self.sizes, words, contents, &mut cut_state[0..s], kept))
+    }
+
+    // A line, with its cuts.
+    pub fn step(&mut self, tally: Tally, line: Line, list: &[u32]) -> Tally
+        requires list_len { length list.now ≡ 64 }
+        requires differ_bound { tally.same + tally.differ + 64 ≤ 4294967295 }
+        ensures leaves { desk_of self.new ≡ desk_after two_widths self.old.sizes self.old.trial (desk_of self.old) (said line list.now) }
+        ensures counts { result ≡ tallied tally (desk_cuts two_widths self.old.sizes self.old.trial (desk_of self.old) (said line list.now)) }
+        ensures same_sizes { self.new.sizes ≡ self.old.sizes }
+        ensures same_trial { self.new.trial ≡ self.old.trial }
+        ensures same_buffers { SameBuffers self.old self.new }
+    {
+        match line {
+            Line::Write { page, slot, fill } => self.write_line(tally, page, slot, fill),
+            Line::Erase { count } => {
+                let n = count.min(list.len());
+                self.erase_line(tally, &list[0..n])
+            }
+            _ => {
+                self.other_line(line, list);
+                tally
+            }
         }
     }
 }

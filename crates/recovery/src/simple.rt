@@ -8,6 +8,7 @@ ghost use Rattle.rules.specs.SimpleCalls.{simple_recover_outcome};
 use super::recover_sound;
 use outcome::Refusal;
 use sizes::{Layout, Sizes};
+use table::SoundTable;
 
 // Kept: beside the other recover, from which its tests of size and of equal versions differ; what both do then is `recover_sound`.
 // Recover; "two records of equal page and version always give 3".
@@ -24,5 +25,10 @@ pub fn recover(sizes: Sizes, words: &[u32], state: &mut [u32]) -> Result<u32, Re
     if conflict::some_clash(Layout::FourWords, sizes.slots, words, &mut chains) {
         return Err(Refusal::RecordsClash);
     }
-    recover_sound(Layout::FourWords, sizes, words, &mut chains, state)
+    let table = SoundTable {
+        layout: Layout::FourWords,
+        sizes,
+        words,
+    };
+    recover_sound(&table, &mut chains, state)
 }

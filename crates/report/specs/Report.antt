@@ -20,9 +20,9 @@ pub record Standing : Type 0 where
 unfoldable pub standing : Run → Volume → Standing
 standing run memory = record { sizes = run.sizes; memory = memory; over = run.over }
 
--- The run before its first byte: no volume "before a format has answered 0", nothing printed, nothing held, and not ended.
+-- The run before its first byte: no volume "before a format has answered 0", and not ended.
 abbrev pub start_run : Run
-start_run = record { sizes = sizes_of 0 0 0; at = 0; held = 0; over = false }
+start_run = record { sizes = sizes_of 0 0 0; over = false }
 
 -- One line carried out: the bytes that it prints and where it leaves the run.
 pub record Turn : Type 0 where

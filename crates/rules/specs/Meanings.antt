@@ -19,7 +19,6 @@ use Rattle.state.specs.StateLaws.{StateFacts}
 use Rattle.table.specs.Table.{table_sound, highest, highest_version_of, used_of}
 use Rattle.twins.specs.Twins.{twins}
 use Rattle.twins.specs.TwinsLaws.{Twins}
-use Rattle.follow.specs.declared.Verdict.{Verdict}
 use Rattle.follow.specs.declared.Verdict.TheVariants as says
 use Rattle.rules.specs.Volume.{Volume, volume_fits_in}
 use Rattle.rules.specs.Permission.{scene, is_needed, may_erase}

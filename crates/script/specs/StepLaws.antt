@@ -10,6 +10,7 @@ use Rattle.std.specs.Result.{result_unwrap_or}
 use Rattle.outcome.specs.declared.Refusal.{Refusal}
 use Rattle.outcome.specs.Result.{answer_of, outcome_by}
 use Rattle.sizes.specs.declared.Sizes.{Sizes}
+use Rattle.text.specs.declared.print.Printout.{Printout}
 use Rattle.line.specs.Line.{Said, on_format}
 use Rattle.rules.specs.Volume.{Volume, volume}
 use Rattle.rules.specs.Format.{format_answer}
@@ -23,11 +24,11 @@ use Rattle.script.specs.Memory.{in_use, volume_back}
 use Rattle.script.specs.MemoryLaws.{volume_same, volume_lent, volume_put}
 use Rattle.script.specs.Script.{volume_turn, sizes_for, in_front, line_turn, is_format, is_early, turn}
 
-module _ (run s : Run) (m : Volume) (out out₁ : List ℕ) where
+module _ (run s : Run) (m : Volume) (out out₁ : Printout) where
   -- a line's call, and what is said of it
   pub went_volume :
       (widths : Widths) (z : Sizes) (says : Said) (given : Result ℕ Refusal) (m₁ : Volume) → outcome_by 0 given m₁ ≡ line_outcome widths z m says
-      → Went run s m₁ out out₁ (told widths (standing run m₁) says (answer_of given) (result_unwrap_or given 0)) → Went run s m₁ out out₁ (volume_turn widths z (standing run m) says)
+      → Went s m₁ out out₁ (told widths (standing run m₁) says (answer_of given) (result_unwrap_or given 0)) → Went s m₁ out out₁ (volume_turn widths z (standing run m) says)
   unfolding volume_turn with_memory standing
   went_volume widths z says (Ok second) m₁ e h = rw (← e) h
   went_volume widths z says (Err refusal) m₁ e h = rw (← e) h
@@ -36,9 +37,9 @@ module _ (run s : Run) (m : Volume) (out out₁ : List ℕ) where
   pub went_in_front :
       (widths : Widths) (z : Sizes) (says : Said) (kw kb ks : ℕ) (words contents state : List ℕ)
       → kw ≡ min (5 * z.slots) (length m.flash.words) → kb ≡ min (z.width * z.slots) (length m.flash.contents) → ks ≡ min (4 * z.pages) (length m.state)
-      → Went run s (volume words contents state) out out₁
+      → Went s (volume words contents state) out out₁
       (volume_turn widths z (standing run (volume (take (kw - 0) (drop 0 m.flash.words)) (take (kb - 0) (drop 0 m.flash.contents)) (take (ks - 0) (drop 0 m.state)))) says)
-      → Went run s (volume (put_mid 0 (kw - 0) m.flash.words words) (put_mid 0 (kb - 0) m.flash.contents contents) (put_mid 0 (ks - 0) m.state state)) out out₁
+      → Went s (volume (put_mid 0 (kw - 0) m.flash.words words) (put_mid 0 (kb - 0) m.flash.contents contents) (put_mid 0 (ks - 0) m.state state)) out out₁
       (in_front widths z (standing run m) says)
   unfolding in_front with_memory standing
   went_in_front widths z says kw kb ks words contents state ew eb es h =
@@ -85,21 +86,21 @@ module _ (widths : Widths) (s : Standing) (says : Said) where
   unfolding turn
   line_turned o = in_time_turned ∙ sym (ap (λ (over : Bool). cond over (idle_turn s) (cond (is_early s.sizes.pages says) (refused_turn s) (line_turn widths s says))) o)
 
-module _ (widths : Widths) (run : Run) (m : Volume) (out : List ℕ) (says : Said) where
-  pub went_over : run.over ≡ true → Went run run m out out (turn widths (standing run m) says)
+module _ (widths : Widths) (run : Run) (m : Volume) (out : Printout) (says : Said) where
+  pub went_over : run.over ≡ true → Went run m out out (turn widths (standing run m) says)
   unfolding standing
   went_over o = rw (over_turned widths (standing run m) says o) (went_idle run m out)
 
   pub went_line :
-      (s : Run) (m₁ : Volume) (out₁ : List ℕ) (z : Sizes) (timely : Said) → run.over ≡ false → timely ≡ in_time run.sizes.pages says → z ≡ sizes_for (standing run m) timely
-      → Went run s m₁ out out₁ (in_front widths z (standing run m) timely) → Went run s m₁ out out₁ (turn widths (standing run m) says)
+      (s : Run) (m₁ : Volume) (out₁ : Printout) (z : Sizes) (timely : Said) → run.over ≡ false → timely ≡ in_time run.sizes.pages says → z ≡ sizes_for (standing run m) timely
+      → Went s m₁ out out₁ (in_front widths z (standing run m) timely) → Went s m₁ out out₁ (turn widths (standing run m) says)
   unfolding standing line_turn
   went_line s m₁ out₁ z timely o et ez h = rw (← line_turned widths (standing run m) says o, ← et, ← ez) h
 
   -- a malformed one, or one that comes too early
   pub went_malformed :
-      (s : Run) (out₁ : List ℕ) → run.over ≡ false → Said.Malformed ≡ in_time run.sizes.pages says
-      → Went run s m out out₁ (refused_turn (standing run m)) → Went run s m out out₁ (turn widths (standing run m) says)
+      (s : Run) (out₁ : Printout) → run.over ≡ false → Said.Malformed ≡ in_time run.sizes.pages says
+      → Went s m out out₁ (refused_turn (standing run m)) → Went s m out out₁ (turn widths (standing run m) says)
   unfolding standing
   went_malformed s out₁ o et h =
       rw (← line_turned widths (standing run m) says o, ← et, malformed_turned widths (standing run m) says) h

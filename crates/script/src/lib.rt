@@ -3,19 +3,21 @@
 
 ghost use Rattle.std.specs.Prelude.{ℕ, ◌≡◌, List};
 ghost use Rattle.bounded.specs.Limits.{two_widths};
-ghost use Rattle.text.specs.Print.{shown, added};
+ghost use Rattle.text.specs.Puts.{Puts};
 ghost use Rattle.line.specs.Line.{said, said_of};
 ghost use Rattle.rules.specs.Volume.{Volume, volume};
 ghost use Rattle.report.specs.Report.{standing};
 ghost use Rattle.script.specs.Script.{volume_turn, sizes_for, turn};
 ghost use Rattle.script.specs.StepLaws.{in_time};
-ghost use Rattle.script.specs.Held.{memory_of};
+ghost use Rattle.script.specs.Held.{memory_of, SameBuffers};
 
 use line::Line;
 use report::Run;
 use sizes::Sizes;
+use text::print::Printout;
 
 // A line carried out on a volume of its sizes.
+// Kept: its buffers one by one, since `step` with a `Memory` of the fronts of another one's buffers is not covered by the borrow checker yet.
 fn volume_step(
     run: Run,
     sizes: Sizes,
@@ -24,13 +26,12 @@ fn volume_step(
     words: &mut [u32],
     contents: &mut [u8],
     state: &mut [u32],
-    out: &mut [u8],
+    out: &mut Printout,
 ) -> Run
     ensures stands { standing result (volume words.new contents.new state.new)
         ≡ (volume_turn two_widths sizes (standing run (volume words.old contents.old state.old)) (said line list.now)).leaves }
-    ensures prints { shown out.new result.at ≡ added out.old run.at
+    ensures prints { Puts out.old out.new
         (volume_turn two_widths sizes (standing run (volume words.old contents.old state.old)) (said line list.now)).prints }
-    ensures holds { result.held ≡ run.held }
 {
     let given = dispatch::call(sizes, line, list, words, contents, state);
     report::tell(run, line, words, contents, state, out, given)
@@ -64,12 +65,18 @@ pub struct Memory<'a> {
 
 // One line carried out, unless the run is over: it works on the front of memory that a volume of its sizes has. A buffer that lacks it has the wrong
 // length, which the call refuses.
-pub fn step(run: Run, line: Option<Line>, list: &[u32], memory: &mut Memory, out: &mut [u8]) -> Run
+pub fn step(
+    run: Run,
+    line: Option<Line>,
+    list: &[u32],
+    memory: &mut Memory,
+    out: &mut Printout,
+) -> Run
     ensures stands { standing result (memory_of memory.new)
         ≡ (turn two_widths (standing run (memory_of memory.old)) (said_of line list.now)).leaves }
-    ensures prints { shown out.new result.at ≡ added out.old run.at
+    ensures prints { Puts out.old out.new
         (turn two_widths (standing run (memory_of memory.old)) (said_of line list.now)).prints }
-    ensures holds { result.held ≡ run.held }
+    ensures same_buffers { SameBuffers memory.old memory.new }
 {
     if run.over {
         return run;

@@ -8,8 +8,20 @@ ghost use Rattle.std.specs.Prelude.{◌≡◌, ◌&&◌, ◌≤◌};
 ghost use Rattle.bounded.specs.Limits.{two_widths};
 ghost use Rattle.sizes.specs.Sizes.{sizes_ok, stride_of, words_fit_in, contents_fit, state_fits, list_ok};
 
+// The most pages, and the most slots, that a volume has.
+pub const MAX_PAGES: u32 = 256;
+
+pub const MAX_SLOTS: u32 = 1024;
+
 // The largest width: the most bytes of contents that a slot has.
 pub const MAX_WIDTH: usize = 64;
+
+// The lengths of the largest volume's buffers: words, contents and state.
+pub const MAX_WORDS: usize = 5120;
+
+pub const MAX_CONTENTS: usize = 65536;
+
+pub const MAX_STATE: usize = 1024;
 
 // "4,294,967,295": a word of a blank slot, not in flight, no slot.
 pub const NO_NUMBER: u32 = 4294967295;
@@ -64,9 +76,9 @@ impl Sizes {
         ensures { result ≡ sizes_ok two_widths self }
     {
         1 <= self.pages
-            && self.pages <= 256
+            && self.pages <= MAX_PAGES
             && self.pages <= self.slots
-            && self.slots <= 1024
+            && self.slots <= MAX_SLOTS
             && width_ok(self.width as usize)
     }
 }
@@ -94,6 +106,8 @@ pub fn state_fits(pages: u32, state: &[u32]) -> bool
     state.len() == 4 * (pages as usize)
 }
 
+// Kept: apart from the three, for each is what a call tests that is lent no contents, so that it has no whole volume to judge.
+
 // P, S, the width and the length of the state are right.
 pub fn state_ok(sizes: Sizes, state: &[u32]) -> bool
     ensures { result ≡ (sizes_ok two_widths sizes && state_fits sizes.pages state.now) }
@@ -117,7 +131,7 @@ pub fn list_ok(bound: u32, list: &[u32]) -> bool
     if list.is_empty() {
         return false;
     }
-    let mut marks = [0u8; 1024];
+    let mut marks = [0u8; MAX_SLOTS as usize];
     for &entry in list {
         if entry >= bound || marks[entry as usize] != 0 {
             return false;

@@ -1,11 +1,10 @@
 -- The words of a state and the state are the same thing; and what a sound state is, as facts.
-use Rattle.std.specs.Prelude.{ℕ, ◌+◌, ◌*◌, ◌≤◌, ◌<◌, ◌≡◌, refl, ◌⊎◌, ◌↔◌, List, [], ◌∷◌, Bool, true, ◌&&◌, ◌||◌, ltb, leb, eqb, length, get_or, take, drop, set}
-use Rattle.std.proofs.Common.{add-zero, add-one, sym, ap, ◌∙◌, subst, inl, inr, append_assoc}
-use Rattle.std.proofs.Math.Numerals.{add-two, add-three}
+use Rattle.std.specs.Prelude.{ℕ, ◌+◌, ◌*◌, ◌-◌, ◌≤◌, ◌<◌, ◌≡◌, refl, ◌⊎◌, ◌↔◌, List, [], ◌∷◌, Bool, true, ◌&&◌, ◌||◌, ltb, leb, eqb, length, get_or}
+use Rattle.std.proofs.Common.{add-zero, sym, ap, ◌∙◌, subst, inl, inr}
 use native.Mathlib.Omega.{arith}
 use Rattle.std.proofs.Math.Path.{fun_ext}
 use Rattle.std.proofs.Math.Bool.{false, not}
-use Rattle.std.proofs.lemmas.List.Edits.{sets-eq}
+use borrow.Rule.Slice.PartMut.{put_mid, Post-is}
 use borrow.Author.Tests.{ltb-true, leb-true, eqb-true, lt-ltb, le-leb, eq-eqb, ne_eqb, not-true}
 use Rattle.bounded.specs.Limits.{no_number, highest_version}
 use Rattle.bounded.specs.Choice.{on_lt, on_eq, on_test, never, both, both_left, both_right, either, either_left, either_right, not_yes, not_no}
@@ -64,10 +63,10 @@ unfolding state_at page_of
 state_at_reads words p =
     rw (part_at 4 p words 0 0 (omega arith), part_at 4 p words 1 0 (omega arith), part_at 4 p words 2 0 (omega arith), part_at 4 p words 3 0 (omega arith), add-zero)
 
--- four stores from 4p on write page p
-pub sets_put : (words : List ℕ) (p : ℕ) (s : PageState) → 4 * p + 4 ≤ length words → set (set (set (set words (4 * p) s.committed) (4 * p + 1) s.used) (4 * p + 2) s.next) (4 * p + 3) s.written ≡ put_part 4 p (page_words s) words
+-- a page's words lent as `&mut words[4p..4p + 4]`, and given back as those of s
+pub page_stored : (words ys : List ℕ) (p : ℕ) (s : PageState) → ys ≡ page_words s → put_mid (4 * p) (4 * p + 4 - 4 * p) words ys ≡ put_part 4 p (page_words s) words
 unfolding put_part put_at page_words
-sets_put words p s h = rw (add-one (4 * p), add-two (4 * p), add-three (4 * p)) (sets-eq (page_words s) words (4 * p) h ∙ append_assoc (take (4 * p) words) (page_words s) (drop (4 * p + 4) words))
+page_stored words ys p s e = rw (Post-is (4 * p) (4 * p + 4) words (omega arith), e)
 
 -- ---- one page stored
 

@@ -14,7 +14,8 @@ ghost use Rattle.state.specs.Walk.{ended_page};
 
 // One page's words: "the last committed version, the last used version, the next page in its current ring
 // (4,294,967,295: not in flight), and written (0 or 1)".
-// Kept: four words as C lends them, any 32 bits each: a state that is not sound has others in `next` and `written`.
+// Kept: `next` a number, for `page_words`, `in_flight` and C's words name a number for none: an Option would be turned back at each end.
+// Kept: `written` a word, for C lends any 32 bits, and a state is unsound where they are neither 0 nor 1.
 #[derive(Clone, Copy)]
 pub struct PageState {
     pub committed: u32,
@@ -24,6 +25,7 @@ pub struct PageState {
 }
 
 // The state of a page.
+// Kept: by places, for a slice's pattern needs an arm for other lengths, which never runs.
 pub fn page_at(state: &[u32], page: u32) -> PageState
     requires { 4 * page + 4 ≤ length state.now }
     ensures { result ≡ state_at state.now page }
@@ -43,10 +45,7 @@ pub fn put_page(state: &mut [u32], page: u32, s: PageState)
     ensures { state.new ≡ put_part 4 page (page_words s) state.old }
 {
     let at = 4 * page as usize;
-    state[at] = s.committed;
-    state[at + 1] = s.used;
-    state[at + 2] = s.next;
-    state[at + 3] = s.written;
+    state[at..at + 4].copy_from_slice(&[s.committed, s.used, s.next, s.written]);
 }
 
 impl PageState {
@@ -102,6 +101,7 @@ impl PageState {
     }
 
     // Out of flight, written 0; with committed = used where the cycle commits.
+    // Kept: `commits` a bool, as the definition `ended_page` has it: an enum of two would be turned back there.
     pub fn ended(self, commits: bool) -> PageState
         ensures { result ≡ ended_page commits self }
     {

@@ -2,61 +2,38 @@
 
 #![tactic(auto)]
 
-use report::Run;
-use script::Memory;
+use feed::Script;
 use std::io::Write;
 
 // Output that waits is written once it goes past this place. The longest output of one line, a list of 256 pages, fits behind it.
 const ENOUGH: usize = 40000;
 
-// Output that goes past `limit` is written.
-pub fn flushed<W: Write>(run: Run, out: &[u8], limit: usize, to: &mut W) -> Run {
-    if run.at <= limit {
-        return run;
+// Output that goes past `limit` is written; where it cannot be, the run ends.
+pub fn flushed<W: Write>(script: &mut Script, limit: usize, to: &mut W) {
+    if script.out.at <= limit {
+        return;
     }
-    match out.get(..run.at) {
-        Some(text) if to.write_all(text).is_ok() => run.printed(0),
-        _ => run.ended(0),
+    if to.write_all(script.out.text()).is_err() {
+        script.run = script.run.ended();
     }
+    script.out.at = 0;
 }
 
-// A byte of the script, and the output that is enough written.
-fn fed<W: Write>(
-    run: Run,
-    byte: u8,
-    line: &mut [u8],
-    memory: &mut Memory,
-    out: &mut [u8],
-    to: &mut W,
-) -> Run {
-    let next = feed::feed(run, byte, line, memory, out);
-    flushed(next, out, ENOUGH, to)
-}
-
-// Bytes of the script, up to the line that ends the run.
-pub fn pass<W: Write>(
-    run: Run,
-    bytes: &[u8],
-    line: &mut [u8],
-    memory: &mut Memory,
-    out: &mut [u8],
-    to: &mut W,
-) -> Run {
-    let mut now = run;
+// Bytes of the script, up to the line that ends the run; output that is enough is written behind each.
+pub fn pass<W: Write>(script: &mut Script, bytes: &[u8], to: &mut W) {
     for &byte in bytes {
-        if now.over {
-            return now;
+        if script.run.over {
+            return;
         }
-        now = fed(now, byte, line, memory, out, to);
+        feed::feed(script, byte);
+        flushed(script, ENOUGH, to);
     }
-    now
 }
 
 // The end of the input: a last line may lack its line end.
-pub fn finish(run: Run, line: &mut [u8], memory: &mut Memory, out: &mut [u8]) -> Run {
-    if run.held < 1 {
-        return run.ended(run.at);
+pub fn finish(script: &mut Script) {
+    if script.line.at > 0 {
+        feed::end_line(script);
     }
-    let last = feed::end_line(run, line, memory, out);
-    last.ended(last.at)
+    script.run = script.run.ended();
 }

@@ -90,10 +90,6 @@ module _ (sizes : Sizes) (words contents state : List ℕ) where
 -- ---- the answer
 
 -- conditions 1, 2 and 5, and no other
-pub answer_judged :
-    (widths : Widths) (sizes : Sizes) (v : Volume) {n : ℕ} {fits : Bool}
-    → fits ≡ volume_fits widths sizes v
-    → n ≡ judged fits sizes.pages sizes.slots v.flash.words v.state
-    → n ≡ sweep_answer widths sizes v
+pub answer_judged : (widths : Widths) (sizes : Sizes) (v : Volume) {n : ℕ} → n ≡ judged (volume_fits widths sizes v) sizes.pages sizes.slots v.flash.words v.state → n ≡ sweep_answer widths sizes v
 unfolding sweep_answer judged_in
-answer_judged widths sizes v same said = said ∙ ap (λ (b : Bool). judged b sizes.pages sizes.slots v.flash.words v.state) same
+answer_judged widths sizes v said = said

@@ -22,6 +22,7 @@ ghost use Rattle.judge.specs.Judgeable.{SoundFlash};
 use noted::Slots;
 use outcome::Refusal;
 use sizes::{Layout, Sizes};
+use volume::Volume;
 
 // Kept: three functions, since each finds its list by another call with other buffers.
 
@@ -104,8 +105,8 @@ pub fn sweep(
     ensures { ends result (flash words.new contents.new)
         ≡ sweep_outcome two_widths sizes (volume words.old contents.old state.now) }
 {
-    let fits = volume::volume_fits(Layout::FiveWords, sizes, words, contents, state);
-    volume::judged(Layout::FiveWords, fits, sizes, words, state)?;
+    let volume = Volume::new(Layout::FiveWords, sizes, words, contents, state);
+    volume.judged()?;
     sweep_flash(sizes, words, contents, state);
     Ok(())
 }

@@ -1,12 +1,13 @@
 -- The slot of a page's highest record, as a number. "No slot" is a number too, the table's count of slots.
 use Prim.Native.Nat.{ℕ, zero, suc, ◌+◌, ◌≤◌, ◌<◌}
-use Rattle.std.proofs.Common.{arith, add-one, sym, ap, ◌∙◌, subst, lt-ltb, le-ltb, ltb-true, eq-eqb, ne_eqb}
-use Rattle.std.specs.Prelude.{◌≡◌, ◌⊎◌, List, Bool, true, false, ltb, get_or, set}
+use Rattle.std.proofs.Common.{arith, add-one, sym, ap, ◌∙◌, subst, lt-ltb, le-ltb, ltb-true, eq-eqb, ne_eqb, length-set, get_or-set_same, get_or-set_other}
+use Rattle.std.proofs.lemmas.List.{length-replicate, get_or-replicate, get_or_past}
+use Rattle.std.proofs.lemmas.Option.{none-some}
+use Rattle.std.specs.Prelude.{◌≡◌, ◌⊎◌, List, Bool, true, false, ltb, is_some, get_or, set, replicate, Option}
 use Rattle.std.proofs.Math.Path.{refl}
 use Rattle.std.proofs.Math.Logic.{inl, inr}
 use Rattle.bounded.specs.Limits.{no_number}
 use Rattle.bounded.specs.Choice.{on_lt, on_eq, on_test, same_test}
-use Rattle.bounded.specs.Tabulate.{tabulate, tabulate_at, tabulate_cong, set_tabulate}
 use Rattle.record.specs.declared.Record.{Record}
 use Rattle.record.specs.Slot.{Slot}
 use Rattle.std.specs.Prelude.{None, Some}
@@ -14,7 +15,7 @@ use Rattle.record.specs.Slot.{holds}
 use Rattle.record.specs.SlotLaws.{sound_facts, holds_exactly}
 use Rattle.table.specs.Table.{table_sound, of_page, above, better, raised, highest, has_record}
 use Rattle.table.proofs.TableLaws.{blank_holds, sound_at, highest_is, highest_held, highest_page, highest_exists}
-use Rattle.table.specs.HighestSlot.{named, highest_slot}
+use Rattle.table.specs.HighestSlot.{named, highest_slot, entry_of, HighestBelow}
 
 pub named_slot : (S : ℕ) (t : ℕ → Slot) (k : ℕ) → k < S → named S t k ≡ t k
 unfolding named
@@ -106,9 +107,26 @@ no_page_blank P S t k sound h m f = by (t k) refl
         let n = f r e in
         absurd (omega arith)
 
--- ---- the table of all pages' highest slots, one slot more
+-- ---- the table of all pages' highest slots
 
-module _ (S : ℕ) (t : ℕ → Slot) (n k : ℕ) where
+-- no slot is looked at yet
+pub none_below : (S : ℕ) (t : ℕ → Slot) → HighestBelow S 0 t (replicate 256 None)
+unfolding highest_slot
+none_below S t = record {
+  sized = length-replicate {A = Option ℕ} 256 None;
+  entry = λ p h. ap (entry_of S) (get_or-replicate 256 p None None h);
+  inside = λ p k e. absurd (on_lt p 256
+      (λ h. none-some k (sym (get_or-replicate 256 p None None h) ∙ e))
+      (λ h. none-some k (sym (get_or_past (replicate 256 None) p None (let l = length-replicate {A = Option ℕ} 256 None in omega arith)) ∙ e)));
+}
+
+module _ (S : ℕ) (t : ℕ → Slot) (k : ℕ) (top : List (Option ℕ)) (b : HighestBelow S k t top) where
+  -- the entry of page p names p's highest record
+  pub highest_read : k ≤ S → (p : ℕ) → p < 256 → named S t (entry_of S (get_or top p None)) ≡ highest k t p
+  highest_read l p h = ap (named S t) (b.entry p h) ∙ highest_named S t p k l
+
+  -- ---- one slot more
+
   -- a record that is not above its page's highest changes nothing
   other_page : (p : ℕ) (r : Record) → ¬ (r.p ≡ p) → better p (highest k t p) r ≡ false
   unfolding better of_page
@@ -118,25 +136,38 @@ module _ (S : ℕ) (t : ℕ → Slot) (n k : ℕ) where
   unfolding better of_page
   own_page p r {b} e h = rw (eq-eqb r.p p e) (subst (λ (x : ℕ). above (highest k t x) r ≡ b) e h)
 
-  pub highest_blank : t k ≡ None → tabulate n (highest_slot S k t) ≡ tabulate n (highest_slot S (k + 1) t)
-  highest_blank e =
-      tabulate_cong n (highest_slot S k t) (highest_slot S (k + 1) t) (λ p h. sym (highest_slot_blank S t p k e))
+  pub highest_blank : t k ≡ None → HighestBelow S (k + 1) t top
+  highest_blank e = record { sized = b.sized; entry = λ p h. b.entry p h ∙ sym (highest_slot_blank S t p k e); inside = b.inside }
 
-  pub highest_kept : (r : Record) → t k ≡ Some r → above (highest k t r.p) r ≡ false → tabulate n (highest_slot S k t) ≡ tabulate n (highest_slot S (k + 1) t)
-  highest_kept r e a =
-      tabulate_cong n (highest_slot S k t) (highest_slot S (k + 1) t)
-      (λ p h. sym (highest_slot_stays S t p k e (on_eq r.p p (λ q. own_page p r q a) (λ d. other_page p r d))))
+  pub highest_kept : (r : Record) → t k ≡ Some r → above (highest k t r.p) r ≡ false → HighestBelow S (k + 1) t top
+  highest_kept r e a = record {
+    sized = b.sized;
+    entry = λ p h. b.entry p h ∙ sym (highest_slot_stays S t p k e (on_eq r.p p (λ q. own_page p r q a) (λ d. other_page p r d)));
+    inside = b.inside;
+  }
 
   -- a record that is above its page's highest takes its place
-  pub highest_raised : (r : Record) → t k ≡ Some r → r.p < n → above (highest k t r.p) r ≡ true → set (tabulate n (highest_slot S k t)) r.p k ≡ tabulate n (highest_slot S (k + 1) t)
-  highest_raised r e h a =
-      set_tabulate n r.p k (highest_slot S k t) (highest_slot S (k + 1) t) h
-      (sym (highest_slot_taken S t r.p k e (own_page r.p r refl a)))
-      (λ p b d. sym (highest_slot_stays S t p k e (other_page p r (λ q. d (sym q)))))
+  pub highest_raised : (r : Record) → t k ≡ Some r → k < S → r.p < 256 → above (highest k t r.p) r ≡ true → HighestBelow S (k + 1) t (set top r.p (Some k))
+  highest_raised r e l h a = record {
+    sized = length-set top r.p (Some k) ∙ b.sized;
+    entry = λ p q. on_eq p r.p
+        (λ i. ap (entry_of S) (at_page p i) ∙ sym (highest_slot_taken S t p k e (own_page p r (sym i) a)))
+        (λ d. ap (entry_of S) (get_or-set_other top r.p p (Some k) None d) ∙ b.entry p q ∙ sym (highest_slot_stays S t p k e (other_page p r (λ i. d (sym i)))));
+    inside = λ p j q. on_eq p r.p
+        (λ i. subst (λ (x : ℕ). x < S) (ap (entry_of S) (sym (at_page p i) ∙ q)) l)
+        (λ d. b.inside p j (sym (get_or-set_other top r.p p (Some k) None d) ∙ q));
+  }
+    where
+      at_page : (p : ℕ) → p ≡ r.p → get_or (set top r.p (Some k)) p None ≡ Some k
+      at_page p i = ap (λ (x : ℕ). get_or (set top r.p (Some k)) x None) i ∙ get_or-set_same top r.p (Some k) None (let z = b.sized in omega arith)
 
--- the entry of page p in that table names p's highest record
-pub highest_read : (S : ℕ) (t : ℕ → Slot) (n k p : ℕ) (top : List ℕ) → p < n → k ≤ S → top ≡ tabulate n (highest_slot S k t) → named S t (get_or top p 0) ≡ highest k t p
-highest_read S t n k p top h l e =
-    ap (λ (x : List ℕ). named S t (get_or x p 0)) e
-    ∙ ap (named S t) (tabulate_at n (highest_slot S k t) p h)
-    ∙ highest_named S t p k l
+-- "a page with no record": exactly where its entry is none
+pub has_entry : (S : ℕ) (t : ℕ → Slot) (top : List (Option ℕ)) → HighestBelow S S t top → (p : ℕ) → p < 256 → is_some (get_or top p None) ≡ has_record S t p
+has_entry S t top b p h = by (get_or top p None) refl
+  where
+    by : (e : Option ℕ) → get_or top p None ≡ e → is_some e ≡ has_record S t p
+    by None e = let n = sym (b.entry p h) ∙ ap (entry_of S) e in sym (highest_slot_exists S t p ∙ le-ltb _ _ (omega arith))
+    by (Some k) e =
+        let n = sym (b.entry p h) ∙ ap (entry_of S) e in
+        let i = b.inside p k e in
+        sym (highest_slot_exists S t p ∙ lt-ltb _ _ (omega arith))

@@ -1,12 +1,11 @@
 // The used versions of all pages, in one pass over the slots.
 
-ghost use Rattle.std.specs.Prelude.{◌≡◌, true, ◌+◌, ◌*◌, ◌≤◌, ◌<◌, max, length, get_or, set};
+ghost use Rattle.std.specs.Prelude.{◌≡◌, ◌+◌, ◌<◌, max, get_or, set};
 ghost use Rattle.bounded.specs.Tabulate.{tabulate};
 ghost use Rattle.record.specs.Slot.{slot_in};
-ghost use Rattle.sizes.specs.Sizes.{stride_of};
-ghost use Rattle.table.specs.Table.{table_sound, used_of};
+ghost use Rattle.table.specs.Table.{used_of};
 
-use sizes::{Layout, Sizes};
+use super::SoundTable;
 
 // The page's entry becomes at least the version.
 fn raise_entry(used: &mut [u32; 256], page: u32, version: u32)
@@ -17,34 +16,27 @@ fn raise_entry(used: &mut [u32; 256], page: u32, version: u32)
     used[p] = used[p].max(version);
 }
 
-// What slot k mentions: v for its page, nv for its next page.
-fn raise_mentioned(layout: Layout, sizes: Sizes, words: &[u32], k: u32, used: &mut [u32; 256])
-    requires slots_in_bounds { stride_of layout * sizes.slots ≤ length words.now }
-    requires pages_bound { sizes.pages ≤ 256 }
-    requires k_lt_slots { k < sizes.slots }
-    requires words_value { table_sound sizes.pages sizes.slots (slot_in layout words.now) ≡ true }
-    requires used_value { used.old ≡ tabulate 256 (used_of k (slot_in layout words.now)) }
-    ensures { used.new ≡ tabulate 256 (used_of (k + 1) (slot_in layout words.now)) }
-{
-    if super::names_no_page(layout, words, k) {
-        return;
+impl SoundTable<'_> {
+    // What slot k mentions: v for its page, nv for its next page.
+    fn raise_mentioned(&self, k: u32, used: &mut [u32; 256])
+        requires k_lt_slots { k < self.now.sizes.slots }
+        requires used_value { used.old ≡ tabulate 256 (used_of k (slot_in self.now.layout self.now.words.now)) }
+        ensures { used.new ≡ tabulate 256 (used_of (k + 1) (slot_in self.now.layout self.now.words.now)) }
+    {
+        let Some(record) = self.held_slot(k) else {
+            return;
+        };
+        raise_entry(used, record.p, record.v);
+        raise_entry(used, record.np, record.nv);
     }
-    let Some(record) = record::slot_in(layout, words, k) else {
-        return;
-    };
-    raise_entry(used, record.p, record.v);
-    raise_entry(used, record.np, record.nv);
-}
 
-// "Used = the highest of all v with that p and all nv with that np": of all pages, in one pass over the slots.
-pub fn used_versions(layout: Layout, sizes: Sizes, words: &[u32], used: &mut [u32; 256])
-    requires slots_in_bounds { stride_of layout * sizes.slots ≤ length words.now }
-    requires pages_bound { sizes.pages ≤ 256 }
-    requires words_value { table_sound sizes.pages sizes.slots (slot_in layout words.now) ≡ true }
-    ensures { used.new ≡ tabulate 256 (used_of sizes.slots (slot_in layout words.now)) }
-{
-    *used = [0; 256];
-    for k in 0..sizes.slots {
-        raise_mentioned(layout, sizes, words, k, used);
+    // "Used = the highest of all v with that p and all nv with that np": of all pages, in one pass over the slots.
+    pub fn used_versions(&self, used: &mut [u32; 256])
+        ensures { used.new ≡ tabulate 256 (used_of self.now.sizes.slots (slot_in self.now.layout self.now.words.now)) }
+    {
+        *used = [0; 256];
+        for k in 0..self.sizes.slots {
+            self.raise_mentioned(k, used);
+        }
     }
 }

@@ -31,7 +31,7 @@ fn digits_of(digits: &mut [u8], n: u32) -> usize
     0
 }
 
-// What is printed: the buffer that is lent for it, and the place behind what is put into it.
+// Text that is put into a buffer lent for it, and the place behind it: what is printed, or a line that has not ended.
 #[derive(Drop)]
 pub struct Printout<'a> {
     pub out: &'a mut [u8],
@@ -46,6 +46,14 @@ impl<'a> Printout<'a> {
         ensures place { result.at ≡ at }
     {
         Printout { out, at }
+    }
+
+    // What is put so far.
+    pub fn text(&self) -> &[u8]
+        ensures { result.now ≡ shown self.now.out.now self.now.at }
+    {
+        let n = self.at.min(self.out.len());
+        &self.out[0..n]
     }
 
     // A byte.

@@ -15,6 +15,7 @@ pub fn number(text: &[u8]) -> Option<(u32, &[u8])>
 {
     let mut value = 0;
     let mut rest = text;
+    // Kept: a while along what is left, which is part of the result.
     while let [byte @ b'0'..=b'9', more @ ..] = rest {
         value = grown(value, *byte - b'0')?;
         rest = more;

@@ -3,6 +3,7 @@ use Rattle.std.specs.Prelude.{ℕ, ◌<◌, ◌≡◌, refl, ◌↔◌, List, tr
 use Rattle.std.proofs.Common.{arith, sym, ap, ◌∙◌, ext_get_or, eqb-true, eq-eqb}
 use Rattle.std.proofs.Math.Bool.{not}
 use Rattle.std.proofs.lemmas.Bool.{false≢true}
+use Rattle.std.proofs.lemmas.Option.{same_Some}
 use Rattle.bounded.specs.Below.{some_below}
 use Rattle.bounded.specs.Choice.{on_lt, on_eq, on_test, never, both, both_left, both_right, not_no, same_test}
 use Rattle.bounded.specs.BelowLaws.{all_at, all_of, some_of, some_none, some_not_at}
@@ -46,11 +47,8 @@ unfolding same_record
 same_record_lem a None = (λ e. absurd (false≢true e), λ w. absurd (blank_holds refl w.2))
 same_record_lem a (Some r) = (
   λ e. let h = (holds_exactly (same_words r) a).0 e in (r, h.1 ∙ ap Some (sym ((same_words_lem r h.0).0 h.2)), refl),
-  λ w. holds_of (same_words r) w.1 ((same_words_lem r w.0).1 (one w.2)),
+  λ w. holds_of (same_words r) w.1 ((same_words_lem r w.0).1 (same_Some r w.0 w.2)),
 )
-  where
-    one : {a b : Record} → Some a ≡ Some b → a ≡ b
-    one e = cc
 
 -- "… and bytes": w of them are equal,
 pub bytes_agree : (w : ℕ) (a b : List ℕ) → (has_same_bytes w a b ≡ true) ↔ ((i : ℕ) → i < w → get_or a i 0 ≡ get_or b i 0)

@@ -1,24 +1,27 @@
 // Twins: records in two slots, equal in all words and bytes. The definitions are in specs/, and those of records of equal page and version that are none.
 #![tactic(auto)]
 
-ghost use Rattle.std.specs.Prelude.{◌≡◌, ◌+◌, ◌*◌, ◌≤◌, length};
+ghost use Rattle.std.specs.Prelude.{◌≡◌, ◌↔◌, ◌+◌, ◌*◌, ◌≤◌, length, slice_index, IsTrue, EachIndex};
 ghost use Rattle.record.specs.Slot.{bytes_at};
 ghost use Rattle.record.specs.Flash.{flash};
 ghost use Rattle.twins.specs.Twins.{same_record, has_same_bytes, twins};
 
-use record::Slot;
+use record::{Slot, flash};
 
 // Both slots hold records, equal in all words.
 fn same_record(a: Slot, b: Slot) -> bool
     ensures { result ≡ same_record a b }
 {
-    let Some(other) = b else {
-        return false;
-    };
-    let Some(record) = a else {
-        return false;
-    };
-    other == record
+    b.is_some() && b == a
+}
+
+// The two have the same bytes.
+// Kept: byte by byte, for `==` of two slices calls memcmp, and the archive needs memcpy and memset alone.
+fn are_equal(a: &[u8], b: &[u8]) -> bool
+    requires { length a.now ≡ length b.now }
+    ensures { IsTrue result ↔ EachIndex a.now (λ k. slice_index a.now k ≡ slice_index b.now k) }
+{
+    a.iter().zip(b).all(|(x, y)| x == y)
 }
 
 // The bytes of two slots, `width` each, are equal.
@@ -27,16 +30,11 @@ fn same_bytes(width: u32, contents: &[u8], j: u32, k: u32) -> bool
     requires width_in_bounds_2 { width * k + width ≤ length contents.now }
     ensures { result ≡ has_same_bytes width (bytes_at width contents.now j) (bytes_at width contents.now k) }
 {
-    let w = width as usize;
-    let a = w * (j as usize);
-    let b = w * (k as usize);
-    // Kept: a loop, for `==` of two slices calls memcmp, and the archive needs memcpy and memset alone.
-    for i in 0..w {
-        if contents[a + i] != contents[b + i] {
-            return false;
-        }
-    }
-    true
+    let width = width as usize;
+    are_equal(
+        flash::bytes_of(contents, width, j),
+        flash::bytes_of(contents, width, k),
+    )
 }
 
 // "twins, equal in all words and bytes": slots j and k are.

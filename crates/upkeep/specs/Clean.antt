@@ -13,7 +13,6 @@ use Rattle.record.specs.Slot.{slot_at, bytes_at, is_blank, blank_record}
 use Rattle.record.specs.Flash.{Flash, Step, apply_all}
 use Rattle.state.specs.State.{state_sound}
 use Rattle.table.specs.Table.{table_sound}
-use Rattle.twins.specs.Twins.{twins}
 use Rattle.rules.specs.Volume.{Volume, volume_fits, slots_of, pages_of}
 use Rattle.rules.specs.Permission.{may_erase_from, Scene, scene_of}
 use Rattle.rules.specs.Erase.{erase_steps}

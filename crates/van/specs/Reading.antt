@@ -1,7 +1,7 @@
 -- Laws of the volume at the front of the input, as it is read.
 use Rattle.std.specs.Prelude.{ℕ, ◌+◌, ◌*◌, ◌-◌, ◌≤◌, ◌≡◌, List, [], ◌∷◌, true, false, not, leb, ltb, length, get_or, take, drop}
 use Rattle.std.specs.Int.{w32, from_le_bytes}
-use Rattle.std.proofs.Common.{arith, sym, ap, ◌∙◌}
+use Rattle.std.proofs.Common.{arith, sym, ap, ◌∙◌, true≢false}
 use borrow.Author.Tests.{lt-ltb, le-ltb, le-leb, lt-leb}
 use Rattle.bounded.specs.Limits.{two_widths}
 use Rattle.bounded.specs.Choice.{on_lt}
@@ -12,7 +12,7 @@ use Rattle.sizes.specs.declared.Sizes.{Sizes}
 use Rattle.record.specs.Flash.{flash}
 use Rattle.fleet.specs.Input.{word_of, word_at, sizes_at, table_end, volume_length, flash_at, sizes_taken, is_whole}
 use Rattle.fleet.specs.InputLaws.{longest_volume}
-use Rattle.fleet.proofs.InputLaws.{broken_sizes, volume_most, announced_right, announced_wrong}
+use Rattle.fleet.proofs.InputLaws.{broken_sizes, volume_most, announced_right}
 use Rattle.fleet.specs.Shown.{announced_by}
 
 -- ---- words
@@ -52,13 +52,16 @@ module _ (input : List ℕ) (z : Sizes) (e : z ≡ sizes_at input) (header : 12 
 
 -- how many bytes a volume has, by its sizes
 module _ (input : List ℕ) (z : Sizes) (e : z ≡ sizes_at input) where
-  pub announces_none : sizes_taken two_widths z ≡ false → (12 ≡ announced_by two_widths input) × ((12 ≤ 12) × (12 ≤ longest_volume))
-  announces_none h = (sym (announced_wrong input (rw e at h)), (omega arith, omega arith))
+  pub announces_none : sizes_taken two_widths z ≡ false → ¬ (sizes_taken two_widths (sizes_at input) ≡ true)
+  announces_none h t = true≢false (sym t ∙ rw e at h)
 
-  pub announces_all : sizes_taken two_widths z ≡ true → (n : ℕ) → n ≡ volume_length z → (n ≡ announced_by two_widths input) × ((12 ≤ n) × (n ≤ longest_volume))
+  pub announces_all :
+      sizes_taken two_widths z ≡ true → (n : ℕ) → n ≡ volume_length z
+      → ((sizes_taken two_widths (sizes_at input) ≡ true) × (n ≡ announced_by two_widths input)) × ((12 ≤ n) × (n ≤ longest_volume))
   announces_all h n l =
       let m = volume_most z h in
-      (l ∙ ap volume_length e ∙ sym (announced_right input (rw e at h)), (omega arith, omega arith))
+      let t = rw e at h in
+      ((t, l ∙ ap volume_length e ∙ sym (announced_right input t)), (omega arith, omega arith))
 
 -- ---- a volume that is whole
 

@@ -1,6 +1,6 @@
 // The volumes in the input: "each P, S, the width, the table's words, all 32 bits lowest byte first, then the contents".
 
-ghost use Rattle.std.specs.Prelude.{◌≡◌, true, ◌+◌, ◌*◌, ◌≤◌, length};
+ghost use Rattle.std.specs.Prelude.{◌≡◌, true, ◌+◌, ◌*◌, ◌≤◌, length, SomeIff, IfSome};
 ghost use Rattle.bounded.specs.Limits.{two_widths};
 ghost use Rattle.bounded.specs.Tabulate.{tabulate};
 ghost use Rattle.fleet.specs.Entry.{comes_to};
@@ -51,18 +51,17 @@ fn volume_length(sizes: Sizes) -> usize
     12 + 20 * slots + (sizes.width as usize) * slots
 }
 
-// How many bytes a volume has that begins so; where its sizes are wrong, those that tell them.
-pub fn announced(input: &[u8]) -> usize
+// How many bytes a volume has that begins so; none where its sizes are wrong.
+pub fn announced(input: &[u8]) -> Option<usize>
     requires { 12 ≤ length input.now }
-    ensures finds { result ≡ announced_by two_widths input.now }
-    ensures bounded { (12 ≤ result) × (result ≤ longest_volume) }
+    ensures finds { SomeIff result (sizes_taken two_widths (sizes_at input.now) ≡ true) (announced_by two_widths input.now) }
+    ensures bounded { IfSome result (λ n. (12 ≤ n) × (n ≤ longest_volume)) }
 {
     let sizes = sizes_at(input);
-    if sizes_taken(sizes) {
-        volume_length(sizes)
-    } else {
-        12
+    if !sizes_taken(sizes) {
+        return None;
     }
+    Some(volume_length(sizes))
 }
 
 // The input begins with a volume that has right sizes and is not "cut short".

@@ -16,7 +16,7 @@ fn put_blanks(out: &mut Printout, n: usize)
     ensures { Puts out.old out.new (blanks n) }
 {
     for _ in 0..n {
-        out.put(32);
+        out.put(b' ');
     }
 }
 
@@ -61,7 +61,7 @@ pub fn put_volume(out: &mut Printout, number: u32, entry: Result<Figures, Refusa
 {
     put_column(out, 8, number);
     put_entry(out, entry);
-    out.put(10);
+    out.put(b'\n');
 }
 
 // "then a line of the four totals in the same columns"
@@ -70,7 +70,7 @@ fn put_totals(out: &mut Printout, totals: Figures)
 {
     put_blanks(out, 8);
     put_figures(out, totals);
-    out.put(10);
+    out.put(b'\n');
 }
 
 // "the mean of pages set, as a whole number …; with none it is 0 and 0"
@@ -95,7 +95,7 @@ fn put_mean(out: &mut Printout, total: u32, volumes: u32)
     put_column(out, 16, mean_whole(total, volumes));
     put_column(out, 16, mean_remainder(total, volumes));
     put_blanks(out, 32);
-    out.put(10);
+    out.put(b'\n');
 }
 
 // The two lines behind those of the volumes.

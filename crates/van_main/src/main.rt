@@ -26,6 +26,7 @@ fn read_part<R: Read>(input: &mut [u8], from: usize, to: usize, source: &mut R) 
 }
 
 // So many bytes, where standard input has ended behind them: nothing more is read, and no read fails.
+// Kept: one more read, since an input that gives more after its end, as a terminal may, is told.
 fn ended<R: Read>(source: &mut R, bytes: usize) -> io::Result<usize>
     ensures { IfOk result (λ n. n ≡ bytes) }
 {
@@ -50,10 +51,10 @@ fn read_volumes<R: Read>(input: &mut [u8], source: &mut R) -> io::Result<usize>
         if header < table {
             return ended(source, header);
         }
-        let end = at + van::input::announced(&input[at..table]);
-        if end <= table {
+        let Some(length) = van::input::announced(&input[at..table]) else {
             return Ok(table);
-        }
+        };
+        let end = at + length;
         let place = read_part(input, table, end, source);
         if place < end {
             return ended(source, place);

@@ -1,1 +1,2 @@
 pub mod FormatLaws
+pub mod Held

@@ -8,9 +8,11 @@ ghost use Rattle.rules.specs.Volume.{volume};
 ghost use Rattle.rules.specs.CheckBlocks.{check_blocks_outcome};
 ghost use Rattle.rules.specs.laws.Chains.{block_judged};
 
+use super::Volume;
 use outcome::Refusal;
 use sizes::{Layout, Sizes, blocks};
 
+// Kept: parameters, for this is of five words alone, and its two callers have the parts.
 // Conditions 1, 17, 2, 5 and 6, which the calls on a block share: refused by the first that holds.
 #[tactic(auto, unfolding(rules::specs::laws::Chains::block_judged))]
 pub fn judged(
@@ -23,13 +25,14 @@ pub fn judged(
 ) -> Result<(), Refusal>
     ensures { answer_of result ≡ block_judged two_widths sizes (volume words.now contents.now state.now) (named starts.now block) }
 {
-    if !super::volume_fits(Layout::FiveWords, sizes, words, contents, state) {
+    let volume = Volume::new(Layout::FiveWords, sizes, words, contents, state);
+    if !volume.fits() {
         return Err(Refusal::WrongSize);
     }
     if !blocks::starts_ok(sizes.slots, starts) {
         return Err(Refusal::WrongBlocks);
     }
-    super::judged(Layout::FiveWords, true, sizes, words, state)?;
+    volume.sound()?;
     if !blocks::block_ok(starts, block) {
         return Err(Refusal::WrongList);
     }

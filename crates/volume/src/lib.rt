@@ -11,68 +11,101 @@ ghost use Rattle.outcome.specs.Result.{answer_of, ends};
 ghost use Rattle.state.specs.State.{state_words};
 ghost use Rattle.state.specs.Change.{fresh_state};
 ghost use Rattle.sizes.specs.Sizes.{stride_of};
-ghost use Rattle.rules.specs.Volume.{volume, volume_fits_in};
+ghost use Rattle.rules.specs.Volume.{volume};
 ghost use Rattle.rules.specs.Format.{formatted_words, formatted_contents, format_outcome_in};
-ghost use Rattle.rules.specs.laws.Chains.{judged_in, SpansIn};
 ghost use Rattle.volume.specs.FormatLaws.{fresh_words, fresh_bytes};
 
 use outcome::Refusal;
 use record::{Record, flash};
 use sizes::{Layout, Sizes};
 
-// P, S, the width and the lengths of a volume's buffers are right.
-#[tactic(auto, unfolding(rules::specs::Volume::volume_fits_in))]
-pub fn volume_fits(
-    layout: Layout,
-    sizes: Sizes,
-    words: &[u32],
-    contents: &[u8],
-    state: &[u32],
-) -> bool
-    ensures { result ≡ volume_fits_in layout two_widths sizes (volume words.now contents.now state.now) }
-{
-    sizes.are_ok()
-        && sizes::words_fit(layout, sizes.slots, words)
-        && sizes::contents_fit(sizes.width, sizes.slots, contents)
-        && sizes::state_fits(sizes.pages, state)
+// A volume as a call's tests read it: the layout of its records, its sizes and its three buffers.
+// Kept: a call that alters some of them has them as parameters, and its tests have this.
+#[derive(Clone, Copy)]
+pub struct Volume<'a> {
+    pub layout: Layout,
+    pub sizes: Sizes,
+    pub words: &'a [u32],
+    pub contents: &'a [u8],
+    pub state: &'a [u32],
 }
 
-// … and so is the length of a slice for one slot's bytes.
-pub fn slice_fits(
-    layout: Layout,
-    sizes: Sizes,
-    words: &[u32],
-    contents: &[u8],
-    state: &[u32],
-    length: usize,
-) -> bool
-    ensures { result ≡ (volume_fits_in layout two_widths sizes (volume words.now contents.now state.now) && eqb length sizes.width) }
-{
-    volume_fits(layout, sizes, words, contents, state) && length == sizes.width as usize
-}
+impl<'a> Volume<'a> {
+    ghost use Rattle.volume.specs.Held.{lent, fits, slice_fits, SpansAll, judged_by};
 
-// Conditions 1, 2 and 5, which the calls on a whole volume share: the lengths, as `fits` says, then every slot, then the state.
-#[tactic(auto, unfolding(rules::specs::laws::Chains::judged_in))]
-pub fn judged(
-    layout: Layout,
-    fits: bool,
-    sizes: Sizes,
-    words: &[u32],
-    state: &[u32],
-) -> Result<(), Refusal>
-    requires { fits ≡ true → SpansIn layout sizes.pages sizes.slots words.now state.now }
-    ensures { answer_of result ≡ judged_in layout fits sizes.pages sizes.slots words.now state.now }
-{
-    if !fits {
-        return Err(Refusal::WrongSize);
+    // The volume of what a call is lent.
+    pub fn new(
+        layout: Layout,
+        sizes: Sizes,
+        words: &'a [u32],
+        contents: &'a [u8],
+        state: &'a [u32],
+    ) -> Volume<'a>
+        ensures { result ≡ lent layout sizes words.entry contents.entry state.entry }
+    {
+        Volume {
+            layout,
+            sizes,
+            words,
+            contents,
+            state,
+        }
     }
-    if !table::table_sound(layout, sizes, words) {
-        return Err(Refusal::SlotUnsound);
+
+    // P, S, the width and the lengths of its buffers are right.
+    #[tactic(auto, unfolding(rules::specs::Volume::volume_fits_in))]
+    pub fn fits(&self) -> bool
+        ensures { result ≡ fits self.now }
+    {
+        self.sizes.are_ok()
+            && sizes::words_fit(self.layout, self.sizes.slots, self.words)
+            && sizes::contents_fit(self.sizes.width, self.sizes.slots, self.contents)
+            && sizes::state_fits(self.sizes.pages, self.state)
     }
-    if !state::state_sound(sizes.pages, state) {
-        return Err(Refusal::StateUnsound);
+
+    // … and so is the length of a slice for one slot's bytes.
+    pub fn slice_fits(&self, length: usize) -> bool
+        ensures { result ≡ slice_fits self.now length }
+    {
+        self.fits() && length == self.sizes.width as usize
     }
-    Ok(())
+
+    // Conditions 2 and 5 of one that fits: every slot, then the state.
+    #[tactic(auto, unfolding(rules::specs::laws::Chains::judged_in))]
+    fn sound(&self) -> Result<(), Refusal>
+        requires { SpansAll self.now }
+        ensures { answer_of result ≡ judged_by true self.now }
+    {
+        if !table::table_sound(self.layout, self.sizes, self.words) {
+            return Err(Refusal::SlotUnsound);
+        }
+        if !state::state_sound(self.sizes.pages, self.state) {
+            return Err(Refusal::StateUnsound);
+        }
+        Ok(())
+    }
+
+    // Conditions 1, 2 and 5, which the calls on a whole volume share: the lengths, then every slot, then the state.
+    #[tactic(auto, unfolding(rules::specs::laws::Chains::judged_in))]
+    pub fn judged(&self) -> Result<(), Refusal>
+        ensures { answer_of result ≡ judged_by (fits self.now) self.now }
+    {
+        if !self.fits() {
+            return Err(Refusal::WrongSize);
+        }
+        self.sound()
+    }
+
+    // … with the length of a slice for one slot's bytes.
+    #[tactic(auto, unfolding(rules::specs::laws::Chains::judged_in))]
+    pub fn slice_judged(&self, length: usize) -> Result<(), Refusal>
+        ensures { answer_of result ≡ judged_by (slice_fits self.now length) self.now }
+    {
+        if !self.slice_fits(length) {
+            return Err(Refusal::WrongSize);
+        }
+        self.sound()
+    }
 }
 
 // One slot as format leaves it: a page's record with zero bytes, or blank with bytes 255.
@@ -125,7 +158,8 @@ pub fn format(
     ensures { ends result (volume words.new contents.new state.new)
         ≡ format_outcome_in layout two_widths sizes (volume words.old contents.old state.old) }
 {
-    if !volume_fits(layout, sizes, words, contents, state) {
+    let volume = Volume::new(layout, sizes, words, contents, state);
+    if !volume.fits() {
         return Err(Refusal::WrongSize);
     }
     format_flash(layout, sizes, words, contents);

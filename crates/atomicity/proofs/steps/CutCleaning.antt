@@ -1,7 +1,7 @@
 -- What a crash in a cleaning leaves: the first of the copies, or all of them and some slots of the block blanked.
 use Prim.Native.Nat.{ℕ, zero, suc, ◌≤◌, ◌<◌}
 use native.Mathlib.Omega.{arith}
-use Rattle.std.specs.Prelude.{◌≡◌, refl, ◌⊎◌, Bool, true, false, length, take, drop}
+use Rattle.std.specs.Prelude.{◌≡◌, ◌⊎◌, Bool, true, false, length, take, drop}
 use Rattle.std.proofs.Common.{sym, ◌∙◌, length-take-le}
 use Rattle.std.proofs.Math.Path.{ap, subst}
 use Rattle.std.proofs.Math.Logic.{inl, inr, ⊎_elim}
@@ -17,7 +17,6 @@ use Rattle.std.specs.Prelude.{Some}
 use Rattle.record.specs.Slot.{slot_at}
 use Rattle.record.specs.Flash.{Flash, Step, apply_all_in, apply_all}
 use Rattle.record.specs.FlashLaws.{SizedIn, SameSlot, apply_append, blanks_sized, blanks_listed, blanks_unlisted}
-use Rattle.state.specs.State.{state_at}
 use Rattle.table.specs.Table.{table_sound}
 use Rattle.table.proofs.TableLaws.{blank_holds}
 use Rattle.rules.specs.Volume.{Volume}

@@ -1,8 +1,7 @@
 use native.Mathlib.Omega.{arith}
-use mathlib.Core.Path.{◌≡◌, refl, sym, ◌∙◌}
+use mathlib.Core.Path.{refl, sym, ◌∙◌}
 use borrow.Author.Tests.{le-ltb}
 use Rattle.bounded.specs.BelowLaws.{some_zero, some_more, some_of}
-use Rattle.bounded.specs.PartsLaws.{part_inside}
 use Rattle.record.specs.Flash.{flash}
 use Rattle.twins.specs.Twins.{some_conflict}
 use Rattle.twins.proofs.TwinsLaws.{none_clashes}
@@ -14,20 +13,9 @@ pub loop-k-init : goal.loop-k-init
 unfolding some_conflict
 loop-k-init c = (some_zero _, chained_none _ _ 2048 refl)
 
-pub conflicts_below-requires : goal.conflicts_below-requires
-conflicts_below-requires c = let l = c.loop-k in
-    let i = part_inside c.args.sizes.width c.args.sizes.slots l.k c.loop-k-test.true in
-    let m = c.requires.slots_bound in
-    record { k_in_bounds = omega arith; width_in_bounds = omega arith; k_bound = omega arith; contents_value = l.invariant.0; chained = l.invariant.1 }
-
 pub returns-then-conflicts_below : goal.returns-then-conflicts_below
 unfolding some_conflict
 returns-then-conflicts_below c = sym (some_of _ _ c.loop-k.k c.loop-k-test.true (sym c.conflicts_below.ensures ∙ c.if-conflicts_below.true))
-
-pub link_slot-requires : goal.link_slot-requires
-link_slot-requires c = let l = c.loop-k in
-    let m = c.requires.slots_bound in
-    record { layout_in_bounds = omega arith; k_bound = omega arith; chained = l.invariant.1 }
 
 -- a blank slot conflicts with none, and is in no chain
 pub loop-k-preserved : goal.loop-k-preserved
@@ -41,8 +29,3 @@ loop-k-preserved c = let a = c.args in
           let none = (blank_clashes_none _ _ blank).tells ∙ le-ltb 0 0 (omega arith) in
           (some_more _ _ l.invariant.0 (none_clashes a.sizes.width (flash a.words.now a.contents.now) l.k none), rw w.chains-is (chained_blank _ _ _ _ l.invariant.1 blank))
     ]
-
-pub returns : goal.returns
-returns c = let l = c.loop-k in
-    let e : l.k ≡ c.args.sizes.slots = omega arith in
-    sym (rw e at l.invariant.0)

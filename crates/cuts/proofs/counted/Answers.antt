@@ -33,11 +33,11 @@ slice_bounds-contents-end-2 c = let f = c.format in front_ends _ 65536 (bytes_ro
 pub slice_bounds-state-end-2 : goal.slice_bounds-state-end-2
 slice_bounds-state-end-2 c = let f = c.format in front_ends _ 1024 (state_room c.args.sizes c.requires.sizes_value) f.new.state f.auto.state
 
-pub run-requires : goal.run-requires
-run-requires c = let f = c.format in
+pub invariant_of-desk : goal.invariant_of-desk
+invariant_of-desk c = let f = c.format in
     let z = c.args.sizes in
     let ok = c.requires.sizes_value in
-    record { ready = begun_ready z ok _ (begins z ok f.result _ _ _ f.ensures f.auto.words f.auto.contents f.auto.state); from_in_bounds = c.requires.from_in_bounds }
+    record { ready = begun_ready z ok _ (begins z ok f.result _ _ _ f.ensures f.auto.words f.auto.contents f.auto.state) }
 
 pub returns : goal.returns
 returns c = let a = c.args in

@@ -29,9 +29,12 @@ slice_bounds-state-end c = state_most _ _ _ (tested_right _ _ _ _ _ c.in_ok-judg
 pub slice_bounds-recover_fillings-end-2 : goal.slice_bounds-recover_fillings-end-2
 slice_bounds-recover_fillings-end-2 c = sym (length-take-le _ (replicate 1024 0) (state_most _ _ _ (tested_right _ _ _ _ _ c.in_ok-judged.ensures).0))
 
+pub invariant_of-flash : goal.invariant_of-flash
+invariant_of-flash c = record { fillable = (tested_right _ _ _ _ _ c.in_ok-judged.ensures).1 }
+
 pub recover_fillings-count-requires : goal.recover_fillings-count-requires
 recover_fillings-count-requires c = let f = tested_right _ _ _ _ _ c.in_ok-judged.ensures in
-    record { fillable = f.1; filled_len = length-take-le _ (replicate 5120 0) (words_most _ _ _ f.0); state_len = length-take-le _ (replicate 1024 0) (state_most _ _ _ f.0); out_len = f.0.out_sized }
+    record { filled_len = length-take-le _ (replicate 5120 0) (words_most _ _ _ f.0); state_len = length-take-le _ (replicate 1024 0) (state_most _ _ _ f.0); out_len = f.0.out_sized }
 
 pub returns-then-count-eq0 : goal.returns-then-count-eq0
 unfolding doubtful_outcome

@@ -10,10 +10,6 @@ pub returns-in_default : goal.returns-in_default
 returns-in_default c = let p = c.requires in
     not_obsolete _ _ _ _ p.before_value (holds_none _ (sym c.slot_at.ensures ∙ c.in_default.is))
 
-pub is_obsolete-requires : goal.is_obsolete-requires
-is_obsolete-requires c = let p = c.requires in
-    p.countable.within.pages_in_lem _ _ p.k_lt_slots (sym c.slot_at.ensures ∙ c.in-Some.is)
-
 pub returns-then-not-is_obsolete : goal.returns-then-not-is_obsolete
 returns-then-not-is_obsolete c = let p = c.requires in
     not_obsolete _ _ _ _ p.before_value (holds_record _ (sym c.slot_at.ensures ∙ c.in-Some.is) ∙ told c.is_obsolete.ensures c.if-not-is_obsolete.true)
@@ -28,7 +24,7 @@ returns-then-may_erase c = let p = c.requires in
     one_spare _ _ _ _ p.before_value
     (sym c.slot_at.ensures ∙ c.in-Some.is)
     (told c.is_obsolete.ensures c.if-not-is_obsolete.false)
-    p.countable.all_found c.may_erase.ensures c.if-may_erase.true
+    p.all_found c.may_erase.ensures c.if-may_erase.true
 
 pub overflow_add-result : goal.overflow_add-result
 overflow_add-result c = let p = c.requires in
@@ -40,4 +36,4 @@ returns-else-may_erase c = let p = c.requires in
     one_needed _ _ _ _ p.before_value
     (sym c.slot_at.ensures ∙ c.in-Some.is)
     (told c.is_obsolete.ensures c.if-not-is_obsolete.false)
-    p.countable.all_found c.may_erase.ensures c.if-may_erase.false
+    p.all_found c.may_erase.ensures c.if-may_erase.false

@@ -1,20 +1,23 @@
--- What was found is taken for the exposed records, and their number is one of the figures.
-use mathlib.Core.Path.{ap, ◌∙◌}
+-- The table is of the volume, and as many exposed records are found as there are, no more than slots.
+use Prim.Native.Nat.{◌≤◌}
+use native.Mathlib.Omega.{arith}
+use mathlib.Core.Path.{ap}
 use lib.ListN.{length}
-use Rattle.permit.specs.Prepared.{linkable_within}
-use Rattle.figures.specs.Counting.{countable}
+use Rattle.bounded.specs.Members.{count_below}
+use Rattle.rules.specs.Found.{exposed_slots}
+use Rattle.permit.specs.Prepared.{exposed_at}
 use Rattle.figures.specs.CountingLaws.{all_figures}
 use Rattle.figures.proofs.figures_of.Goals as goal
 
-pub find_exposed-requires : goal.find_exposed-requires
-find_exposed-requires c = let p = c.requires in
-    linkable_within _ _ _ _ p.linkable p.pages_in_bounds
-
-pub obsolete_records-obsolete-requires : goal.obsolete_records-obsolete-requires
-obsolete_records-obsolete-requires c = let p = c.requires in
-    countable _ _ _ _ _ _ p.linkable p.pages_in_bounds c.link_sound_slots.ensures (c.as_slice-2.ensures ∙ c.find_exposed.ensures)
+pub overflow_cast-result : goal.overflow_cast-result
+unfolding exposed_slots
+overflow_cast-result c = let table = c.prepare-table.result in
+    let few = table.within.slots_few in
+    let most : length table.found.now ≤ table.sizes.slots =
+    rw (ap length c.prepare-table.ensures.all_found) (count_below (exposed_at table.words.now table.state.now) table.sizes.slots) in
+    omega arith
 
 pub returns : goal.returns
-returns c =
-    all_figures _ _ _ _ c.set_pages-pages.ensures c.obsolete_records-obsolete.ensures
-    (ap length (c.as_slice.ensures ∙ c.find_exposed.ensures))
+returns c = let t = c.prepare-table.ensures in
+    all_figures _ _ _ _ c.set_pages-pages.ensures (rw (t.same_sizes, t.same_words, t.same_state) at c.obsolete_records-obsolete.ensures)
+    (rw (t.same_sizes, t.same_words, t.same_state) at (ap length t.all_found))

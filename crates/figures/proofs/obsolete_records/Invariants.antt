@@ -6,4 +6,4 @@ use Rattle.figures.specs.Counting.{obsolete_below}
 use Rattle.figures.proofs.obsolete_records.Given as goal
 
 abbrev pub invariant-loop-k : goal.invariant-loop-k
-invariant-loop-k l = l.count ≡ obsolete_below l.slots (slot_at l.words) (state_at l.state) l.k
+invariant-loop-k l = l.count ≡ obsolete_below l.table.sizes.slots (slot_at l.table.words.now) (state_at l.table.state.now) l.k

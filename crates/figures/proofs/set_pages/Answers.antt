@@ -1,9 +1,6 @@
-use Prim.Native.Nat.{ℕ}
 use native.Mathlib.Omega.{arith}
-use mathlib.Core.Path.{◌≡◌, sym, ap, ◌∙◌}
-use lib.ListN.{length}
-use Rattle.state.specs.State.{state_at, is_set}
-use Rattle.fleet.specs.Figures.{set_pages}
+use mathlib.Core.Path.{sym, ap, ◌∙◌}
+use Rattle.state.specs.State.{is_set}
 use Rattle.figures.specs.CountingLaws.{none_set, set_most, one_set, not_set}
 use Rattle.figures.proofs.set_pages.Goals as goal
 use Rattle.figures.proofs.set_pages.Goals.{then-is_set, else-is_set}
@@ -23,9 +20,3 @@ loop-page-preserved c = let l = c.loop-page in
       | then-is_set w ↦ w.count-is ∙ one_set _ l.page l.invariant (sym says ∙ w.if-is_set.true)
       | else-is_set w ↦ w.count-is ∙ not_set _ l.page l.invariant (sym says ∙ w.if-is_set.false)
     ]
-
-pub returns : goal.returns
-returns c = let l = c.loop-page in
-    let a = c.args in
-    let e : l.page ≡ a.pages = omega arith in
-    l.invariant ∙ ap (λ (n : ℕ). length (set_pages n (state_at a.state.now))) e

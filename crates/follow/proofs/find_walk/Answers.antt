@@ -1,4 +1,4 @@
-use Rattle.std.proofs.Common.{arith, ◌≡◌, ap, ◌∙◌}
+use Rattle.std.proofs.Common.{arith, ◌≡◌, refl, ap, ◌∙◌}
 use Rattle.follow.specs.declared.Verdict.TheVariants as says
 use Rattle.follow.proofs.WalksLaws.{at_start, links_most, one_link_on, found_committed, found_uncommitted, found_ring, found_known_committed, found_known_uncommitted, found_astray, committed_known, uncommitted_known}
 use Rattle.follow.proofs.find_walk.Goals as goal
@@ -45,4 +45,4 @@ loop-before-preserved c = one_link_on c.loop-before.invariant c.in-On.is c.if-ne
 pub returns : goal.returns
 returns c = let l = c.loop-before in
     let e : l.before ≡ c.args.pages = omega arith in
-    found_astray (rw e at l.invariant)
+    (refl, found_astray (rw e at l.invariant))

@@ -1,4 +1,4 @@
-use Prim.Native.Nat.{ℕ}
+use mathlib.Core.Bool.{Bool, false, true}
 use native.Mathlib.Omega.{arith}
 use mathlib.Core.Path.{◌≡◌, ap, ◌∙◌}
 use lib.ListN.{length, length-set, length-replicate}
@@ -6,7 +6,7 @@ use Rattle.judge.specs.Marked.{listed_up_to, list_none_marked, list_more_marked,
 use Rattle.judge.proofs.mark_listed.Goals as goal
 
 pub loop-slot-init : goal.loop-slot-init
-loop-slot-init c = (length-replicate {A = ℕ} 1024 0, list_none_marked _ 1024)
+loop-slot-init c = (length-replicate {A = Bool} 1024 false, list_none_marked _ 1024)
 
 pub overflow_cast-marks : goal.overflow_cast-marks
 overflow_cast-marks c = omega (arith, c.requires c.loop-slot.slot-index c.loop-slot-test.true)
@@ -17,7 +17,7 @@ bounds-marks-slot c = c.requires c.loop-slot.slot-index c.loop-slot-test.true
 pub loop-slot-preserved : goal.loop-slot-preserved
 loop-slot-preserved c = let l = c.loop-slot in
     let b = c.requires l.slot-index c.loop-slot-test.true in
-    (length-set l.marks _ 1 ∙ l.invariant.0, list_more_marked _ l.marks l.slot-index (omega arith) l.invariant.1)
+    (length-set l.marks _ true ∙ l.invariant.0, list_more_marked _ l.marks l.slot-index (omega arith) l.invariant.1)
 
 pub returns : goal.returns
 returns c = let l = c.loop-slot in

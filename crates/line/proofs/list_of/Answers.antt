@@ -1,11 +1,8 @@
 use native.Mathlib.Omega.{arith}
 use mathlib.Core.Path.{sym}
 use Rattle.text.specs.ScanLaws.{stripped, not_stripped}
-use Rattle.line.specs.LineLaws.{goes_first, goes_full, goes_not, goes_wrong, goes_end, goes_on}
+use Rattle.line.specs.LineLaws.{goes_full, goes_not, goes_wrong, goes_end, goes_on}
 use Rattle.line.proofs.list_of.Goals as goal
-
-pub loop-k-init : goal.loop-k-init
-loop-k-init c = let a = c.args in goes_first _ a.text.now a.list.now
 
 pub returns-in_err-value : goal.returns-in_err-value
 returns-in_err-value c = rw c.from_residual.ensures (goes_not _ _ _ _ _ c.loop-k.invariant (omega arith) (sym c.in_err-value.ensures))

@@ -1,10 +1,6 @@
-use mathlib.Core.Path.{sym}
 use Rattle.outcome.specs.Result.{number_positive}
 use Rattle.listing.specs.ListingLaws.{puts_refused, puts_accepted}
 use Rattle.listing.proofs.list.Goals as goal
-
-pub put_pages-requires : goal.put_pages-requires
-put_pages-requires c = sym c.in-Ok.ensures
 
 pub returns-in-Ok : goal.returns-in-Ok
 returns-in-Ok c = puts_accepted _ _ _ _ _ _ c.in-Ok.ensures c.put_pages.ensures c.put_answer.ensures

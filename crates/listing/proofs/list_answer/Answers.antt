@@ -1,14 +1,11 @@
 use native.Mathlib.Omega.{arith}
-use mathlib.Core.Path.{◌≡◌, refl, sym, ◌∙◌}
+use mathlib.Core.Path.{◌≡◌, refl, sym}
 use Rattle.std.proofs.lemmas.Result.{err_from_is_err_and}
 use Rattle.outcome.specs.Result.{number_positive, refuses, passes}
-use Rattle.rules.proofs.laws.Chains.{judged_passed, volume_spans}
+use Rattle.volume.specs.Held.{passed}
 use Rattle.listing.specs.Listing.{list_answer}
 use Rattle.listing.specs.ListingLaws.{none_refused, none_more, first_found, page_answered}
 use Rattle.listing.proofs.list_answer.Goals as goal
-
-pub judged-first-requires : goal.judged-first-requires
-judged-first-requires c = λ e. volume_spans _ _ _ _ (sym c.volume_fits-fits.ensures ∙ e)
 
 pub loop-page-init : goal.loop-page-init
 loop-page-init c = none_refused _
@@ -18,25 +15,25 @@ unfolding list_answer
 returns-in_err-first c = let p = err_from_is_err_and c.from_residual.result c.from_residual.ensures.1 in
     rw (p.1, p.2)
     (first_found _ _ c.loop-page.page _ c.loop-page.invariant
-    (page_answered _ _ _ c.loop-page.page _ _ _ c.volume_fits-fits.ensures c.in_err-first.ensures (refuses _ _ refl))
+    (page_answered _ _ _ c.loop-page.page _ _ (rw c.new-volume.ensures at c.in_err-first.ensures) (refuses _ _ refl))
     (number_positive _) c.loop-page-test.true)
 
 pub read_own-requires-clause-spans_in : goal.read_own-requires-clause-spans_in
 read_own-requires-clause-spans_in c =
-    volume_spans _ _ _ _ (sym c.volume_fits-fits.ensures ∙ (judged_passed _ _ _ _ _ _ (sym c.in_ok-first.ensures)).fitting)
+    (passed _ _ _ (sym (rw c.new-volume.ensures at c.in_ok-first.ensures))).spans
 
 pub returns-in_err-read_own : goal.returns-in_err-read_own
 unfolding list_answer
 returns-in_err-read_own c = let p = err_from_is_err_and c.from_residual-in_err-read_own.result c.from_residual-in_err-read_own.ensures.1 in
     rw (p.1, p.2)
     (first_found _ _ c.loop-page.page _ c.loop-page.invariant
-    (page_answered _ _ _ c.loop-page.page _ _ _ c.volume_fits-fits.ensures c.in_ok-first.ensures (passes _ refl c.in_err-read_own.ensures))
+    (page_answered _ _ _ c.loop-page.page _ _ (rw c.new-volume.ensures at c.in_ok-first.ensures) (passes _ refl c.in_err-read_own.ensures))
     (number_positive _) c.loop-page-test.true)
 
 pub loop-page-preserved : goal.loop-page-preserved
 loop-page-preserved c =
     none_more _ _ _ c.loop-page.invariant
-    (page_answered _ _ _ c.loop-page.page _ _ _ c.volume_fits-fits.ensures c.in_ok-first.ensures (passes _ refl c.in_ok-read_own.ensures))
+    (page_answered _ _ _ c.loop-page.page _ _ (rw c.new-volume.ensures at c.in_ok-first.ensures) (passes _ refl c.in_ok-read_own.ensures))
     refl
 
 pub returns : goal.returns

@@ -1,5 +1,3 @@
-use native.Mathlib.Omega.{arith}
-use mathlib.Core.Path.{◌≡◌}
 use Rattle.bounded.specs.Parts.{join_from, join_parts}
 use Rattle.text.specs.PutsLaws.{puts_none}
 use Rattle.listing.specs.Listing.{page_text, list_answer}
@@ -16,8 +14,3 @@ put_page-requires c = all_accepted _ _ c.loop-page.page c.requires c.loop-page-t
 
 pub loop-page-preserved : goal.loop-page-preserved
 loop-page-preserved c = puts_parts (page_text _ _ _) _ _ _ c.loop-page.page c.loop-page.invariant c.put_page.ensures
-
-pub returns : goal.returns
-returns c = let l = c.loop-page in
-    let e : l.page ≡ c.args.sizes.pages = omega arith in
-    rw e at l.invariant

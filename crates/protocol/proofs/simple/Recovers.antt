@@ -17,10 +17,10 @@ use Rattle.rules.specs.Simple.{simple_link_verdict, simple_slot_verdict, simple_
 use Rattle.rules.specs.laws.Simple.{BelowHighest}
 use Rattle.rules.proofs.laws.Simple.{second_held, second_above, second_exists}
 use Rattle.protocol.specs.View.{InSlots, record_view}
-use Rattle.protocol.specs.Shared.{SharedCore, WithinUsed}
+use Rattle.protocol.specs.Shared.{SharedCore}
 use Rattle.protocol.proofs.Highest.{Top, version_top, link_cases}
 use Rattle.protocol.proofs.Walks.{Judged, Green, Red, coloured, walk_green, walk_red, none_astray}
-use Rattle.protocol.specs.simple.Core.{simple_view, SimpleCore, shared_seen}
+use Rattle.protocol.specs.simple.Core.{SimpleCore, shared_seen}
 
 module _ {P S : ℕ} {t : ℕ → Slot} {bytes : ℕ → List ℕ} {comm : ℕ → ℕ} {kept : ℕ → List ℕ} (core : SimpleCore (InSlots S t bytes) comm P kept) where
   open core use {own}

@@ -1,13 +1,9 @@
-use Rattle.std.proofs.Common.{rules}
+use mathlib.Core.Path.{refl}
 use Rattle.text.specs.Scan.{bytes}
-use Rattle.text.specs.PutsLaws.{puts_from}
-use Rattle.report.specs.Report.{refused_turn}
-use Rattle.report.specs.ReportLaws.{ended}
+use Rattle.rules.specs.Volume.{Volume}
+use Rattle.report.specs.Report.{standing, refused_turn}
 use Rattle.report.proofs.refuse.Goals as goal
 
 pub returns : goal.returns
-unfolding refused_turn bytes
-returns c = let begins = c.new-print.ensures in
-    let p = c.put_text.ensures in
-    let e = ended c.args.run _ _ _ _ c.ended.ensures (puts_from _ _ _ _ _ _ p begins.holds begins.place (search rules)) in
-    record { stands = e.0; prints = λ memory. e.1.0; holds = e.1.1 }
+unfolding standing refused_turn bytes
+returns c = record { stands = λ (memory : Volume). rw c.ended.ensures refl; prints = λ (memory : Volume). c.put_text.ensures }

@@ -1,16 +1,16 @@
-use Rattle.std.specs.Prelude.{refl}
+use mathlib.Core.Path.{refl}
+use Rattle.std.proofs.Common.{ne_eqb}
 use Rattle.outcome.specs.Result.{number_positive}
-use Rattle.report.specs.ReportLaws.{format_refused, format_accepted}
+use Rattle.rules.specs.Volume.{Volume}
+use Rattle.report.specs.Report.{standing, formatted}
 use Rattle.report.proofs.say_format.Goals as goal
 
 pub returns-in-Ok : goal.returns-in-Ok
-returns-in-Ok c = let a = c.args in
-    let n = rw c.in-Ok.is at c.say-next.ensures in
-    let f = format_accepted a.run _ _ _ a.sizes 0 0 refl (n.stands, (n.prints, n.holds)) _ c.on.ensures refl in
-    rw c.in-Ok.is (record { stands = f.0; prints = f.1.0; holds = f.1.1 })
+unfolding standing formatted
+returns-in-Ok c = let p = rw c.answer.ensures at c.put_answer.ensures in
+    record { stands = λ (memory : Volume). rw (c.on.ensures, c.in-Ok.is) refl; prints = λ (memory : Volume). p }
 
 pub returns-in-Err : goal.returns-in-Err
-returns-in-Err c = let a = c.args in
-    let n = rw c.in-Err.is at c.say-next.ensures in
-    let f = format_refused a.run _ _ _ a.sizes _ _ refl (n.stands, (n.prints, n.holds)) (number_positive c.in-Err.field-0) in
-    rw c.in-Err.is (record { stands = f.0; prints = f.1.0; holds = f.1.1 })
+unfolding standing formatted
+returns-in-Err c = let p = rw c.answer.ensures at c.put_answer.ensures in
+    record { stands = λ (memory : Volume). rw (c.in-Err.is, ne_eqb _ _ (number_positive c.in-Err.field-0)) refl; prints = λ (memory : Volume). p }

@@ -1,36 +1,34 @@
 use Prim.Native.Nat.{ℕ}
-use mathlib.Core.List.{List, []}
+use mathlib.Core.Path.{refl}
+use mathlib.Core.List.{List}
+use Rattle.std.specs.Result.{result_unwrap_or}
 use Rattle.bounded.specs.Limits.{two_widths}
+use Rattle.outcome.specs.Result.{answer_of}
 use Rattle.line.specs.Line.{said}
 use Rattle.rules.specs.Volume.{volume}
-use Rattle.report.specs.Report.{standing, told}
-use Rattle.report.specs.ReportLaws.{went_text, went_format, alone, answer_told}
+use Rattle.report.specs.Report.{standing, printing, told}
+use Rattle.report.specs.ReportLaws.{answer_told}
 use Rattle.report.proofs.tell.Goals as goal
 
 pub returns-in-Format : goal.returns-in-Format
-unfolding said told standing
+unfolding said told
 returns-in-Format c = let a = c.args in
+    let memory = volume a.words.now a.contents.now a.state.now in
     let s = c.say_format.ensures in
-    let h = went_format a.run _ (volume a.words.now a.contents.now a.state.now) a.out.now _ _ _ (s.stands, (s.prints, s.holds)) in
-    rw c.in-Format.is (record { stands = λ (list : List ℕ). h.0; prints = λ (list : List ℕ). h.1.0; holds = h.1.1 })
+    rw c.in-Format.is (record { stands = λ (list : List ℕ). s.stands memory; prints = λ (list : List ℕ). s.prints memory })
 
 pub returns-in-Write : goal.returns-in-Write
-unfolding said told standing
-returns-in-Write c = let a = c.args in
-    let s = c.say_done.ensures in
-    let h = went_text a.run _ (volume a.words.now a.contents.now a.state.now) a.out.now _ _ (s.stands, (s.prints, s.holds)) in
-    rw c.in-Write.is (record { stands = λ (list : List ℕ). h.0; prints = λ (list : List ℕ). h.1.0; holds = h.1.1 })
+unfolding said told printing
+returns-in-Write c = rw c.in-Write.is (record { stands = λ (list : List ℕ). refl; prints = λ (list : List ℕ). c.say_done.ensures })
 
 pub returns-in-List : goal.returns-in-List
-unfolding said told standing
-returns-in-List c = let a = c.args in
-    let s = c.say_list.ensures in
-    let h = went_text a.run _ (volume a.words.now a.contents.now a.state.now) a.out.now _ _ (s.stands, (s.prints, s.holds)) in
-    rw c.in-List.is (record { stands = λ (list : List ℕ). h.0; prints = λ (list : List ℕ). h.1.0; holds = h.1.1 })
+unfolding said told printing standing
+returns-in-List c = rw c.in-List.is (record { stands = λ (list : List ℕ). refl; prints = λ (list : List ℕ). c.list.ensures })
 
 pub returns-in_default : goal.returns-in_default
+unfolding printing
 returns-in_default c = let a = c.args in
     let d = c.in_default in
-    let s = c.say.ensures in
-    let h = answer_told two_widths a.run _ (volume a.words.now a.contents.now a.state.now) a.out.now _ a.line _ _ (alone _ d.not-Format d.not-Write d.not-List) (s.stands, (s.prints, s.holds)) in
-    record { stands = λ (list : List ℕ). (h list).0; prints = λ (list : List ℕ). (h list).1.0; holds = (h []).1.1 }
+    let p = rw c.answer.ensures at c.put_answer.ensures in
+    let told_so = λ (list : List ℕ). answer_told two_widths (standing a.run (volume a.words.now a.contents.now a.state.now)) a.line list (answer_of a.given) (result_unwrap_or a.given 0) d.not-Format d.not-Write d.not-List in
+    record { stands = λ (list : List ℕ). rw (told_so list) refl; prints = λ (list : List ℕ). rw (told_so list) p }

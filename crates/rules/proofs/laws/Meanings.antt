@@ -1,17 +1,16 @@
 -- The tests mean their sentences.
-use Rattle.std.specs.Prelude.{ℕ, zero, suc, ◌+◌, ◌*◌, ◌≤◌, ◌<◌, ◌≡◌, refl, List, ◌⊎◌, ◌↔◌, Bool, cond, ltb, eqb, length, get_or}
-use Rattle.std.proofs.Common.{arith, ap, ◌∙◌, inl, inr, ⊎_elim}
+use Rattle.std.specs.Prelude.{ℕ, zero, suc, ◌+◌, ◌*◌, ◌<◌, ◌≡◌, refl, List, ◌⊎◌, ◌↔◌, eqb, length, get_or}
+use Rattle.std.proofs.Common.{arith, ◌∙◌, inl, inr, ⊎_elim}
 use Rattle.std.proofs.Math.Path.{sym}
 use Rattle.std.proofs.Math.Bool.{true, false}
-use borrow.Author.Tests.{ltb-true, lt-ltb, le-ltb, eqb-true, eq-eqb}
-use Rattle.bounded.specs.Limits.{no_number, Widths}
+use borrow.Author.Tests.{lt-ltb, le-ltb, eqb-true, eq-eqb}
+use Rattle.bounded.specs.Limits.{no_number}
 use Rattle.bounded.specs.Choice.{never, on_test, on_lt, equal_test}
 use Rattle.bounded.specs.Below.{max_below}
 use Rattle.bounded.specs.BelowLaws.{all_each, max_at, some_at, some_of}
 use Rattle.bounded.specs.Parts.{part}
 use Rattle.bounded.specs.PartsLaws.{part_at}
 use Rattle.sizes.specs.declared.Layout.{Layout}
-use Rattle.sizes.specs.declared.Sizes.{Sizes}
 use Rattle.sizes.specs.declared.Layout.TheVariants.{FiveWords, FourWords}
 use Rattle.sizes.specs.Sizes.{stride_of, listed}
 use Rattle.sizes.specs.Lists.{list_exactly}
@@ -20,15 +19,12 @@ use Rattle.record.specs.Slot.{Slot}
 use Rattle.std.specs.Prelude.{None, Some}
 use Rattle.record.specs.Slot.{decoded, blank_in, slot_in, bytes_at, slot_sound}
 use Rattle.record.specs.SlotLaws.{SoundRecord, sound_exactly, slot_blank_exactly, slot_blank, slot_holds, is_blank_exactly}
-use Rattle.state.specs.declared.PageState.{PageState}
-use Rattle.state.specs.State.{page_of, state_at, in_flight, is_written}
+use Rattle.state.specs.State.{page_of, state_at, is_written}
 use Rattle.state.specs.StateLaws.{state_sound_means, number_flies, none_rests}
 use Rattle.table.specs.Table.{table_sound, highest, version_in, highest_version_of, mentioned, used_of}
 use Rattle.table.proofs.TableLaws.{blank_holds, highest_is, highest_held, highest_page, highest_above, highest_exists, has_record_lem}
 use Rattle.table.proofs.UsedLaws.{used_above_version, used_above_next}
 use Rattle.twins.proofs.TwinsLaws.{twins_exactly}
-use Rattle.follow.specs.declared.Verdict.TheVariants as says
-use Rattle.rules.specs.Volume.{Volume}
 use Rattle.rules.specs.Verdict.{is_straddled, link_verdict, slot_verdict, verdict}
 use Rattle.rules.specs.Simple.{simple_link_verdict, simple_slot_verdict, simple_verdict}
 use Rattle.rules.proofs.laws.Volume.{fits_in_facts, fits_in_test}

@@ -3,7 +3,6 @@ use Rattle.std.specs.Prelude.{ℕ, ◌<◌, ◌≡◌, ◌↔◌, List, Bool, le
 use Rattle.record.specs.declared.Record.{Record}
 use Rattle.record.specs.Slot.{Slot}
 use Rattle.std.specs.Prelude.{Some}
-use Rattle.record.specs.Slot.{holds}
 use Rattle.state.specs.declared.PageState.{PageState}
 use Rattle.rules.specs.Permission.{scene, may_erase_all}
 use Rattle.rules.specs.Found.{exposed_slots, by_found}

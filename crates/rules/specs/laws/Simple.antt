@@ -5,7 +5,6 @@ use Rattle.record.specs.Slot.{Slot}
 use Rattle.std.specs.Prelude.{Some}
 use Rattle.state.specs.declared.PageState.{PageState}
 use Rattle.table.specs.Table.{highest_version_of}
-use Rattle.rules.specs.Simple.{second}
 use Rattle.rules.specs.laws.Permission.{Exposed}
 
 -- ---- the second highest version

@@ -1,6 +1,8 @@
--- `state::put_page` meets its contract. The four stores write the page's words.
-use Rattle.state.specs.StateLaws.{sets_put}
+-- `state::put_page` meets its contract. The words stored are the page's.
+use Rattle.state.specs.State.{page_words}
+use Rattle.state.specs.StateLaws.{page_stored}
 use Rattle.state.proofs.put_page.Goals as goal
 
 pub returns : goal.returns
-returns c = sets_put c.args.state.now c.args.page c.args.s c.requires
+unfolding page_words
+returns c = page_stored c.args.state.now _ c.args.page c.args.s c.copy_from_slice.ensures.after

@@ -22,7 +22,9 @@ pub returns-then-holds_version : goal.returns-then-holds_version
 unfolding lowest_slot
 returns-then-holds_version c = let l = c.loop-k in
     let a = c.args in
-    sym (first_is _ _ l.k c.loop-k-test.true (ap (holds (of_version a.page a.version)) (sym c.slot_in.ensures) ∙ sym c.holds_version.ensures ∙ c.if-holds_version.true) l.invariant)
+    let below = c.loop-k-test.true in
+    let found = sym (first_is _ _ l.k below (ap (holds (of_version a.page a.version)) (sym c.slot_in.ensures) ∙ sym c.holds_version.ensures ∙ c.if-holds_version.true) l.invariant) in
+    (omega arith, found)
 
 pub loop-k-preserved : goal.loop-k-preserved
 loop-k-preserved c = let l = c.loop-k in
@@ -38,4 +40,5 @@ loop-k-preserved c = let l = c.loop-k in
 pub returns : goal.returns
 unfolding lowest_slot
 returns c = let l = c.loop-k in
-    sym (first_none _ _ (λ k h. l.invariant k (omega arith)))
+    let none = first_none _ c.args.slots (λ k h. l.invariant k (omega arith)) in
+    λ h. omega arith

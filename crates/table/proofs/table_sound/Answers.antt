@@ -4,14 +4,10 @@ use Rattle.bounded.specs.BelowLaws.{all_zero, all_more, all_fails}
 use Rattle.bounded.specs.Choice.{told}
 use Rattle.record.specs.Slot.{slot_sound}
 use Rattle.table.specs.Table.{table_sound}
-use Rattle.table.proofs.Inside.{slot_inside}
 use Rattle.table.proofs.table_sound.Goals as goal
 
 pub loop-k-init : goal.loop-k-init
 loop-k-init c = all_zero _
-
-pub slot_in-requires : goal.slot_in-requires
-slot_in-requires c = slot_inside c.args.layout c.args.sizes.slots c.loop-k.k c.args.words.now c.requires c.loop-k-test.true
 
 pub returns-then-not-slot_sound : goal.returns-then-not-slot_sound
 unfolding table_sound

@@ -8,13 +8,13 @@ use Rattle.permit.specs.Readable.{judged_readable}
 use Rattle.transact.proofs.would_bury.Goals as goal
 
 pub would_bury-requires : goal.would_bury-requires
-would_bury-requires c = record { readable = judged_readable c.args.sizes.pages c.args.sizes.slots c.args.words.now c.args.state.now c.in-FourWords.is c.requires.spans_in c.requires.words_value; page_lt_pages = c.requires.page_lt_pages }
+would_bury-requires c = record { readable = judged_readable _ _ _ _ c.in-FourWords.is c.requires.passed.spans c.requires.passed.table; page_lt_pages = c.requires.page_lt_pages }
 
 pub returns-in-FiveWords : goal.returns-in-FiveWords
-returns-in-FiveWords c = let a = c.args in
-    ap (λ (x : Layout). would_bury_in x a.sizes.slots (slot_in x a.words.now) (state_at a.state.now) a.page) (sym c.in-FiveWords.is)
+returns-in-FiveWords c = let v = c.args.volume.now in
+    ap (λ (x : Layout). would_bury_in x v.sizes.slots (slot_in x v.words.now) (state_at v.state.now) c.args.page) (sym c.in-FiveWords.is)
 
 pub returns-in-FourWords : goal.returns-in-FourWords
-returns-in-FourWords c = let a = c.args in
+returns-in-FourWords c = let v = c.args.volume.now in
     c.would_bury.ensures
-    ∙ ap (λ (x : Layout). would_bury_in x a.sizes.slots (slot_in x a.words.now) (state_at a.state.now) a.page) (sym c.in-FourWords.is)
+    ∙ ap (λ (x : Layout). would_bury_in x v.sizes.slots (slot_in x v.words.now) (state_at v.state.now) c.args.page) (sym c.in-FourWords.is)

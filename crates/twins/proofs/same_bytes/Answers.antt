@@ -1,41 +1,24 @@
-use Prim.Native.Nat.{ℕ, ◌+◌, ◌*◌, ◌<◌, ◌-◌}
+-- The test of the bytes is the definition's.
+use Prim.Native.Nat.{ℕ, ◌<◌}
 use native.Mathlib.Omega.{arith}
-use mathlib.Core.Path.{◌≡◌, sym, ◌∙◌}
+use mathlib.Core.Path.{◌≡◌, ap₂, ◌∙◌}
+use mathlib.Core.Bool.{Bool, true}
 use mathlib.Core.List.{List}
-use mathlib.Core.Bool.{true}
-use lib.ListN.{get_or}
-use borrow.Author.Tests.{ne_eqb, eq-eqb}
-use Rattle.bounded.specs.PartsLaws.{part_at}
-use Rattle.bounded.specs.BelowLaws.{all_zero, all_more, all_fails}
-use Rattle.record.specs.Slot.{bytes_at}
+use Rattle.std.specs.Prelude.{◌↔◌}
+use lib.ListN.{length, get_or}
+use borrow.Author.Tests.{eqb-true, eq-eqb}
+use Rattle.bounded.specs.Choice.{same_test}
+use Rattle.bounded.specs.BelowLaws.{all_at, all_of}
 use Rattle.twins.specs.Twins.{has_same_bytes}
 use Rattle.twins.proofs.same_bytes.Goals as goal
 
--- byte i of slot k
-byte_at : (width : ℕ) (contents : List ℕ) (k i : ℕ) → i < width → get_or (bytes_at width contents k) i 0 ≡ get_or contents (width * k + i) 0
-unfolding bytes_at
-byte_at width contents k i h = part_at width k contents i 0 h
-
-pub loop-i-init : goal.loop-i-init
+tested : (w : ℕ) (xs ys : List ℕ) (b : Bool) → length xs ≡ w → (b ≡ true) ↔ ((k : ℕ) → k < length xs → get_or xs k 0 ≡ get_or ys k 0) → b ≡ has_same_bytes w xs ys
 unfolding has_same_bytes
-loop-i-init c = all_zero _
-
-pub returns-then-contents-a : goal.returns-then-contents-a
-unfolding has_same_bytes
-returns-then-contents-a c = let a = c.args in
-    let h = c.loop-i-test.true in
-    sym (all_fails _ _ c.loop-i.i h
-    (ne_eqb _ _ (λ e. c.if-contents-a.true
-    (sym (byte_at a.width a.contents.now a.j c.loop-i.i h) ∙ e ∙ byte_at a.width a.contents.now a.k c.loop-i.i h))))
-
-pub loop-i-preserved : goal.loop-i-preserved
-unfolding has_same_bytes
-loop-i-preserved c = let a = c.args in
-    let h = c.loop-i-test.true in
-    all_more _ _ c.loop-i.invariant
-    (eq-eqb _ _ (byte_at a.width a.contents.now a.j c.loop-i.i h ∙ c.if-contents-a.false ∙ sym (byte_at a.width a.contents.now a.k c.loop-i.i h)))
+tested w xs ys b n t =
+    same_test b (has_same_bytes w xs ys)
+    (λ e. all_of _ _ (λ k h. eq-eqb _ _ (t.0 e k (omega arith))))
+    (λ e. t.1 (λ k h. eqb-true _ _ (all_at _ _ k e (omega arith))))
 
 pub returns : goal.returns
-returns c = let l = c.loop-i in
-    let e : l.i ≡ c.args.width = omega arith in
-    sym (rw e at l.invariant)
+returns c = let w = c.args.width in
+    tested w _ _ _ c.bytes_of.ensures.as_many c.are_equal.ensures ∙ ap₂ (has_same_bytes w) c.bytes_of.ensures.these c.bytes_of-2.ensures.these

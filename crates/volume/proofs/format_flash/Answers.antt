@@ -32,12 +32,6 @@ loop-k-preserved c = let a = c.args in
       s.auto.contents ∙ l.invariant.3,
     )
 
-pub shape_of-words : goal.shape_of-words
-shape_of-words c = c.loop-k.invariant.2
-
-pub shape_of-contents : goal.shape_of-contents
-shape_of-contents c = c.loop-k.invariant.3
-
 pub returns : goal.returns
 returns c = let a = c.args in
     let l = c.loop-k in

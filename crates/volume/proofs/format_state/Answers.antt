@@ -22,9 +22,6 @@ loop-p-preserved c = let a = c.args in
       s.auto.state ∙ l.invariant.1,
     )
 
-pub shape_of-state : goal.shape_of-state
-shape_of-state c = c.loop-p.invariant.1
-
 pub returns : goal.returns
 unfolding fresh_page
 returns c = let a = c.args in

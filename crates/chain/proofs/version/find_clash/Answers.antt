@@ -3,24 +3,17 @@ use mathlib.Core.Path.{refl, sym, ◌∙◌}
 use Rattle.record.specs.Slot.{slot_in}
 use Rattle.chain.specs.declared.Key.TheVariants.{Version}
 use Rattle.chain.specs.Chain.{by_version, chain_of}
-use Rattle.chain.proofs.ChainLaws.{blank_clashes_none, found_clash, found_empty}
+use Rattle.chain.proofs.ChainLaws.{blank_clashes_none, found_clash}
 use Rattle.chain.proofs.version.find_clash.Goals as goal
 
 pub returns-in_default : goal.returns-in_default
 returns-in_default c = let a = c.args in
     blank_clashes_none (slot_in a.layout a.words.now) a.k (sym c.slot_in.ensures ∙ c.in_default.is)
 
-pub returns-in_err-last : goal.returns-in_err-last
-unfolding by_version
-returns-in_err-last c = let a = c.args in
-    rw c.from_residual.ensures
-    (found_clash (slot_in a.layout a.words.now) a.k (sym c.slot_in.ensures ∙ c.in-Some.is)
-    (found_empty Version refl a.k (slot_in a.layout a.words.now) a.chains.now c.requires.chained c.in-Some.record (sym c.in_err-last.ensures)))
-
 pub find_version-requires : goal.find_version-requires
 unfolding by_version chain_of
 find_version-requires c = let p = c.requires in
-    record { n_in_bounds = omega (arith, p.layout_in_bounds); n_bound = p.k_bound; chained_to = record { key = Version; versions_together = refl; chained = p.chained; last_is = c.in_ok-last.ensures } }
+    record { n_in_bounds = omega (arith, p.layout_in_bounds); n_bound = p.k_bound; chained_to = record { key = Version; versions_together = refl; chained = p.chained; end_is = c.last_of-last.ensures } }
 
 pub returns : goal.returns
 returns c = let a = c.args in

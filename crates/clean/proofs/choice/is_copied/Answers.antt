@@ -17,7 +17,7 @@ returns-then-not-may_erase_from c = let p = c.requires in
     elim c.if-is_some.branch [
       | then-is_some w ↦ ap not c.has_lower_twin.ensures
           ∙ sym (lowest_copied _ _ _ _ _ _ inside (some_not_blank _ _ _ c.is_some.ensures c.slot_at.ensures w.if-is_some.true)
-          (sym (w.may_erase_from.ensures ∙ judged_so _ _ _ _ p.chosen _) ∙ not-true _ (sym w.value-is ∙ c.if-not-may_erase_from.true)))
+          (sym (w.may_erase_from.ensures ∙ judged_so p.chosen _) ∙ not-true _ (sym w.value-is ∙ c.if-not-may_erase_from.true)))
       | else-is_some w ↦ absurd (cc)
     ]
 
@@ -27,7 +27,7 @@ returns-else-not-may_erase_from c = let p = c.requires in
     elim c.if-is_some.branch [
       | then-is_some w ↦ c.if-not-may_erase_from.false
           ∙ sym (erasable_stays _ _ _ _ _ _ inside (some_not_blank _ _ _ c.is_some.ensures c.slot_at.ensures w.if-is_some.true)
-          (sym (w.may_erase_from.ensures ∙ judged_so _ _ _ _ p.chosen _) ∙ not-false _ (sym w.value-is ∙ c.if-not-may_erase_from.false)))
+          (sym (w.may_erase_from.ensures ∙ judged_so p.chosen _) ∙ not-false _ (sym w.value-is ∙ c.if-not-may_erase_from.false)))
       | else-is_some w ↦ c.if-not-may_erase_from.false ∙ sym (blank_stays _ _ _ _ _ _ inside (not_some_blank _ _ _ c.is_some.ensures c.slot_at.ensures w.if-is_some.false))
     ]
 

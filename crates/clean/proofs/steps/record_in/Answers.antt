@@ -1,12 +1,16 @@
 -- By what the slot holds.
-use Rattle.record.specs.Slot.{blank_record}
+use mathlib.Core.Path.{◌≡◌, refl, ◌∙◌}
+use Rattle.std.specs.Prelude.{None, Some}
+use Rattle.std.specs.Option.{unwrap_or}
+use Rattle.record.specs.Slot.{Slot, blank_record}
 use Rattle.upkeep.specs.Clean.{record_in}
 use Rattle.clean.proofs.steps.record_in.Goals as goal
 
-pub returns-in-None : goal.returns-in-None
-unfolding record_in blank_record
-returns-in-None c = rw c.in-None.is
-
-pub returns-in-Some : goal.returns-in-Some
+by_slot : (slot : Slot) → unwrap_or slot blank_record ≡ record_in slot
 unfolding record_in
-returns-in-Some c = rw c.in-Some.is
+by_slot None = refl
+by_slot (Some r) = refl
+
+pub returns : goal.returns
+unfolding blank_record
+returns c = c.unwrap_or.ensures ∙ by_slot c.args.slot

@@ -1,35 +1,20 @@
 use native.Mathlib.Omega.{arith}
 use mathlib.Core.Path.{refl, sym, ◌∙◌, subst}
-use Rattle.rules.specs.Volume.{volume}
-use Rattle.recorded.specs.Desk.{desk}
+use Rattle.recorded.specs.Held.{desk_of}
 use Rattle.cuts.specs.Lines.{end_within}
 use Rattle.cuts.specs.Ran.{AtMost, most_cuts}
-use Rattle.cuts.specs.RunLaws.{at_most, still_ready, from_here, here_ends, here_many, here_refused, here_counted}
+use Rattle.cuts.specs.RunLaws.{at_most, from_here, here_ends, here_many, here_refused, here_counted}
 use Rattle.cuts.proofs.run.run.Goals as goal
 
 pub loop-at-init : goal.loop-at-init
-loop-at-init c = (c.requires.from_in_bounds, (omega arith, omega arith), omega arith, record { words = refl; contents = refl; state = refl; entered = refl; kept = refl }, refl)
-
-pub shape_of-words-then-lines_done-ge256 : goal.shape_of-words-then-lines_done-ge256
-shape_of-words-then-lines_done-ge256 c = c.loop-at.invariant.3.words
-
-pub shape_of-contents-then-lines_done-ge256 : goal.shape_of-contents-then-lines_done-ge256
-shape_of-contents-then-lines_done-ge256 c = c.loop-at.invariant.3.contents
-
-pub shape_of-state-then-lines_done-ge256 : goal.shape_of-state-then-lines_done-ge256
-shape_of-state-then-lines_done-ge256 c = c.loop-at.invariant.3.state
-
-pub shape_of-entered-then-lines_done-ge256 : goal.shape_of-entered-then-lines_done-ge256
-shape_of-entered-then-lines_done-ge256 c = c.loop-at.invariant.3.entered
-
-pub shape_of-kept-then-lines_done-ge256 : goal.shape_of-kept-then-lines_done-ge256
-shape_of-kept-then-lines_done-ge256 c = c.loop-at.invariant.3.kept
+loop-at-init c = (c.requires, (omega arith, omega arith), omega arith, (refl, refl), refl)
 
 pub returns-then-lines_done-ge256 : goal.returns-then-lines_done-ge256
 unfolding from_here AtMost
 returns-then-lines_done-ge256 c = let a = c.args in
+    let d = a.desk.now in
     let l = c.loop-at in
-    record { finds = sym (here_many a.sizes a.trial a.text.now l.tally (desk (volume l.words l.contents l.state) l.entered l.kept) l.lines_done l.at c.loop-at-test.true refl refl c.if-lines_done-ge256.true) ∙ l.invariant.4; few = tt }
+    record { finds = sym (here_many d.sizes d.trial a.text.now l.tally (desk_of l.desk) l.lines_done l.at c.loop-at-test.true refl refl c.if-lines_done-ge256.true) ∙ l.invariant.4; few = tt }
 
 pub slice_bounds-turn-count : goal.slice_bounds-turn-count
 slice_bounds-turn-count c = omega (arith, c.line_end-end.ensures)
@@ -43,14 +28,15 @@ slice_bounds-turn-end c = (end_within c.args.text.now _ _ _ c.line_end-end.ensur
 pub turn-requires : goal.turn-requires
 turn-requires c = let l = c.loop-at in
     let h = c.if-lines_done-ge256.false in
-    record { ready = still_ready _ _ _ c.requires.ready l.invariant.3; differ_bound = omega (arith, l.invariant.2) }
+    omega (arith, l.invariant.2)
 
 pub returns-in_err-tally : goal.returns-in_err-tally
 unfolding from_here AtMost
 returns-in_err-tally c = let a = c.args in
+    let d = a.desk.now in
     let l = c.loop-at in
     let t = c.turn in
-    record { finds = c.from_residual.ensures ∙ sym (here_refused a.sizes a.trial a.text.now l.tally (desk (volume l.words l.contents l.state) l.entered l.kept) l.lines_done l.at c.loop-at-test.true c.line_end-end.ensures refl c.if-lines_done-ge256.false t.result t.ensures.counts c.in_err-tally.was) ∙ l.invariant.4; few = subst (AtMost most_cuts) (sym c.from_residual.ensures) tt }
+    record { finds = c.from_residual.ensures ∙ sym (here_refused d.sizes d.trial a.text.now l.tally (desk_of l.desk) l.lines_done l.at c.loop-at-test.true c.line_end-end.ensures refl c.if-lines_done-ge256.false t.result (rw (l.invariant.3.0, l.invariant.3.1) at t.ensures.counts) c.in_err-tally.was) ∙ l.invariant.4; few = subst (AtMost most_cuts) (sym c.from_residual.ensures) tt }
 
 pub next_line-at-requires : goal.next_line-at-requires
 next_line-at-requires c = (end_within c.args.text.now _ _ _ c.line_end-end.ensures refl c.loop-at.invariant.0).1
@@ -61,6 +47,7 @@ loop-at-smaller c = let e = c.line_end-end.ensures in
 
 pub loop-at-preserved : goal.loop-at-preserved
 loop-at-preserved c = let a = c.args in
+    let d = a.desk.now in
     let l = c.loop-at in
     let t = c.turn in
     let is = c.in_ok-tally.was in
@@ -69,33 +56,13 @@ loop-at-preserved c = let a = c.args in
       omega (arith, c.next_line-at.ensures),
       (omega arith, omega arith),
       omega (arith, most, l.invariant.2),
-      record {
-        words = t.auto.words ∙ l.invariant.3.words;
-        contents = t.auto.contents ∙ l.invariant.3.contents;
-        state = t.auto.state ∙ l.invariant.3.state;
-        entered = t.auto.entered ∙ l.invariant.3.entered;
-        kept = t.auto.kept ∙ l.invariant.3.kept;
-      },
-      sym (here_counted a.sizes a.trial a.text.now l.tally (desk (volume l.words l.contents l.state) l.entered l.kept) l.lines_done l.at c.loop-at-test.true c.line_end-end.ensures c.next_line-at.ensures few t.result t.ensures.counts _ is _ t.ensures.leaves) ∙ l.invariant.4,
+      (t.ensures.same_sizes ∙ l.invariant.3.0, t.ensures.same_trial ∙ l.invariant.3.1),
+      sym (here_counted d.sizes d.trial a.text.now l.tally (desk_of l.desk) l.lines_done l.at c.loop-at-test.true c.line_end-end.ensures c.next_line-at.ensures few t.result (rw (l.invariant.3.0, l.invariant.3.1) at t.ensures.counts) _ is _ (rw (l.invariant.3.0, l.invariant.3.1) at t.ensures.leaves)) ∙ l.invariant.4,
     )
-
-pub shape_of-words : goal.shape_of-words
-shape_of-words c = c.loop-at.invariant.3.words
-
-pub shape_of-contents : goal.shape_of-contents
-shape_of-contents c = c.loop-at.invariant.3.contents
-
-pub shape_of-state : goal.shape_of-state
-shape_of-state c = c.loop-at.invariant.3.state
-
-pub shape_of-entered : goal.shape_of-entered
-shape_of-entered c = c.loop-at.invariant.3.entered
-
-pub shape_of-kept : goal.shape_of-kept
-shape_of-kept c = c.loop-at.invariant.3.kept
 
 pub returns : goal.returns
 unfolding from_here AtMost
 returns c = let a = c.args in
+    let d = a.desk.now in
     let l = c.loop-at in
-    record { finds = sym (here_ends a.sizes a.trial a.text.now l.tally (desk (volume l.words l.contents l.state) l.entered l.kept) l.lines_done l.at c.loop-at-test.false) ∙ l.invariant.4; few = omega (arith, l.invariant.2, l.invariant.1) }
+    record { finds = sym (here_ends d.sizes d.trial a.text.now l.tally (desk_of l.desk) l.lines_done l.at c.loop-at-test.false) ∙ l.invariant.4; few = omega (arith, l.invariant.2, l.invariant.1) }

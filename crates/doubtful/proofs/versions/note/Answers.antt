@@ -9,21 +9,12 @@ use Rattle.doubtful.proofs.versions.note.Goals as goal
 pub loop-page-init : goal.loop-page-init
 loop-page-init c = (refl, filled_none _ _ _)
 
-pub bounds-out-low-in-loop-page-2 : goal.bounds-out-low-in-loop-page-2
-bounds-out-low-in-loop-page-2 c = simp length-set (omega arith)
-
-pub bounds-out-low-in-loop-page-3 : goal.bounds-out-low-in-loop-page-3
-bounds-out-low-in-loop-page-3 c = simp length-set (omega arith)
-
 pub loop-page-preserved : goal.loop-page-preserved
 loop-page-preserved c = let l = c.loop-page in
     let version = ap (λ (s : PageState). s.committed) c.page_at-version.ensures in (
       simp length-set l.invariant.0,
       noted_more _ _ c.args.state.now c.args.out.now c.requires.out_len l.page c.loop-page-test.true l.invariant.1 version c.lowest.ensures c.highest.ensures,
     )
-
-pub shape_of-out : goal.shape_of-out
-shape_of-out c = c.loop-page.invariant.0
 
 pub returns : goal.returns
 returns c = let l = c.loop-page in

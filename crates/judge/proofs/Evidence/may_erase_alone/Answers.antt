@@ -10,5 +10,5 @@ pub returns : goal.returns
 unfolding may_erase_alone
 returns c = let p = c.requires in
     let a = c.args in
-    let few = a.self.now.judgeable.comparable.linkable.slots_few in
+    let few = a.self.now.table.within.slots_few in
     record { value = c.may_erase_from-may.ensures ∙ by_list _ _ (alone_marked a.marks.now a.slot p.no_marks (omega arith)); no_marks_2 = alone_cleared a.marks.now a.slot p.no_marks (omega arith) }

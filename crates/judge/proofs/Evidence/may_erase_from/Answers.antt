@@ -10,9 +10,6 @@ use Rattle.judge.specs.Marked.{marked}
 use Rattle.judge.specs.JudgeLaws.{by_old_rule, by_twin}
 use Rattle.judge.proofs.Evidence.may_erase_from.Goals as goal
 
-pub may_erase-requires : goal.may_erase-requires
-may_erase-requires c = let j = c.args.self.now.judgeable in record { searchable = j.searchable; within = j.within; slot_lt_slots = c.requires }
-
 pub returns-then-may_erase : goal.returns-then-may_erase
 returns-then-may_erase c = c.if-may_erase.true ∙ sym (by_old_rule _ _ _ _ _ _ _ (sym c.may_erase.ensures ∙ c.if-may_erase.true))
 
@@ -20,5 +17,5 @@ pub returns-else-may_erase : goal.returns-else-may_erase
 unfolding by_found twin_outside
 returns-else-may_erase c = let e = c.args.self.now in
     c.twin_outside.ensures
-    ∙ sym (by_twin e.sizes.slots (slot_at e.words.now) (state_at e.state.now) e.found.now (twins e.sizes.width (flash e.words.now e.contents.now)) (marked c.args.marks.now) c.args.slot
+    ∙ sym (by_twin e.table.sizes.slots (slot_at e.table.words.now) (state_at e.table.state.now) e.table.found.now (twins e.table.sizes.width (flash e.table.words.now e.contents.now)) (marked c.args.marks.now) c.args.slot
     (sym c.may_erase.ensures ∙ c.if-may_erase.false))

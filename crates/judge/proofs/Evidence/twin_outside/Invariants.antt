@@ -12,8 +12,8 @@ use Rattle.judge.specs.JudgeLaws.{outside}
 use Rattle.judge.proofs.Evidence.twin_outside.Given as goal
 
 abbrev pub invariant-loop-at : goal.invariant-loop-at
-invariant-loop-at l = (r : Record) × (slot_at l.self.words.now l.slot ≡ Some r)
-    × Left Pointer l.self.sizes.slots (slot_at l.self.words.now) (chain_of Pointer r) (outside l.self.sizes.width (flash l.self.words.now l.self.contents.now) (marked l.marks) l.slot) (end_of l.at)
+invariant-loop-at l = (r : Record) × (slot_at l.self.table.words.now l.slot ≡ Some r)
+    × Left Pointer l.self.table.sizes.slots (slot_at l.self.table.words.now) (chain_of Pointer r) (outside l.self.table.sizes.width (flash l.self.table.words.now l.self.contents.now) (marked l.marks) l.slot) (end_of l.at)
 
 abbrev pub decreases-loop-at : goal.decreases-loop-at
 decreases-loop-at l = end_of l.at

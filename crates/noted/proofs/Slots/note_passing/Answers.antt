@@ -1,6 +1,5 @@
 -- A slot that passes is noted behind those below it, and one that does not adds nothing to the list.
-use Rattle.std.proofs.Common.{◌≡◌, ℕ, ap, arith, sym, ◌∙◌, length-append, List, ◌∷◌, [], ◌++◌}
-use Rattle.bounded.specs.Below.{list_below}
+use Rattle.std.proofs.Common.{ℕ, ap, arith, sym, ◌∙◌, length-append, List, ◌∷◌, [], ◌++◌}
 use Rattle.bounded.specs.Passing.{list_more, list_stays}
 use Rattle.bounded.specs.Members.{list_none}
 use Rattle.noted.specs.Noted.{noted}
@@ -23,8 +22,3 @@ loop-k-preserved g c = elim c.if-passes.branch [
         ap noted w.self-is ∙ i.1 f below agrees ∙ sym (list_stays f c.loop-k.k fails),
   )
 ]
-
-pub returns : goal.returns
-returns g c = λ f below agrees. let l = c.loop-k in
-    let e : l.k ≡ c.args.to = omega arith in
-    l.invariant.1 f below agrees ∙ ap (λ (n : ℕ). list_below n f) e

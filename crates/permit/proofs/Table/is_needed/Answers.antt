@@ -10,12 +10,6 @@ use Rattle.permit.proofs.Table.is_needed.Goals as goal
 pub search-init : goal.search-init
 search-init c = (refl, some_zero _)
 
-pub slot_straddled-requires : goal.slot_straddled-requires
-slot_straddled-requires c = let p = c.args.self.now.searchable in
-    let h = p.slots_in_lem in
-    let b = p.found_in c.search.exposed-index c.search-test.true in
-    omega arith
-
 pub loop-at-init : goal.loop-at-init
 loop-at-init c = rw c.last_of-at.ensures (search_begins _ _ _ c.args.self.now.searchable.chained _ _ (outdone_in_chain _ _) (chain_below _ _))
 

@@ -12,7 +12,7 @@ use Rattle.chain.proofs.ChainLaws.{Left}
 use Rattle.permit.proofs.Table.is_needed.Given as goal
 
 abbrev pub invariant-loop-at : goal.invariant-loop-at
-invariant-loop-at l = Left Pointer l.self.slots (slot_at l.self.words.now) (chain_of Pointer l.straddler) (λ k. holds (outdone_by l.straddler) (slot_at l.self.words.now k)) (end_of l.at)
+invariant-loop-at l = Left Pointer l.self.sizes.slots (slot_at l.self.words.now) (chain_of Pointer l.straddler) (λ k. holds (outdone_by l.straddler) (slot_at l.self.words.now k)) (end_of l.at)
 
 abbrev pub decreases-loop-at : goal.decreases-loop-at
 decreases-loop-at l = end_of l.at

@@ -9,11 +9,6 @@ pub returns-in_default : goal.returns-in_default
 unfolding by_found may_erase
 returns-in_default c = sym (holds_none _ (sym c.slot_at.ensures ∙ c.in_default.is))
 
-pub may_erase_record-requires : goal.may_erase_record-requires
-may_erase_record-requires c = let p = c.requires in
-    let holds = sym c.slot_at.ensures ∙ c.in-Some.is in
-    record { slot_lt_slots = p; record_in_bounds = c.args.self.now.within.pages_in_lem _ _ p holds }
-
 pub returns : goal.returns
 unfolding by_found may_erase
 returns c = c.may_erase_record.ensures

@@ -1,11 +1,8 @@
 -- A blank slot holds no record to bury; the page of a record in the table is in the state.
 use mathlib.Core.Path.{sym, ◌∙◌}
-use Rattle.permit.specs.Readable.{slot_in_words, record_in_state}
+use Rattle.permit.specs.Readable.{record_in_state}
 use Rattle.permit.specs.SearchLaws.{holds_none, holds_record}
 use Rattle.permit.proofs.simple.buries_slot.Goals as goal
-
-pub slot_in-requires : goal.slot_in-requires
-slot_in-requires c = let p = c.requires in slot_in_words _ _ _ _ p.readable _ p.slot_lt_slots
 
 pub returns-in_default : goal.returns-in_default
 returns-in_default c = sym (holds_none _ (sym c.slot_in.ensures ∙ c.in_default.is))

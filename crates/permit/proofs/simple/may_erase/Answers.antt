@@ -1,12 +1,9 @@
 -- A blank slot may not be erased; the page of a record in the table is in the state.
 use mathlib.Core.Path.{sym, ◌∙◌}
 use Rattle.rules.specs.Simple.{simple_may_erase}
-use Rattle.permit.specs.Readable.{slot_in_words, record_in_state}
+use Rattle.permit.specs.Readable.{record_in_state}
 use Rattle.permit.specs.SearchLaws.{holds_none, holds_record}
 use Rattle.permit.proofs.simple.may_erase.Goals as goal
-
-pub slot_in-requires : goal.slot_in-requires
-slot_in-requires c = let p = c.requires in slot_in_words _ _ _ _ p.readable _ p.slot_lt_slots
 
 pub returns-in_default : goal.returns-in_default
 unfolding simple_may_erase

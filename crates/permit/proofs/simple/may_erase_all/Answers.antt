@@ -9,9 +9,6 @@ use Rattle.permit.proofs.simple.may_erase_all.Goals as goal
 pub loop-slot-init : goal.loop-slot-init
 loop-slot-init c = all_zero _
 
-pub may_erase-requires : goal.may_erase-requires
-may_erase-requires c = let p = c.requires in record { readable = p.readable; slot_lt_slots = p.listed.in_range_lem _ c.loop-slot-test.true }
-
 pub returns-then-not-may_erase : goal.returns-then-not-may_erase
 unfolding simple_may_erase_all
 returns-then-not-may_erase c = sym (all_fails _ _ c.loop-slot.slot-index c.loop-slot-test.true (told c.may_erase.ensures c.if-not-may_erase.true))

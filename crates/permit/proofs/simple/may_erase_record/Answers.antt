@@ -7,10 +7,6 @@ pub returns-then-is_obsolete : goal.returns-then-is_obsolete
 unfolding simple_may_erase_record
 returns-then-is_obsolete c = grind (arith, common_steps)
 
-pub returns-then-is_exposed : goal.returns-then-is_exposed
+pub returns-else-is_obsolete : goal.returns-else-is_obsolete
 unfolding simple_may_erase_record
-returns-then-is_exposed c = grind (arith, common_steps)
-
-pub returns-else-is_exposed : goal.returns-else-is_exposed
-unfolding simple_may_erase_record
-returns-else-is_exposed c = grind (arith, common_steps)
+returns-else-is_obsolete c = grind (arith, common_steps)

@@ -5,18 +5,11 @@ use Rattle.sizes.specs.declared.Layout.TheVariants.{FourWords}
 use Rattle.record.specs.Slot.{slot_in}
 use Rattle.state.specs.declared.PageState.{PageState}
 use Rattle.state.specs.State.{state_at}
-use Rattle.permit.specs.Readable.{page_in_state}
 use Rattle.permit.specs.SimpleLaws.{some_buried, none_buried}
 use Rattle.permit.proofs.simple.would_bury.Goals as goal
 
-pub page_at-version-requires : goal.page_at-version-requires
-page_at-version-requires c = let p = c.requires in page_in_state _ _ _ _ p.readable _ p.page_lt_pages
-
 pub loop-k-init : goal.loop-k-init
 loop-k-init c = some_zero _
-
-pub buries_slot-requires : goal.buries_slot-requires
-buries_slot-requires c = let p = c.requires in record { readable = p.readable; slot_lt_slots = c.loop-k-test.true }
 
 pub returns-then-buries_slot : goal.returns-then-buries_slot
 returns-then-buries_slot c = let a = c.args in

@@ -27,9 +27,12 @@ returns-then-some_clash c = let a = c.args in
     (sym c.some_clash.ensures ∙ c.if-some_clash.true)
     ∙ sym (simple_outcome two_widths a.sizes a.words.now a.state.now)
 
+pub invariant_of-table : goal.invariant_of-table
+invariant_of-table c = let f = simple_fits _ _ _ _ (told c.table_ok.ensures c.if-not-table_ok.false) in
+    record { spans = f.slots_in_lem; pages_few = f.pages_most; slots_few = f.slots_most; sound = told c.table_sound.ensures c.if-not-table_sound.false }
+
 pub recover_sound-requires : goal.recover_sound-requires
-recover_sound-requires c = let f = simple_fits _ _ _ _ (told c.table_ok.ensures c.if-not-table_ok.false) in
-    record { slots_in_bounds = f.slots_in_lem; pages_bound = f.pages_most; slots_bound = f.slots_most; words_value = told c.table_sound.ensures c.if-not-table_sound.false; state_len = f.state_sized }
+recover_sound-requires c = (simple_fits _ _ _ _ (told c.table_ok.ensures c.if-not-table_ok.false)).state_sized
 
 pub returns : goal.returns
 returns c = let a = c.args in

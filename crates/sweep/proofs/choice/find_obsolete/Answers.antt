@@ -1,29 +1,25 @@
--- What was found is taken for the exposed records, and judging by it for the rule's permission.
+-- The table is of the volume, and judging by what was found is the rule's permission.
 use native.Mathlib.Omega.{arith}
-use mathlib.Core.Path.{◌∙◌}
+use mathlib.Core.Path.{◌≡◌, ◌∙◌}
 use mathlib.Core.Bool.{◌&&◌}
 use Rattle.std.proofs.Common.{rules}
+use Rattle.bounded.specs.Below.{list_below}
+use Rattle.noted.specs.Noted.{noted}
 use Rattle.record.specs.Slot.{slot_at}
 use Rattle.state.specs.State.{state_at}
 use Rattle.rules.specs.Permission.{may_erase, untwinned}
-use Rattle.rules.specs.Found.{by_found}
 use Rattle.upkeep.specs.Sweep.{is_obsolete_at}
-use Rattle.permit.specs.Prepared.{linkable_within, searchable}
+use Rattle.permit.specs.Shown.{shown}
 use Rattle.sweep.specs.Chosen.{obsolete_found}
 use Rattle.sweep.proofs.choice.find_obsolete.Goals as goal
 
-pub find_exposed-requires : goal.find_exposed-requires
-find_exposed-requires c = let p = c.requires in linkable_within _ _ _ _ p.linkable p.pages_in_bounds
-
-pub note_passing-requires-clause-callable : goal.note_passing-requires-clause-callable
-note_passing-requires-clause-callable c = let p = c.requires in
-    let s = searchable _ _ c.args.words.now c.args.state.now _ c.as_slice-found.result.now p.linkable c.link_sound_slots.ensures (c.as_slice-found.ensures ∙ c.find_exposed.ensures) in
-    let w = linkable_within _ _ c.args.words.now c.args.state.now p.linkable p.pages_in_bounds in
-    λ k l h. search rules
-
 pub returns : goal.returns
-returns c = let a = c.args in
-    c.note_passing.ensures
-    (λ k. is_obsolete_at (slot_at a.words.now) (state_at a.state.now) k && may_erase (by_found (untwinned a.sizes.slots (slot_at a.words.now) (state_at a.state.now)) c.as_slice-found.result.now) k)
-    (λ k h. absurd (omega arith)) (λ k b l h ran. search rules)
-    ∙ obsolete_found _ _ _ (c.as_slice-found.ensures ∙ c.find_exposed.ensures)
+returns c = let table = c.prepare-table.result in
+    let t = c.prepare-table.ensures in
+    let S = table.sizes.slots in
+    let slots = slot_at table.words.now in
+    let pages = state_at table.state.now in
+    let all : noted c.note_passing.new.self ≡ list_below S (λ k. is_obsolete_at slots pages k && may_erase (untwinned S slots pages) k) =
+    c.note_passing.ensures (λ k. is_obsolete_at slots pages k && may_erase (shown table) k) (λ k h. absurd (omega arith)) (λ k b l h ran. search rules)
+    ∙ obsolete_found S slots pages t.all_found in
+    rw (t.same_sizes, t.same_words, t.same_state) at all

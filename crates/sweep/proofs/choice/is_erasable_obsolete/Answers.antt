@@ -11,8 +11,8 @@ returns-in_default c = rw (blank_not_obsolete _ _ _ (sym c.slot_at.ensures ∙ c
 
 pub returns-then-is_obsolete : goal.returns-then-is_obsolete
 returns-then-is_obsolete c = let a = c.args in
-    rw (obsolete_record (slot_at a.words.now) (state_at a.state.now) a.slot (sym c.slot_at.ensures ∙ c.in-Some.is), told c.is_obsolete.ensures c.if-is_obsolete.true) c.may_erase.ensures
+    rw (obsolete_record (slot_at a.table.now.words.now) (state_at a.table.now.state.now) a.slot (sym c.slot_at.ensures ∙ c.in-Some.is), told c.is_obsolete.ensures c.if-is_obsolete.true) c.may_erase.ensures
 
 pub returns-else-is_obsolete : goal.returns-else-is_obsolete
 returns-else-is_obsolete c = let a = c.args in
-    rw (obsolete_record (slot_at a.words.now) (state_at a.state.now) a.slot (sym c.slot_at.ensures ∙ c.in-Some.is), told c.is_obsolete.ensures c.if-is_obsolete.false) c.if-is_obsolete.false
+    rw (obsolete_record (slot_at a.table.now.words.now) (state_at a.table.now.state.now) a.slot (sym c.slot_at.ensures ∙ c.in-Some.is), told c.is_obsolete.ensures c.if-is_obsolete.false) c.if-is_obsolete.false

@@ -8,9 +8,6 @@ use Rattle.van.proofs.input.first_of.Goals as goal
 pub returns-then-not-is_whole : goal.returns-then-not-is_whole
 returns-then-not-is_whole c = first_cut c.args.input.now (told c.is_whole.ensures c.if-not-is_whole.true)
 
-pub entry_at-requires : goal.entry_at-requires
-entry_at-requires c = told c.is_whole.ensures c.if-not-is_whole.false
-
 pub sizes_at-requires : goal.sizes_at-requires
 sizes_at-requires c = (whole_facts two_widths c.args.input.now (told c.is_whole.ensures c.if-not-is_whole.false)).header
 

@@ -12,8 +12,5 @@ returns-then-input-lt12 c = sym (broken_early two_widths c.args.input.now c.if-i
 pub returns-else-sizes_taken : goal.returns-else-sizes_taken
 returns-else-sizes_taken c = c.if-sizes_taken.false ∙ wrong_sizes_lem c.args.input.now _ c.sizes_at-sizes.ensures c.if-input-lt12.false (told c.sizes_taken.ensures c.if-sizes_taken.false)
 
-pub volume_length-requires : goal.volume_length-requires
-volume_length-requires c = told c.sizes_taken.ensures c.if-sizes_taken.true
-
 pub returns-then-sizes_taken : goal.returns-then-sizes_taken
 returns-then-sizes_taken c = right_sizes c.args.input.now _ c.sizes_at-sizes.ensures c.if-input-lt12.false (told c.sizes_taken.ensures c.if-sizes_taken.true) _ c.volume_length.ensures

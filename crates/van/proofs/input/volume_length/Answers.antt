@@ -5,10 +5,6 @@ use Rattle.fleet.specs.Input.{table_end, volume_length}
 use Rattle.fleet.proofs.InputLaws.{volume_most}
 use Rattle.van.proofs.input.volume_length.Goals as goal
 
-pub overflow_mul-result-2 : goal.overflow_mul-result-2
-unfolding volume_length table_end
-overflow_mul-result-2 c = omega (arith, volume_most c.args.sizes c.requires)
-
 pub overflow_add-result-2 : goal.overflow_add-result-2
 unfolding volume_length table_end
 overflow_add-result-2 c = omega (arith, volume_most c.args.sizes c.requires)

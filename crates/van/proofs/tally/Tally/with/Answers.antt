@@ -5,10 +5,6 @@ use Rattle.fleet.specs.declared.Figures.{Figures}
 use Rattle.van.specs.Tally.{tallied_with}
 use Rattle.van.proofs.tally.Tally.with.Goals as goal
 
-pub together-requires : goal.together-requires
-together-requires c = let p = c.requires in
-    record { within = p.tally_few.totals; within_2 = rw c.in-Ok.is at p.small_entry }
-
 pub returns-in-Ok : goal.returns-in-Ok
 unfolding tallied_with
 returns-in-Ok c = let self = c.args.self in
