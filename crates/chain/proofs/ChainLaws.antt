@@ -237,18 +237,19 @@ module _ {key : Key} (S : ℕ) (t : ℕ → Slot) (chains : List ℕ) (c : Chain
 -- ---- records of one page and version
 
 -- they are in one chain
+pub chain_by_version : (key : Key) → by_version key ≡ true → (s r : Record) → s.p ≡ r.p → s.v ≡ r.v → chain_of key s ≡ chain_of key r
+unfolding chain_of by_version
+chain_by_version Page b s r p v = rw p
+chain_by_version Straddler b s r p v = absurd (never b refl)
+chain_by_version Pointer b s r p v = absurd (never b refl)
+chain_by_version Version b s r p v = rw (p, v)
+
 pub version_in_chain : (key : Key) → by_version key ≡ true → (t : ℕ → Slot) (r : Record) (k : ℕ) → holds (of_version r.p r.v) (t k) ≡ true → in_chain key t (chain_of key r) k ≡ true
-unfolding in_chain of_version chain_of by_version
+unfolding in_chain of_version
 version_in_chain key b t r k e =
     let h = (holds_exactly (of_version r.p r.v) (t k)).0 e in
     holds_of (λ s. eqb (chain_of key s) (chain_of key r)) h.1
-    (eq-eqb (chain_of key h.0) (chain_of key r) (same key b h.0 (eqb-true _ _ (both_left (eqb h.0.p r.p) _ h.2)) (eqb-true _ _ (both_right (eqb h.0.p r.p) _ h.2))))
-  where
-    same : (key : Key) → by_version key ≡ true → (s : Record) → s.p ≡ r.p → s.v ≡ r.v → chain_of key s ≡ chain_of key r
-    same Page b s p v = rw p
-    same Straddler b s p v = absurd (never b refl)
-    same Pointer b s p v = absurd (never b refl)
-    same Version b s p v = rw (p, v)
+    (eq-eqb (chain_of key h.0) (chain_of key r) (chain_by_version key b h.0 r (eqb-true _ _ (both_left (eqb h.0.p r.p) _ h.2)) (eqb-true _ _ (both_right (eqb h.0.p r.p) _ h.2))))
 
 -- none where the chain is empty
 pub found_empty : (key : Key) → by_version key ≡ true → (n : ℕ) (t : ℕ → Slot) (chains : List ℕ) → Chained key n t chains → (r : Record) → get_or chains (chain_of key r) 0 ≡ 0 → Found n (λ k. holds (of_version r.p r.v) (t k)) 0

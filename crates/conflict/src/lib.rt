@@ -55,12 +55,13 @@ pub fn some_conflict(sizes: Sizes, words: &[u32], contents: &[u8], chains: &mut 
 {
     *chains = [0; 2048];
     for k in 0..sizes.slots {
-        if let Some(_) = record::slot_at(words, k) {
-            if conflicts_below(sizes.width, words, contents, chains, k) {
-                return true;
-            }
-            chain::link_slot(Layout::FiveWords, Key::Version, words, k, chains);
+        let Some(_) = record::slot_at(words, k) else {
+            continue;
+        };
+        if conflicts_below(sizes.width, words, contents, chains, k) {
+            return true;
         }
+        chain::link_slot(Layout::FiveWords, Key::Version, words, k, chains);
     }
     false
 }

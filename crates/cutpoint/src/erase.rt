@@ -35,7 +35,7 @@ pub struct Before<'a> {
     pub sizes: Sizes,
     pub words: &'a [u32],
     pub contents: &'a [u8],
-    pub fills: &'a [u8],
+    pub fills: &'a [u32],
     pub ghost narrow: { sizes.width ≤ 64 },
     pub ghost filled_all: { sizes.pages ≤ length fills.now },
 }

@@ -51,7 +51,7 @@ pub fn comes_back(
     words: &[u32],
     contents: &[u8],
     state: &mut [u32],
-    fills: &[u8],
+    fills: &[u32],
 ) -> bool
     requires { sizes.pages ≤ length fills.now }
     ensures { result ≡ comes_back back_pointer two_widths sizes (volume words.now contents.now (lost state.old)) (filled sizes.width fills.now) }

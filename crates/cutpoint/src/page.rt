@@ -15,10 +15,10 @@ use sizes::{Layout, Sizes};
 use volume::Volume;
 
 // Every byte is the fill.
-fn all_are(bytes: &[u8], fill: u8) -> bool
+fn all_are(bytes: &[u8], fill: u32) -> bool
     ensures { result ≡ list_all (λ b. b == fill) bytes.now }
 {
-    bytes.iter().all(|&byte| byte == fill)
+    bytes.iter().all(|&byte| u32::from(byte) == fill)
 }
 
 // Of a volume that is judged and passes: read of the page answers 0 and copies bytes that are all its fill. They are compared where they lie.
@@ -27,7 +27,7 @@ fn is_kept(
     words: &[u32],
     contents: &[u8],
     state: &[u32],
-    fills: &[u8],
+    fills: &[u32],
     page: u32,
 ) -> bool
     requires state_value { judged (volume_fits two_widths sizes (volume words.now contents.now state.now)) sizes.pages sizes.slots words.now state.now ≡ 0 }
@@ -46,7 +46,7 @@ fn is_kept(
 }
 
 // Read of every page answers 0 and copies bytes that are all its fill.
-pub fn all_kept(sizes: Sizes, words: &[u32], contents: &[u8], state: &[u32], fills: &[u8]) -> bool
+pub fn all_kept(sizes: Sizes, words: &[u32], contents: &[u8], state: &[u32], fills: &[u32]) -> bool
     requires le_pages { 1 ≤ sizes.pages }
     requires pages_in_bounds { sizes.pages ≤ length fills.now }
     ensures { result ≡ all_below sizes.pages (are_reads_kept back_pointer two_widths sizes (volume words.now contents.now state.now) (filled sizes.width fills.now)) }

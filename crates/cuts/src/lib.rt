@@ -40,7 +40,7 @@ fn counted(trial: bool, sizes: Sizes, text: &[u8], from: usize) -> Option<Tally>
     let mut contents = [0u8; 65536];
     let mut state = [0u32; 1024];
     let mut entered = [None; 256];
-    let mut kept = [0u8; 256];
+    let mut kept = [0u32; 256];
     // It answers 0: the sizes are right, and so are the buffers.
     let _ = volume::format(
         Layout::FiveWords,

@@ -4,7 +4,7 @@ ghost use Rattle.std.specs.Prelude.{◌≡◌, ◌+◌, ◌≤◌, length, drop,
 ghost use Rattle.bounded.specs.Limits.{two_widths};
 ghost use Rattle.line.specs.Line.{max_entries, line_means};
 ghost use Rattle.cutpoint.specs.Judged.{tallied};
-ghost use Rattle.recorded.specs.Held.{desk_of};
+ghost use Rattle.recorded.specs.Held.{desk_of, SameBuffers};
 ghost use Rattle.cuts.specs.Run.{run_from};
 ghost use Rattle.cuts.specs.Ran.{none_yet, said_in, turn_desk, turn_cuts, AtMost, most_cuts};
 
@@ -21,6 +21,7 @@ fn turn(desk: &mut Desk, tally: Tally, line: &[u8]) -> Option<Tally>
     ensures few { AtMost (tally.same + tally.differ + 64) result }
     ensures same_sizes { desk.new.sizes ≡ desk.old.sizes }
     ensures same_trial { desk.new.trial ≡ desk.old.trial }
+    ensures same_buffers { SameBuffers desk.old desk.new }
 {
     let mut list = [0u32; 64];
     let says = line::line_of(line, &mut list)?;
@@ -35,6 +36,9 @@ pub fn run(desk: &mut Desk, text: &[u8], from: usize) -> Option<Tally>
     requires { from ≤ length text.now }
     ensures finds { result ≡ option_map (tallied none_yet) (run_from two_widths desk.old.sizes desk.old.trial (desk_of desk.old) 1 (said_in (drop from text.now))) }
     ensures few { AtMost most_cuts result }
+    ensures same_sizes { desk.new.sizes ≡ desk.old.sizes }
+    ensures same_trial { desk.new.trial ≡ desk.old.trial }
+    ensures same_buffers { SameBuffers desk.old desk.new }
 {
     let mut tally = Tally { same: 0, differ: 0 };
     let mut at = from;

@@ -30,13 +30,14 @@ fn blank_slot(filled: &mut [u32], slot: u32)
 pub fn fill(words: &[u32], list: &[u32], m: u32, filled: &mut [u32])
     requires filled_len { length filled.old ≡ length words.now }
     requires by_index { (i : ℕ) → i < length list.now → 5 * get_or list.now i 0 + 5 ≤ length words.now }
-    requires few { length list.now ≤ 8 }
     ensures { filled.new ≡ blanked_words words.now (absent_in list.now m) }
 {
     record::flash::copy_contents(&mut *filled, words);
-    for (i, &slot) in list.iter().enumerate() {
-        if (m >> i) % 2 != 0 {
+    let mut digits = m;
+    for &slot in list {
+        if digits % 2 != 0 {
             blank_slot(filled, slot);
         }
+        digits /= 2;
     }
 }

@@ -40,6 +40,8 @@ fn list_ok(slots: u32, words: &[u32], list: &[u32]) -> bool
 }
 
 // A call is refused by the first condition that is met before a filling is tried.
+// Kept: apart, so that what a list is tested by is off the stack where fillings are recovered.
+#[inline(never)]
 #[tactic(auto, unfolding(crate::specs::Tested::doubtful_tested))]
 pub fn judged(
     sizes: Sizes,

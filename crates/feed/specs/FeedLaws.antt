@@ -1,11 +1,12 @@
 -- Laws of a script's bytes.
-use Rattle.std.specs.Prelude.{ℕ, ◌≤◌, ◌<◌, ◌≡◌, List, [], ◌∷◌, ◌++◌, ltb, length, take}
+use Rattle.std.specs.Prelude.{ℕ, ◌≤◌, ◌<◌, ◌≡◌, refl, List, [], ◌∷◌, ◌++◌, ltb, length, take}
 use Rattle.std.proofs.Common.{arith, length-take, take_all}
 use Rattle.std.proofs.Math.Bool.{true, false}
 use Rattle.std.proofs.Math.Dec.{eqb}
 use borrow.Author.Tests.{ne_eqb, eq-eqb, lt-ltb}
 use Rattle.bounded.specs.Limits.{Widths}
 use Rattle.bounded.specs.Choice.{on_lt}
+use Rattle.text.specs.Print.{shown}
 use Rattle.line.specs.Line.{Said, max_entries, line_means}
 use Rattle.report.specs.Report.{Standing, idle_turn}
 use Rattle.script.specs.Script.{turn}
@@ -22,6 +23,11 @@ enough_held k line =
     let b : ltb 512 (length line) ≡ true = lt-ltb 512 (length line) h in
     rw (a, b))
     (λ (h : length line ≤ 512). let e = take_all 513 line (omega arith) in rw e)
+
+-- nothing is held of a line where the place behind it is 0
+pub nothing_held : (line : List ℕ) {n : ℕ} → n ≡ 0 → shown line n ≡ []
+unfolding shown
+nothing_held line e = rw e refl
 
 -- a line that is carried out is one of what its bytes say
 pub line_carried :

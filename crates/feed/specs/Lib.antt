@@ -1,3 +1,4 @@
 pub mod Feed
 pub mod Stands
+pub mod StandsLaws
 pub mod FeedLaws

@@ -28,8 +28,10 @@ impl<'a> Script<'a> {
     pub fn new(line: &'a mut [u8], memory: Memory<'a>, out: &'a mut [u8]) -> Script<'a>
         ensures stands { stands_of result ≡ standing start_run (memory_of memory.entry) }
         ensures holds { held_of result ≡ [] }
+        ensures line_place { result.line.at ≡ 0 }
         ensures room { length result.line.out.now ≡ length line.old }
         ensures prints { shown result.out.out.now result.out.at ≡ [] }
+        ensures out_place { result.out.at ≡ 0 }
         ensures out_room { length result.out.out.now ≡ length out.old }
         ensures same_memory { SameBuffers memory.entry result.memory }
         ensures same_line { result.line.out.ghost_name ≡ line.entry.ghost_name }
@@ -52,6 +54,7 @@ pub fn end_line(script: &mut Script)
     ensures stands { stands_of script.new ≡ (carried two_widths (stands_of script.old) (held_of script.old)).leaves }
     ensures prints { Puts script.old.out script.new.out (carried two_widths (stands_of script.old) (held_of script.old)).prints }
     ensures holds { held_of script.new ≡ [] }
+    ensures place { script.new.line.at ≡ 0 }
     ensures bytes { script.new.line.out.now ≡ script.old.line.out.now }
     ensures same_buffers { SameHeld script.old script.new }
 {

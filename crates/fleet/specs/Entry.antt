@@ -12,3 +12,8 @@ pub data Entry : Type 0 where
 abbrev pub comes_to : Result Figures Refusal → Entry
 comes_to (Ok figures) = Counted figures
 comes_to (Err refusal) = Refused (number_of refusal)
+
+-- … where the refusal is given as its number
+abbrev pub comes_to_number : Result Figures ℕ → Entry
+comes_to_number (Ok figures) = Counted figures
+comes_to_number (Err answer) = Refused answer

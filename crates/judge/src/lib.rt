@@ -83,6 +83,8 @@ impl Evidence<'_> {
 
     // "A slot whose twin is outside the erase list may always be erased, and if all twins are listed the old rule judges them": the old rule first, which
     // looks at no bytes.
+    // Kept: apart from its callers, as `may_erase` is.
+    #[inline(never)]
     pub fn may_erase_from(&self, marks: &[bool; 1024], slot: u32) -> bool
         requires { slot < self.now.table.sizes.slots }
         ensures { result ≡ may_erase_from (shown self.now) (marked marks.now) slot }

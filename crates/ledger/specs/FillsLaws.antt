@@ -1,10 +1,11 @@
 -- Laws of the fills entered for pages.
-use Rattle.std.specs.Prelude.{ℕ, zero, suc, ◌≤◌, ◌<◌, ◌≡◌, refl, List, ◌∷◌, Option, None, Some, not, cond, eqb, length, get_or, set, replicate}
-use Rattle.std.specs.Option.{unwrap_or}
-use Rattle.std.proofs.Common.{arith, sym, ap, ◌∙◌}
-use borrow.Author.Tests.{ne_eqb}
+use Rattle.std.specs.Prelude.{ℕ, zero, suc, ◌≤◌, ◌<◌, ◌≡◌, refl, List, ◌∷◌, Option, None, Some, Bool, true, false, not, ◌&&◌, cond, eqb, length, get_or, set, replicate}
+use Rattle.std.proofs.Common.{sym, ap, ◌∙◌}
 use Rattle.bounded.specs.Limits.{no_number}
 use Rattle.std.proofs.lemmas.List.{map-set, length-map, get_or-map}
+use Rattle.state.specs.declared.PageState.{PageState}
+use Rattle.state.specs.State.{in_flight}
+use Rattle.ledger.specs.Ledger.{kept_then}
 use Rattle.ledger.specs.Fills.{fill_of, fills_of}
 
 -- as many as there are pages
@@ -32,11 +33,15 @@ pub fills_set : (entered : List (Option ℕ)) (p : ℕ) (e : Option ℕ) → fil
 unfolding fills_of
 fills_set entered p e = map-set fill_of entered p e
 
--- a byte is no no_number, so that what is entered is told from nothing by its number
-pub fill_or : (e : Option ℕ) (kept : ℕ) {r : ℕ} → r < 256 → r ≡ unwrap_or e kept → r ≡ cond (not (eqb (fill_of e) no_number)) (fill_of e) kept
-unfolding fill_of
-fill_or None kept h q = q
-fill_or (Some fill) kept {r} h q = rw (ne_eqb fill no_number (λ z. omega arith)) q
+-- where nothing is entered, what is kept stays
+pub none_kept : (done : Bool) (s : PageState) (kept : ℕ) → kept ≡ kept_then done s no_number kept
+unfolding kept_then
+none_kept false s kept = refl
+none_kept true s kept = by (in_flight s)
+  where
+    by : (flies : Bool) → kept ≡ cond (not flies && not (eqb no_number no_number)) no_number kept
+    by true = refl
+    by false = refl
 
 -- nothing entered for any of n pages
 pub fills_none : (n : ℕ) → fills_of (replicate n None) ≡ replicate n no_number

@@ -8,37 +8,41 @@ ghost use Rattle.state.specs.State.{state_at};
 ghost use Rattle.ledger.specs.Ledger.{entered_then, kept_then, settled_entered, settled_kept};
 ghost use Rattle.ledger.specs.Fills.{fill_of, fills_of};
 
+use sizes::NO_NUMBER;
 use state::PageState;
 
 // A fill entered for a page.
-pub fn enter(entered: &mut [Option<u8>], page: u32, fill: u8)
+pub fn enter(entered: &mut [Option<u32>], page: u32, fill: u8)
     ensures { fills_of entered.new ≡ set (fills_of entered.old) page fill }
 {
     if (page as usize) < entered.len() {
-        entered[page as usize] = Some(fill);
+        entered[page as usize] = Some(u32::from(fill));
     }
 }
 
 // What is entered for a page: it stays while the page is in flight.
-fn entered_then(s: PageState, entered: Option<u8>) -> Option<u8>
+fn entered_then(s: PageState, entered: Option<u32>) -> Option<u32>
     ensures { fill_of result ≡ entered_then s (fill_of entered) }
 {
     if s.in_flight() { entered } else { None }
 }
 
-// What is kept of a page: what is entered for it, where its ring was completed.
-fn kept_then(done: bool, s: PageState, entered: Option<u8>, kept: u8) -> u8
+// What is kept of a page: what is entered for it, where its ring was completed. The number for none is no fill.
+fn kept_then(done: bool, s: PageState, entered: Option<u32>, kept: u32) -> u32
     ensures { result ≡ kept_then done s (fill_of entered) kept }
 {
-    if done && !s.in_flight() {
-        entered.unwrap_or(kept)
+    let Some(fill) = entered else {
+        return kept;
+    };
+    if done && !s.in_flight() && fill != NO_NUMBER {
+        fill
     } else {
         kept
     }
 }
 
 // The ledger behind a call that left this state; `done` says that it completed a ring.
-pub fn settle(pages: u32, done: bool, state: &[u32], entered: &mut [Option<u8>], kept: &mut [u8])
+pub fn settle(pages: u32, done: bool, state: &[u32], entered: &mut [Option<u32>], kept: &mut [u32])
     requires pages_in_bounds { 4 * pages ≤ length state.now }
     requires pages_in_bounds_2 { pages ≤ length entered.old }
     requires pages_in_bounds_3 { pages ≤ length kept.old }

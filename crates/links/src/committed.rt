@@ -1,6 +1,6 @@
 // Committed versions: following verdicts from each page, how many links that takes, and whether the versions found are there.
 
-ghost use Rattle.std.specs.Prelude.{◌≡◌, ◌<◌, not, get_or, set, Some, IfOk, OnOk};
+ghost use Rattle.std.specs.Prelude.{◌≡◌, ◌<◌, not, get_or, set, IfOk, OnOk};
 ghost use Rattle.bounded.specs.Below.{all_below};
 ghost use Rattle.bounded.specs.Tabulate.{tabulate};
 ghost use Rattle.outcome.specs.Outcome.{◌⇒◌otherwise◌};
@@ -19,7 +19,7 @@ use super::survey::Survey;
 use chain::Key;
 use follow::{End, Found, Verdict};
 use outcome::Refusal;
-use record::Record;
+use record::{Record, Slot};
 use sizes::Layout;
 
 // What committed versions are read by: the survey, with the slots chained by page.
@@ -51,11 +51,14 @@ impl PageChains<'_> {
         }
     }
 
-    // "Committed = hv(p), or else" the version before, and a number that is no version where there is none: of a page's highest record.
+    // "Committed = hv(p), or else" the version before, and a number that is no version where there is none: of a page's highest slot, and 0 where that is blank.
     #[tactic(auto, unfolding(crate::specs::Committed::committed_by_in), using(crate::specs::Committed::earlier_or_none))]
-    fn committed_by(&self, end: End, highest: Record) -> u32
-        ensures { result ≡ committed_by_in self.now.survey.table.layout self.now.survey.table.sizes.slots (slots_shown self.now.survey.table) end (Some highest) }
+    fn committed_by(&self, end: End, top: Slot) -> u32
+        ensures { result ≡ committed_by_in self.now.survey.table.layout self.now.survey.table.sizes.slots (slots_shown self.now.survey.table) end top }
     {
+        let Some(highest) = top else {
+            return 0;
+        };
         match end {
             End::Committed => highest.v,
             End::Uncommitted | End::Astray => {
@@ -73,10 +76,8 @@ impl PageChains<'_> {
         ensures committed_after { committed.new ≡ set committed.old page (committed_shown self.now.survey.table page) }
     {
         let walk = walks[page as usize].walk();
-        committed[page as usize] = match self.survey.highest_of(page) {
-            Some(highest) => self.committed_by(walk.end, highest),
-            None => 0,
-        };
+        let highest = self.survey.highest_of(page);
+        committed[page as usize] = self.committed_by(walk.end, highest);
         walk.links
     }
 
@@ -101,7 +102,7 @@ impl PageChains<'_> {
         let last = chain::last_of_page(self.chains, page);
         let table = &self.survey.table;
         let slots = table.sizes.slots;
-        chain::version::find_version(
+        chain::version::find_version_from(
             table.layout,
             slots,
             table.words,

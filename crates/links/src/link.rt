@@ -4,6 +4,7 @@ ghost use Rattle.std.specs.Prelude.{◌≡◌, ◌*◌, ◌≤◌, ◌<◌, leng
 ghost use Rattle.record.specs.Slot.{slot_at, holds, straddles};
 ghost use Rattle.chain.specs.declared.Key.TheVariants.{Straddler};
 ghost use Rattle.chain.specs.Chain.{Chained};
+ghost use Rattle.table.specs.Table.{version_in};
 ghost use Rattle.rules.specs.Verdict.{is_straddled};
 ghost use Rattle.rules.specs.laws.Families.{link_verdict_in};
 ghost use Rattle.links.specs.Committed.{passed_in};
@@ -18,6 +19,16 @@ use table::SoundTable;
 
 // The search for a straddler goes along so many slots of a chain. Of a longer one it looks at all slots of the table, one after the other.
 const LONG: u32 = 128;
+
+// The version in a slot; 0 where it is blank.
+fn version_in(slot: Slot) -> u32
+    ensures { result ≡ version_in slot }
+{
+    let Some(record) = slot else {
+        return 0;
+    };
+    record.v
+}
 
 // The slot holds a record that straddles the link.
 fn slot_straddles(slot: Slot, link: Record) -> bool
@@ -113,10 +124,7 @@ impl StraddlerChains<'_> {
         requires { link.np < 256 }
         ensures { result ≡ link_verdict_in self.now.survey.table.layout self.now.survey.table.sizes.slots (slots_shown self.now.survey.table) link }
     {
-        let hv = self
-            .survey
-            .highest_of(link.np)
-            .map_or(0, |highest| highest.v);
+        let hv = version_in(self.survey.highest_of(link.np));
         if link.nv < hv {
             return self.passed_verdict(link);
         }

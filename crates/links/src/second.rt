@@ -17,7 +17,9 @@ use sizes::Layout;
 fn version_under(slot: Slot, page: u32, version: u32) -> Option<u32>
     ensures { mark result ≡ mark_under page version slot }
 {
-    let record = slot?;
+    let Some(record) = slot else {
+        return None;
+    };
     if record.p != page || record.v >= version {
         return None;
     }

@@ -177,6 +177,8 @@ impl<'a> Table<'a> {
     }
 
     // The slot may be erased.
+    // Kept: apart from its callers, whose work would leave its loops too few registers.
+    #[inline(never)]
     pub fn may_erase(&self, slot: u32) -> bool
         requires { slot < self.now.sizes.slots }
         ensures { result ≡ may_erase (shown self.now) slot }

@@ -55,6 +55,8 @@ impl<'a> Reader<'a> {
 }
 
 // "the lowest slot holding the page at its committed version", where there is one
+// Kept: apart from its callers, whose work would leave its loop too few registers.
+#[inline(never)]
 pub fn committed_slot(
     layout: Layout,
     slots: u32,

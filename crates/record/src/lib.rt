@@ -4,11 +4,10 @@
 
 pub mod flash; // flash.rt: the one function that alters a slot
 
-ghost use Rattle.std.specs.Prelude.{◌≡◌, ◌↔◌, ◌+◌, ◌*◌, ◌≤◌, length, slice_index, IsTrue, EachIndex};
-ghost use Rattle.bounded.specs.Limits.{no_number};
+ghost use Rattle.std.specs.Prelude.{◌≡◌, ◌+◌, ◌*◌, ◌≤◌, length, cond, None, Some};
 ghost use Rattle.record.specs.SlotLaws.{c_before_v};
 ghost use Rattle.sizes.specs.Sizes.{stride_of};
-ghost use Rattle.record.specs.Slot.{slot_from, slot_in, slot_at, formatted_record, planned_record, record_sound, slot_sound, straddles};
+ghost use Rattle.record.specs.Slot.{words_of, all_blank, slot_from, slot_in, slot_at, formatted_record, planned_record, record_sound, slot_sound, straddles};
 
 use sizes::Layout;
 
@@ -25,13 +24,6 @@ pub struct Record {
 
 // What stands in a slot: a record, or none where the slot is blank. "Any other slot is a record."
 pub type Slot = Option<Record>;
-
-// "A blank slot has 4,294,967,295 in all five words", or in all four.
-fn are_blank(words: &[u32]) -> bool
-    ensures { IsTrue result ↔ EachIndex words.now (λ k. slice_index words.now k ≡ no_number) }
-{
-    words.iter().all(|&word| word == sizes::NO_NUMBER)
-}
 
 // "c is below v (or both are 0)"
 fn c_before_v(c: u32, v: u32) -> bool
@@ -96,31 +88,47 @@ impl Record {
     }
 }
 
-// A slot's words, decoded, as many as the layout says; of four, the back pointer is 0.
+// The record, or none where its five words are a blank slot's.
+// Kept: the first word apart, and all are read before they are compared: a search along a chain then looks at a word or two of a slot.
+fn unless_blank(record: Record) -> Slot
+    ensures { result ≡ cond (all_blank (words_of «record»)) None (Some «record») }
+{
+    if record.p != Record::BLANK.p {
+        return Some(record);
+    }
+    if record == Record::BLANK {
+        return None;
+    }
+    Some(record)
+}
+
+// A slot's words, decoded, as many as the layout says; of four, the back pointer is 0, and a blank slot's until they are told from its.
 // Kept: by places, for a slice's pattern needs an arm for other lengths, which never runs.
 fn decode_slot(layout: Layout, words: &[u32]) -> Slot
     requires { length words.now ≡ stride_of layout }
     ensures { result ≡ slot_from layout words.now }
 {
-    if are_blank(words) {
-        return None;
+    match layout {
+        Layout::FiveWords => {
+            unless_blank(Record {
+                p: words[0],
+                v: words[1],
+                c: words[2],
+                np: words[3],
+                nv: words[4],
+            })
+        }
+        Layout::FourWords => {
+            let record = unless_blank(Record {
+                p: words[0],
+                v: words[1],
+                c: sizes::NO_NUMBER,
+                np: words[2],
+                nv: words[3],
+            })?;
+            Some(Record { c: 0, ..record })
+        }
     }
-    Some(match layout {
-        Layout::FiveWords => Record {
-            p: words[0],
-            v: words[1],
-            c: words[2],
-            np: words[3],
-            nv: words[4],
-        },
-        Layout::FourWords => Record {
-            p: words[0],
-            v: words[1],
-            c: 0,
-            np: words[2],
-            nv: words[3],
-        },
-    })
 }
 
 // The slot is blank or holds a sound record.

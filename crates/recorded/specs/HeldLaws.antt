@@ -1,17 +1,11 @@
 -- Laws of the desk that the program holds: buffers of the same lengths are as ready.
-use Rattle.std.specs.Prelude.{◌≡◌, length}
+use Rattle.std.specs.Prelude.{◌≡◌, refl, length}
 use Rattle.std.proofs.Common.{◌∙◌}
 use Rattle.bounded.specs.Limits.{two_widths}
 use Rattle.sizes.specs.declared.Sizes.{Sizes}
 use Rattle.recorded.specs.Desk.{Desk, Ready}
-
--- the buffers have the same lengths
-pub record SameLengths (d e : Desk) : Type 0 where
-  pub words : length d.volume.flash.words ≡ length e.volume.flash.words
-  pub contents : length d.volume.flash.contents ≡ length e.volume.flash.contents
-  pub state : length d.volume.state ≡ length e.volume.state
-  pub entered : length d.entered ≡ length e.entered
-  pub kept : length d.kept ≡ length e.kept
+use Rattle.recorded.specs.Held.{SameLengths, SameBuffers}
+use Rattle.recorded.specs.declared.Desk.{Desk as Held}
 
 pub still_ready : (sizes : Sizes) (d e : Desk) → Ready two_widths sizes e → SameLengths d e → Ready two_widths sizes d
 still_ready sizes d e r same =
@@ -26,3 +20,34 @@ still_ready sizes d e r same =
       entered_room = rw same.entered r.entered_room;
       kept_room = rw same.kept r.kept_room;
     }
+
+-- as they are
+pub same_stays : (d : Held) → SameBuffers d d
+same_stays d = record {
+  same_words = refl;
+  same_contents = refl;
+  same_state = refl;
+  same_entered = refl;
+  same_kept = refl;
+  same_lengths = record { words = refl; contents = refl; state = refl; entered = refl; kept = refl };
+}
+
+lengths_again : {d e f : Desk} → SameLengths e d → SameLengths f e → SameLengths f d
+lengths_again first then = record {
+  words = then.words ∙ first.words;
+  contents = then.contents ∙ first.contents;
+  state = then.state ∙ first.state;
+  entered = then.entered ∙ first.entered;
+  kept = then.kept ∙ first.kept;
+}
+
+-- of the same buffers behind one step and behind the next
+pub same_again : {d e f : Held} → SameBuffers d e → SameBuffers e f → SameBuffers d f
+same_again first then = record {
+  same_words = then.same_words ∙ first.same_words;
+  same_contents = then.same_contents ∙ first.same_contents;
+  same_state = then.same_state ∙ first.same_state;
+  same_entered = then.same_entered ∙ first.same_entered;
+  same_kept = then.same_kept ∙ first.same_kept;
+  same_lengths = lengths_again first.same_lengths then.same_lengths;
+}

@@ -1,6 +1,6 @@
 // An erase, our own or the trial one, with all its cuts.
 
-ghost use Rattle.std.specs.Prelude.{◌≡◌, ◌+◌, ◌≤◌, length};
+ghost use Rattle.std.specs.Prelude.{◌≡◌, ℕ, ◌+◌, ◌≤◌, List, length};
 ghost use Rattle.bounded.specs.Limits.{two_widths};
 ghost use Rattle.outcome.specs.Result.{ends};
 ghost use Rattle.sizes.specs.declared.Layout.TheVariants.{FiveWords};
@@ -11,7 +11,7 @@ ghost use Rattle.collect.specs.EraseLaws.{ListedIn};
 ghost use Rattle.everywhere.specs.Cuts.{wiped_state, erase_outcome_by};
 ghost use Rattle.ledger.specs.Ledger.{filled};
 ghost use Rattle.cutpoint.specs.Judged.{tallied, erase_cuts};
-ghost use Rattle.recorded.specs.Desk.{erase_desk, cuts_of_erase};
+ghost use Rattle.recorded.specs.Desk.{desk, erase_desk, cuts_of_erase};
 
 use super::Desk;
 use cutpoint::Tally;
@@ -46,7 +46,7 @@ fn cut_copies(
     sizes: Sizes,
     words: &[u32],
     contents: &[u8],
-    fills: &[u8],
+    fills: &[u32],
     list: &[u32],
     state: &[u32],
 ) -> Tally
@@ -78,6 +78,49 @@ fn cut_copies(
     )
 }
 
+// An erase, and the cuts in it where it is accepted: the flash before it is kept in buffers of its own.
+pub fn erase_line(
+    trial: bool,
+    tally: Tally,
+    sizes: Sizes,
+    list: &[u32],
+    words: &mut [u32],
+    contents: &mut [u8],
+    state: &[u32],
+    kept: &[u32],
+) -> Tally
+    requires fits_in { FitsIn FiveWords two_widths sizes (volume words.old contents.old state.now) }
+    requires pages_in_bounds { sizes.pages ≤ length kept.now }
+    requires list_bound { tally.same + tally.differ + length list.now ≤ 4294967295 }
+    ensures leaves { flash words.new contents.new
+        ≡ (erase_outcome_by trial two_widths sizes (volume words.old contents.old state.now) list.now).left }
+    ensures counts { (entered : List ℕ) → result ≡ tallied tally
+        (cuts_of_erase two_widths sizes trial (desk (volume words.old contents.old state.now) entered kept.now) list.now) }
+{
+    let mut from_words = [0u32; 5120];
+    let mut from_contents = [0u8; 65536];
+    let w = words.len();
+    let b = contents.len();
+    cutpoint::copy::copy_flash(
+        words,
+        contents,
+        &mut from_words[0..w],
+        &mut from_contents[0..b],
+    );
+    if erase(trial, sizes, words, contents, state, list).is_err() {
+        return tally;
+    }
+    cut_copies(
+        tally,
+        sizes,
+        &from_words[0..w],
+        &from_contents[0..b],
+        kept,
+        list,
+        state,
+    )
+}
+
 impl Desk<'_> {
     ghost use Rattle.recorded.specs.Held.{desk_of, SameBuffers};
 
@@ -94,27 +137,8 @@ impl Desk<'_> {
         let contents = &mut *self.contents;
         let state = &mut *self.state;
         let kept = &mut *self.kept;
-        let mut from_words = [0u32; 5120];
-        let mut from_contents = [0u8; 65536];
-        let w = words.len();
-        let b = contents.len();
-        cutpoint::copy::copy_flash(
-            words,
-            contents,
-            &mut from_words[0..w],
-            &mut from_contents[0..b],
-        );
-        if erase(self.trial, self.sizes, words, contents, state, list).is_err() {
-            return tally;
-        }
-        cut_copies(
-            tally,
-            self.sizes,
-            &from_words[0..w],
-            &from_contents[0..b],
-            kept,
-            list,
-            state,
+        erase_line(
+            self.trial, tally, self.sizes, list, words, contents, state, kept,
         )
     }
 }

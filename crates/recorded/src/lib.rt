@@ -24,8 +24,8 @@ pub struct Desk<'a> {
     pub words: &'a mut [u32],
     pub contents: &'a mut [u8],
     pub state: &'a mut [u32],
-    pub entered: &'a mut [Option<u8>],
-    pub kept: &'a mut [u8],
+    pub entered: &'a mut [Option<u32>],
+    pub kept: &'a mut [u32],
     pub ghost ready: { Ready two_widths sizes (desk (volume words.now contents.now state.now) (fills_of entered.now) kept.now) },
 }
 

@@ -12,7 +12,10 @@ use std::io::{Read, Write};
 use std::process::ExitCode;
 
 // What is read at once, carried out, and its output written. A read that fails ends the input.
-fn turn<R: Read, W: Write>(script: &mut Script, from: &mut R, to: &mut W) {
+fn turn<R: Read, W: Write>(script: &mut Script, from: &mut R, to: &mut W)
+    requires { Room (memory_of script.old.memory) }
+    ensures { Room (memory_of script.new.memory) }
+{
     let mut chunk = [0u8; 16384];
     let n = program::read_some(from, &mut chunk).unwrap_or(0);
     if n < 1 {

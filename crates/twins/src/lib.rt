@@ -4,15 +4,41 @@
 ghost use Rattle.std.specs.Prelude.{◌≡◌, ◌↔◌, ◌+◌, ◌*◌, ◌≤◌, length, slice_index, IsTrue, EachIndex};
 ghost use Rattle.record.specs.Slot.{bytes_at};
 ghost use Rattle.record.specs.Flash.{flash};
-ghost use Rattle.twins.specs.Twins.{same_record, has_same_bytes, twins};
+ghost use Rattle.twins.specs.Twins.{same_words, same_record, has_same_bytes, twins};
 
-use record::{Slot, flash};
+use record::{Record, Slot, flash};
+
+// The records are equal in all words.
+// Kept: word by word, for with the derived `==`, tried with and without the pages first, a search along a chain takes 1.5 times as long.
+fn same_words(a: Record, b: Record) -> bool
+    ensures { result ≡ same_words a b }
+{
+    if a.p != b.p {
+        return false;
+    }
+    if a.v != b.v {
+        return false;
+    }
+    if a.c != b.c {
+        return false;
+    }
+    if a.np != b.np {
+        return false;
+    }
+    a.nv == b.nv
+}
 
 // Both slots hold records, equal in all words.
 fn same_record(a: Slot, b: Slot) -> bool
     ensures { result ≡ same_record a b }
 {
-    b.is_some() && b == a
+    let Some(other) = b else {
+        return false;
+    };
+    let Some(record) = a else {
+        return false;
+    };
+    same_words(other, record)
 }
 
 // The two have the same bytes.

@@ -18,7 +18,7 @@ use Rattle.fleet.specs.Shown.{announced_by}
 -- ---- words
 
 -- the four bytes of a word
-word_is :
+pub word_is :
     (bytes : List ℕ) (i : ℕ)
     → word_at bytes i ≡ get_or bytes (4 * i) 0 + 256 * (get_or bytes (4 * i + 1) 0 + 256 * (get_or bytes (4 * i + 2) 0 + 256 * get_or bytes (4 * i + 3) 0))
 unfolding word_at word_of

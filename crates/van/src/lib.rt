@@ -11,12 +11,25 @@ ghost use Rattle.bounded.specs.Limits.{Widths, two_widths};
 ghost use Rattle.text.specs.Print.{shown, added};
 ghost use Rattle.record.specs.Slot.{Slot};
 ghost use Rattle.state.specs.declared.PageState.{PageState};
+ghost use Rattle.fleet.specs.Entry.{comes_to, comes_to_number};
 ghost use Rattle.fleet.specs.Page.{van_page};
 ghost use Rattle.fleet.specs.Shown.{FiguresShown, EntriesShown, ReadingShown, PagesShown, EnoughRead, RoomEnough};
 ghost use Rattle.fleet.specs.Cases.{PagesComputed};
 
+use fleet::Figures;
+use outcome::Refusal;
 use tally::Tally;
 use text::print::Printout;
+
+// What a volume comes to, a refusal by its number.
+fn numbered(entry: Result<Figures, Refusal>) -> Result<Figures, u32>
+    ensures { comes_to_number result ≡ comes_to entry }
+{
+    match entry {
+        Ok(figures) => Ok(figures),
+        Err(refusal) => Err(refusal.number()),
+    }
+}
 
 // What is printed for an input.
 pub fn page(input: &[u8], out: &mut [u8]) -> usize
@@ -31,8 +44,9 @@ pub fn page(input: &[u8], out: &mut [u8]) -> usize
             break;
         }
         let first = input::first_of(rest);
-        lines::put_volume(&mut printed, number, first.entry);
-        tally = tally.with(first.entry);
+        let entry = numbered(first.entry);
+        lines::put_volume(&mut printed, number, entry);
+        tally = tally.with(entry);
         rest = &rest[first.length..];
     }
     lines::put_end(&mut printed, tally);

@@ -2,13 +2,12 @@
 
 ghost use Rattle.std.specs.Prelude.{◌≡◌, ◌++◌, ◌∷◌, []};
 ghost use Rattle.text.specs.Puts.{Puts};
-ghost use Rattle.fleet.specs.Entry.{comes_to};
+ghost use Rattle.fleet.specs.Entry.{comes_to_number};
 ghost use Rattle.fleet.specs.Page.{mean_whole, mean_remainder, blanks, column, figures_text, entry_text, volume_line, totals_line, mean_line};
 ghost use Rattle.van.specs.Tally.{end_text};
 
 use super::tally::Tally;
 use fleet::Figures;
-use outcome::Refusal;
 use text::print::Printout;
 
 // "all other columns are blank"
@@ -43,21 +42,21 @@ fn put_figures(out: &mut Printout, figures: Figures)
 }
 
 // The figures of a volume that is counted; else "its refusal", or "1 in the pages column".
-fn put_entry(out: &mut Printout, entry: Result<Figures, Refusal>)
-    ensures { Puts out.old out.new (entry_text (comes_to entry)) }
+fn put_entry(out: &mut Printout, entry: Result<Figures, u32>)
+    ensures { Puts out.old out.new (entry_text (comes_to_number entry)) }
 {
     match entry {
         Ok(figures) => put_figures(out, figures),
-        Err(refusal) => {
-            put_column(out, 16, refusal.number());
+        Err(answer) => {
+            put_column(out, 16, answer);
             put_blanks(out, 48);
         }
     }
 }
 
 // "per volume its number from 1 in 8 columns", and what it comes to.
-pub fn put_volume(out: &mut Printout, number: u32, entry: Result<Figures, Refusal>)
-    ensures { Puts out.old out.new (volume_line number (comes_to entry) ++ (10 ∷ [])) }
+pub fn put_volume(out: &mut Printout, number: u32, entry: Result<Figures, u32>)
+    ensures { Puts out.old out.new (volume_line number (comes_to_number entry) ++ (10 ∷ [])) }
 {
     put_column(out, 8, number);
     put_entry(out, entry);

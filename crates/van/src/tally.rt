@@ -1,12 +1,11 @@
 // What is added up over the volumes that are counted.
 
 ghost use Rattle.std.specs.Prelude.{◌≡◌};
-ghost use Rattle.fleet.specs.Entry.{comes_to};
+ghost use Rattle.fleet.specs.Entry.{comes_to_number};
 ghost use Rattle.fleet.specs.PageLaws.{Within, SmallEntry};
 ghost use Rattle.van.specs.Tally.{together, tallied_with, TallyFew};
 
 use fleet::Figures;
-use outcome::Refusal;
 
 // The totals, and how many volumes they are of.
 #[derive(Clone, Copy, Default)]
@@ -31,10 +30,10 @@ fn together(a: Figures, b: Figures) -> Figures
 
 impl Tally {
     // One volume more: "neither kind adds anything, and the mean counts only the others".
-    pub fn with(self, entry: Result<Figures, Refusal>) -> Tally
+    pub fn with(self, entry: Result<Figures, u32>) -> Tally
         requires tally_few { TallyFew 32 self }
-        requires small_entry { SmallEntry (comes_to entry) }
-        ensures { result ≡ tallied_with self (comes_to entry) }
+        requires small_entry { SmallEntry (comes_to_number entry) }
+        ensures { result ≡ tallied_with self (comes_to_number entry) }
     {
         match entry {
             Ok(figures) => Tally {

@@ -32,7 +32,7 @@ pub fn judged(
     if !blocks::starts_ok(sizes.slots, starts) {
         return Err(Refusal::WrongBlocks);
     }
-    volume.sound()?;
+    super::judged(Layout::FiveWords, true, sizes, words, state)?;
     if !blocks::block_ok(starts, block) {
         return Err(Refusal::WrongList);
     }

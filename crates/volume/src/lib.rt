@@ -13,6 +13,7 @@ ghost use Rattle.state.specs.Change.{fresh_state};
 ghost use Rattle.sizes.specs.Sizes.{stride_of};
 ghost use Rattle.rules.specs.Volume.{volume};
 ghost use Rattle.rules.specs.Format.{formatted_words, formatted_contents, format_outcome_in};
+ghost use Rattle.rules.specs.laws.Chains.{judged_in, SpansIn};
 ghost use Rattle.volume.specs.FormatLaws.{fresh_words, fresh_bytes};
 
 use outcome::Refusal;
@@ -31,7 +32,7 @@ pub struct Volume<'a> {
 }
 
 impl<'a> Volume<'a> {
-    ghost use Rattle.volume.specs.Held.{lent, fits, slice_fits, SpansAll, judged_by};
+    ghost use Rattle.volume.specs.Held.{lent, fits, slice_fits, judged_by};
 
     // The volume of what a call is lent.
     pub fn new(
@@ -70,42 +71,49 @@ impl<'a> Volume<'a> {
         self.fits() && length == self.sizes.width as usize
     }
 
-    // Conditions 2 and 5 of one that fits: every slot, then the state.
-    #[tactic(auto, unfolding(rules::specs::laws::Chains::judged_in))]
-    fn sound(&self) -> Result<(), Refusal>
-        requires { SpansAll self.now }
-        ensures { answer_of result ≡ judged_by true self.now }
-    {
-        if !table::table_sound(self.layout, self.sizes, self.words) {
-            return Err(Refusal::SlotUnsound);
-        }
-        if !state::state_sound(self.sizes.pages, self.state) {
-            return Err(Refusal::StateUnsound);
-        }
-        Ok(())
-    }
-
     // Conditions 1, 2 and 5, which the calls on a whole volume share: the lengths, then every slot, then the state.
-    #[tactic(auto, unfolding(rules::specs::laws::Chains::judged_in))]
     pub fn judged(&self) -> Result<(), Refusal>
         ensures { answer_of result ≡ judged_by (fits self.now) self.now }
     {
-        if !self.fits() {
-            return Err(Refusal::WrongSize);
-        }
-        self.sound()
+        judged(self.layout, self.fits(), self.sizes, self.words, self.state)
     }
 
     // … with the length of a slice for one slot's bytes.
-    #[tactic(auto, unfolding(rules::specs::laws::Chains::judged_in))]
     pub fn slice_judged(&self, length: usize) -> Result<(), Refusal>
         ensures { answer_of result ≡ judged_by (slice_fits self.now length) self.now }
     {
-        if !self.slice_fits(length) {
-            return Err(Refusal::WrongSize);
-        }
-        self.sound()
+        judged(
+            self.layout,
+            self.slice_fits(length),
+            self.sizes,
+            self.words,
+            self.state,
+        )
     }
+}
+
+// Conditions 1, 2 and 5, which the calls on a whole volume share: the lengths, as `fits` says, then every slot, then the state.
+#[tactic(auto, unfolding(rules::specs::laws::Chains::judged_in))]
+pub fn judged(
+    layout: Layout,
+    fits: bool,
+    sizes: Sizes,
+    words: &[u32],
+    state: &[u32],
+) -> Result<(), Refusal>
+    requires { fits ≡ true → SpansIn layout sizes.pages sizes.slots words.now state.now }
+    ensures { answer_of result ≡ judged_in layout fits sizes.pages sizes.slots words.now state.now }
+{
+    if !fits {
+        return Err(Refusal::WrongSize);
+    }
+    if !table::table_sound(layout, sizes, words) {
+        return Err(Refusal::SlotUnsound);
+    }
+    if !state::state_sound(sizes.pages, state) {
+        return Err(Refusal::StateUnsound);
+    }
+    Ok(())
 }
 
 // One slot as format leaves it: a page's record with zero bytes, or blank with bytes 255.

@@ -12,7 +12,7 @@ pub returns-then-script : goal.returns-then-script
 unfolding standing idle_turn printing
 returns-then-script c = let script = c.args.script.now in
     rw (fed_over two_widths (length script.line.out.now) (stands_of script) (held_of script) c.args.byte c.if-script.true)
-    (record { stands = refl; prints = puts_none script.out; holds = refl; room = refl; same_buffers = record { same_memory = record { same_words = refl; same_contents = refl; same_state = refl }; same_line = refl } })
+    (record { stands = refl; prints = puts_none script.out; holds = refl; room = refl; same_buffers = record { same_memory = record { same_words = refl; same_contents = refl; same_state = refl; words_length = refl; contents_length = refl; state_length = refl }; same_line = refl } })
 
 pub returns-then-byte-eq10 : goal.returns-then-byte-eq10
 unfolding standing
@@ -26,4 +26,4 @@ unfolding standing idle_turn printing added
 returns c = let script = c.args.script.now in
     let p = c.put.ensures in
     rw (fed_byte two_widths (length script.line.out.now) (stands_of script) (held_of script) c.args.byte c.if-script.false c.if-byte-eq10.false)
-    (record { stands = refl; prints = puts_none script.out; holds = p.puts; room = p.same_length; same_buffers = record { same_memory = record { same_words = refl; same_contents = refl; same_state = refl }; same_line = p.same_buffer } })
+    (record { stands = refl; prints = puts_none script.out; holds = p.puts; room = p.same_length; same_buffers = record { same_memory = record { same_words = refl; same_contents = refl; same_state = refl; words_length = refl; contents_length = refl; state_length = refl }; same_line = p.same_buffer } })

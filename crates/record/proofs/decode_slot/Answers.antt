@@ -1,36 +1,37 @@
--- The test of the words is the slot's; the words read are the slice's.
-use Rattle.std.specs.Prelude.{ℕ, ◌<◌, ◌≡◌, ◌↔◌, Bool, true, List, length, get_or}
+-- The words read are the slice's; of four, the fifth is a blank slot's, so that the record's test is the slot's.
+use Rattle.std.specs.Prelude.{ℕ, ◌≡◌, Bool, true, false, cond, List, Option, None, Some}
 use Rattle.std.proofs.Common.{arith, sym, ap, ◌∙◌}
-use Rattle.bounded.specs.Choice.{same_test}
-use Rattle.bounded.specs.Limits.{no_number}
-use Rattle.bounded.specs.PartsLaws.{element_there}
-use Rattle.sizes.specs.declared.Layout.{Layout}
 use Rattle.sizes.specs.declared.Layout.TheVariants.{FiveWords, FourWords}
-use Rattle.sizes.specs.Sizes.{stride_of}
-use Rattle.std.specs.Prelude.{Some}
-use Rattle.record.specs.Slot.{blank_in, encoded, decoded}
-use Rattle.record.specs.SlotLaws.{all_blank_exactly, slot_blank, slot_holds, five_words, four_decoded}
+use Rattle.record.specs.declared.Record.{Record}
+use Rattle.record.specs.Slot.{Slot, encoded, decoded, slot_from}
+use Rattle.record.specs.SlotLaws.{slot_blank, slot_holds, five_words, four_blank, four_decoded}
 use Rattle.record.proofs.decode_slot.Goals as goal
 
-tested : (layout : Layout) (ws : List ℕ) (b : Bool) → length ws ≡ stride_of layout → (b ≡ true) ↔ ((k : ℕ) → k < length ws → get_or ws k 0 ≡ no_number) → b ≡ blank_in layout ws
-tested layout ws b n t =
-    same_test b (blank_in layout ws)
-    (λ e. (all_blank_exactly layout ws).1 (λ k h. element_there ws k no_number 0 (omega arith) ∙ t.0 e k (omega arith)))
-    (λ e. t.1 (λ k h. element_there ws k 0 no_number h ∙ (all_blank_exactly layout ws).0 e k (omega arith)))
+none_told : (b : Bool) (r : Record) → None ≡ cond b None (Some r) → b ≡ true
+none_told true r e = cc
+none_told false r e = let z : ◌≡◌ {A = ℕ} 0 1 = cc in absurd (omega arith)
 
-pub returns-then-are_blank : goal.returns-then-are_blank
-returns-then-are_blank c = let a = c.args in
-    sym (slot_blank a.layout a.words.now (sym (tested a.layout a.words.now _ c.requires c.are_blank.ensures) ∙ c.if-are_blank.true))
+some_told : (b : Bool) (r q : Record) → Some q ≡ cond b None (Some r) → (b ≡ false) × (q ≡ r)
+some_told true r q e = let z : ◌≡◌ {A = ℕ} 0 1 = cc in absurd (omega arith)
+some_told false r q e = (cc, cc)
 
 pub returns-in-FiveWords : goal.returns-in-FiveWords
-unfolding decoded encoded
+unfolding slot_from decoded encoded
 returns-in-FiveWords c = let a = c.args in
     let i = c.in-FiveWords.is in
-    let some = rw i at (sym (tested a.layout a.words.now _ c.requires c.are_blank.ensures) ∙ c.if-are_blank.false) in
-    rw i (sym (slot_holds FiveWords a.words.now some ∙ ap (λ (ws : List ℕ). Some (decoded FiveWords ws)) (five_words a.words.now (rw i at c.requires))))
+    rw i (c.unless_blank.ensures ∙ sym (ap (λ (ws : List ℕ). slot_from FiveWords ws) (five_words a.words.now (rw i at c.requires))))
 
-pub returns-in-FourWords : goal.returns-in-FourWords
-returns-in-FourWords c = let a = c.args in
+pub returns-in_err-record-in-FourWords : goal.returns-in_err-record-in-FourWords
+returns-in_err-record-in-FourWords c = let ws = c.args.words.now in
     let i = c.in-FourWords.is in
-    let some = rw i at (sym (tested a.layout a.words.now _ c.requires c.are_blank.ensures) ∙ c.if-are_blank.false) in
-    rw i (sym (slot_holds FourWords a.words.now some ∙ ap Some (four_decoded a.words.now (rw i at c.requires))))
+    let blank = none_told _ _ (sym c.in_err-record-in-FourWords.was ∙ c.unless_blank-in-FourWords.ensures) in
+    rw i (c.from_residual.ensures ∙ sym (slot_blank FourWords ws (sym (four_blank ws (rw i at c.requires)) ∙ blank)))
+
+pub returns-in_ok-record-in-FourWords : goal.returns-in_ok-record-in-FourWords
+returns-in_ok-record-in-FourWords c = let ws = c.args.words.now in
+    let i = c.in-FourWords.is in
+    let some = some_told _ _ _ (sym c.in_ok-record-in-FourWords.was ∙ c.unless_blank-in-FourWords.ensures) in
+    let e = rw i at c.requires in
+    rw i
+    (ap (λ (r : Record). Some (record { p = r.p; v = r.v; c = 0; np = r.np; nv = r.nv })) some.1
+    ∙ sym (slot_holds FourWords ws (sym (four_blank ws e) ∙ some.0) ∙ ap Some (four_decoded ws e)))

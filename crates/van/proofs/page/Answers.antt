@@ -19,7 +19,7 @@ loop-number-init c = let e = none_is _ c.default-tally.ensures in
 pub with-tally-requires : goal.with-tally-requires
 with-tally-requires c = let l = c.loop-number in
     let first = c.first_of-first in
-    record { tally_few = few_within l.number 32 l.tally (omega arith) l.invariant.0; small_entry = entry_small l.tally l.number l.rest.now first.result first.ensures }
+    record { tally_few = few_within l.number 32 l.tally (omega arith) l.invariant.0; small_entry = rw c.numbered-entry.ensures (entry_small l.tally l.number l.rest.now first.result first.ensures) }
 
 pub slice_bounds-rest-count : goal.slice_bounds-rest-count
 slice_bounds-rest-count c = let l = c.loop-number in
@@ -35,10 +35,11 @@ pub loop-number-preserved : goal.loop-number-preserved
 loop-number-preserved c = let l = c.loop-number in
     let first = c.first_of-first in
     let entry = comes_to first.result.entry in
-    let with = c.with-tally.ensures in (
+    let numbered = c.numbered-entry.ensures in
+    let with = rw numbered at c.with-tally.ensures in (
       rw with (tallied_few l.number l.tally entry l.invariant.0 (entry_small l.tally l.number l.rest.now first.result first.ensures)),
       λ (last : Printout) p. l.invariant.1 last
-          (rw (rest_next l.tally l.number l.rest.now first.result first.ensures (omega arith) (told c.is_empty.ensures c.if-is_empty.false)) at (puts_next _ _ _ _ _ c.put_volume.ensures (rw with at p))),
+          (rw (rest_next l.tally l.number l.rest.now first.result first.ensures (omega arith) (told c.is_empty.ensures c.if-is_empty.false)) at (puts_next _ _ _ _ _ (rw numbered at c.put_volume.ensures) (rw with at p))),
     )
 
 pub returns : goal.returns

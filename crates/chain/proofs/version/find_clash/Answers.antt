@@ -1,8 +1,7 @@
 use native.Mathlib.Omega.{arith}
 use mathlib.Core.Path.{refl, sym, ◌∙◌}
 use Rattle.record.specs.Slot.{slot_in}
-use Rattle.chain.specs.declared.Key.TheVariants.{Version}
-use Rattle.chain.specs.Chain.{by_version, chain_of}
+use Rattle.chain.specs.Chain.{by_version}
 use Rattle.chain.proofs.ChainLaws.{blank_clashes_none, found_clash}
 use Rattle.chain.proofs.version.find_clash.Goals as goal
 
@@ -11,9 +10,8 @@ returns-in_default c = let a = c.args in
     blank_clashes_none (slot_in a.layout a.words.now) a.k (sym c.slot_in.ensures ∙ c.in_default.is)
 
 pub find_version-requires : goal.find_version-requires
-unfolding by_version chain_of
-find_version-requires c = let p = c.requires in
-    record { n_in_bounds = omega (arith, p.layout_in_bounds); n_bound = p.k_bound; chained_to = record { key = Version; versions_together = refl; chained = p.chained; end_is = c.last_of-last.ensures } }
+unfolding by_version
+find_version-requires c = let p = c.requires in record { n_in_bounds = omega (arith, p.layout_in_bounds); n_bound = p.k_bound; key_value = refl; chained = p.chained }
 
 pub returns : goal.returns
 returns c = let a = c.args in

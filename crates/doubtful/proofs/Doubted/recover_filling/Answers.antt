@@ -6,7 +6,7 @@ use Rattle.doubtful.specs.Recoveries.{filling_fails, filling_succeeds}
 use Rattle.doubtful.proofs.Doubted.recover_filling.Goals as goal
 
 pub fill-requires : goal.fill-requires
-fill-requires c = record { filled_len = c.requires.filled_len; by_index = words_in _ _ _ _ c.args.self.now.fillable; few = c.args.self.now.fillable.few }
+fill-requires c = record { filled_len = c.requires.filled_len; by_index = words_in _ _ _ _ c.args.self.now.fillable }
 
 pub returns-then-is_err : goal.returns-then-is_err
 returns-then-is_err c = let a = c.args in

@@ -17,7 +17,7 @@ unfolding said line_outcome perform
 returns-in_default c = let a = c.args in
     let s = a.self.now in
     let w = write_refused two_widths s.sizes (desk_of s) a.page a.slot a.fill _ a.tally _ c.in_default.ensures in
-    record { leaves = w.0; counts = w.1; same_sizes = refl; same_trial = refl; same_buffers = record { same_words = refl; same_contents = refl; same_state = refl; same_entered = refl; same_kept = refl } }
+    record { leaves = w.0; counts = w.1; same_sizes = refl; same_trial = refl; same_buffers = record { same_words = refl; same_contents = refl; same_state = refl; same_entered = refl; same_kept = refl; same_lengths = record { words = c.call.auto.words; contents = c.call.auto.contents; state = c.call.auto.state; entered = refl; kept = refl } } }
 
 pub settle-requires-clause-pages_in_bounds_2 : goal.settle-requires-clause-pages_in_bounds_2
 settle-requires-clause-pages_in_bounds_2 c = let s = c.args.self.now in
@@ -56,4 +56,4 @@ returns c = let a = c.args in
     let size = c.call.auto.state in
     let lent = lent_length _ 1024 (omega (arith, size, state_most _ _ fits)) ∙ size ∙ fits.state_sized in
     let w = write_done two_widths s.sizes (desk_of s) a.page a.slot a.fill _ a.tally _ c.in-Ok.ensures c.enter.ensures (c.settle.ensures.entered, c.settle.ensures.kept) _ lent c.comes_back.ensures c.count.ensures in
-    record { leaves = w.0; counts = w.1; same_sizes = refl; same_trial = refl; same_buffers = record { same_words = refl; same_contents = refl; same_state = refl; same_entered = refl; same_kept = refl } }
+    record { leaves = w.0; counts = w.1; same_sizes = refl; same_trial = refl; same_buffers = record { same_words = refl; same_contents = refl; same_state = refl; same_entered = refl; same_kept = refl; same_lengths = record { words = c.call.auto.words; contents = c.call.auto.contents; state = c.call.auto.state; entered = same_fills s.entered.now _ (c.settle.auto.entered ∙ c.enter.auto.entered); kept = c.settle.auto.kept } } }

@@ -8,4 +8,4 @@ returns-in-Ok c = rw c.in-Ok.is c.put_figures.ensures
 
 pub returns-in-Err : goal.returns-in-Err
 unfolding entry_text
-returns-in-Err c = rw (c.in-Err.is, ← c.number.ensures) (puts_next _ _ _ _ _ c.put_column.ensures c.put_blanks.ensures)
+returns-in-Err c = rw c.in-Err.is (puts_next _ _ _ _ _ c.put_column.ensures c.put_blanks.ensures)

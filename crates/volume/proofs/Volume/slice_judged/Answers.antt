@@ -1,6 +1,6 @@
-use Rattle.bounded.specs.Choice.{told}
+use mathlib.Core.Path.{sym, ◌∙◌}
 use Rattle.rules.proofs.laws.Chains.{slice_spans}
 use Rattle.volume.proofs.Volume.slice_judged.Goals as goal
 
-pub sound-requires : goal.sound-requires
-sound-requires c = slice_spans _ _ _ _ _ (told c.slice_fits.ensures c.if-not-slice_fits.false)
+pub judged-requires : goal.judged-requires
+judged-requires c = λ e. slice_spans _ _ _ _ _ (sym c.slice_fits.ensures ∙ e)

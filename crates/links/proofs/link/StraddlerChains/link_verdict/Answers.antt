@@ -1,24 +1,20 @@
-use mathlib.Core.Path.{◌≡◌, ap, ◌∙◌}
-use Rattle.std.proofs.Common.{rules, of_calls}
+use mathlib.Core.Path.{ap, ◌∙◌}
 use Rattle.table.specs.Table.{version_in, highest_version_of}
 use Rattle.links.specs.Shown.{slots_shown}
 use Rattle.links.specs.Committed.{link_passed, link_beyond, link_equal}
 use Rattle.links.proofs.link.StraddlerChains.link_verdict.Goals as goal
 
 pub returns-then-link-hv : goal.returns-then-link-hv
-unfolding highest_version_of version_in
+unfolding highest_version_of
 returns-then-link-hv c = let t = c.args.self.now.survey.table in
-    let hv : c.map_or-hv.result ≡ version_in c.highest_of.result = search (rules, of_calls) in
-    c.passed_verdict.ensures ∙ link_passed t.layout t.sizes.slots (slots_shown t) c.args.link _ (hv ∙ ap version_in c.highest_of.ensures) c.if-link-hv.true
+    c.passed_verdict.ensures ∙ link_passed t.layout t.sizes.slots (slots_shown t) c.args.link _ (c.version_in-hv.ensures ∙ ap version_in c.highest_of.ensures) c.if-link-hv.true
 
 pub returns-then-hv-link : goal.returns-then-hv-link
-unfolding highest_version_of version_in
+unfolding highest_version_of
 returns-then-hv-link c = let t = c.args.self.now.survey.table in
-    let hv : c.map_or-hv.result ≡ version_in c.highest_of.result = search (rules, of_calls) in
-    link_beyond t.layout t.sizes.slots (slots_shown t) c.args.link _ (hv ∙ ap version_in c.highest_of.ensures) c.if-hv-link.true
+    link_beyond t.layout t.sizes.slots (slots_shown t) c.args.link _ (c.version_in-hv.ensures ∙ ap version_in c.highest_of.ensures) c.if-hv-link.true
 
 pub returns : goal.returns
-unfolding highest_version_of version_in
+unfolding highest_version_of
 returns c = let t = c.args.self.now.survey.table in
-    let hv : c.map_or-hv.result ≡ version_in c.highest_of.result = search (rules, of_calls) in
-    link_equal t.layout t.sizes.slots (slots_shown t) c.args.link _ (hv ∙ ap version_in c.highest_of.ensures) c.if-link-hv.false c.if-hv-link.false
+    link_equal t.layout t.sizes.slots (slots_shown t) c.args.link _ (c.version_in-hv.ensures ∙ ap version_in c.highest_of.ensures) c.if-link-hv.false c.if-hv-link.false

@@ -8,7 +8,7 @@ use Rattle.table.specs.Table.{of_version}
 use Rattle.chain.specs.declared.Key.{Key}
 use Rattle.chain.specs.Chain.{chain_of, by_version, Chained}
 use Rattle.chain.proofs.ChainLaws.{Left}
-use Rattle.chain.proofs.version.find_version.Given as goal
+use Rattle.chain.proofs.version.find_version_from.Given as goal
 
 abbrev pub sought : (p v : ℕ) → Record
 sought p v = record { p = p; v = v; c = 0; np = 0; nv = 0 }
