@@ -5,6 +5,7 @@ ghost use Rattle.bounded.specs.Limits.{two_widths};
 ghost use Rattle.line.specs.Line.{max_entries, line_means};
 ghost use Rattle.cutpoint.specs.Judged.{tallied};
 ghost use Rattle.recorded.specs.Held.{desk_of, SameBuffers};
+ghost use Rattle.recorded.specs.Bytes.{InBytes};
 ghost use Rattle.cuts.specs.Run.{run_from};
 ghost use Rattle.cuts.specs.Ran.{none_yet, said_in, turn_desk, turn_cuts, AtMost, most_cuts};
 
@@ -22,6 +23,7 @@ fn turn(desk: &mut Desk, tally: Tally, line: &[u8]) -> Option<Tally>
     ensures same_sizes { desk.new.sizes ≡ desk.old.sizes }
     ensures same_trial { desk.new.trial ≡ desk.old.trial }
     ensures same_buffers { SameBuffers desk.old desk.new }
+    ensures bytes { InBytes (desk_of desk.old) → InBytes (desk_of desk.new) }
 {
     let mut list = [0u32; 64];
     let says = line::line_of(line, &mut list)?;
@@ -39,6 +41,7 @@ pub fn run(desk: &mut Desk, text: &[u8], from: usize) -> Option<Tally>
     ensures same_sizes { desk.new.sizes ≡ desk.old.sizes }
     ensures same_trial { desk.new.trial ≡ desk.old.trial }
     ensures same_buffers { SameBuffers desk.old desk.new }
+    ensures bytes { InBytes (desk_of desk.old) → InBytes (desk_of desk.new) }
 {
     let mut tally = Tally { same: 0, differ: 0 };
     let mut at = from;
@@ -54,4 +57,42 @@ pub fn run(desk: &mut Desk, text: &[u8], from: usize) -> Option<Tally>
         lines_done += 1;
     }
     Some(tally)
+}
+
+#[cfg(test)]
+mod tests {
+    use super::*;
+    use sizes::{NO_NUMBER, Sizes};
+
+    // One page in two slots, formatted. From the place of "?" the script is refused; from the line behind it both lines are carried out, the write's cut comes
+    // back the same, and its byte is kept.
+    #[test]
+    fn keeps_the_byte_of_a_script(rt: HostRuntime) {
+        let mut words = [
+            0, 0, 0, 0, 0, NO_NUMBER, NO_NUMBER, NO_NUMBER, NO_NUMBER, NO_NUMBER,
+        ];
+        let mut contents = [0u8; 64];
+        let mut state = [0, 0, NO_NUMBER, 0];
+        let mut entered = [None; 1];
+        let mut kept = [0u32; 1];
+        let mut desk = Desk {
+            trial: false,
+            sizes: Sizes {
+                pages: 1,
+                slots: 2,
+                width: 32,
+            },
+            words: &mut words,
+            contents: &mut contents,
+            state: &mut state,
+            entered: &mut entered,
+            kept: &mut kept,
+        };
+        let text = b"?\nop=launch pages=0\nop=write page=0 slot=1 fill=255\n";
+        assert!(rt; run(&mut desk, text, 0).is_none());
+        let tally = run(&mut desk, text, 2);
+        assert!(rt; matches!(tally, Some(Tally { same: 1, differ: 0 })));
+        assert_eq!(rt; entered, [None]);
+        assert_eq!(rt; kept, [255]);
+    }
 }

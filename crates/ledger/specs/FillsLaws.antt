@@ -1,6 +1,8 @@
 -- Laws of the fills entered for pages.
 use Rattle.std.specs.Prelude.{ℕ, zero, suc, ◌≤◌, ◌<◌, ◌≡◌, refl, List, ◌∷◌, Option, None, Some, Bool, true, false, not, ◌&&◌, cond, eqb, length, get_or, set, replicate}
-use Rattle.std.proofs.Common.{sym, ap, ◌∙◌}
+use Rattle.std.specs.Option.{unwrap_or}
+use Rattle.std.proofs.Common.{arith, sym, ap, ◌∙◌}
+use borrow.Author.Tests.{ne_eqb}
 use Rattle.bounded.specs.Limits.{no_number}
 use Rattle.std.proofs.lemmas.List.{map-set, length-map, get_or-map}
 use Rattle.state.specs.declared.PageState.{PageState}
@@ -32,6 +34,12 @@ fills_at entered p d h = get_or-map fill_of entered p d 0 h
 pub fills_set : (entered : List (Option ℕ)) (p : ℕ) (e : Option ℕ) → fills_of (set entered p e) ≡ set (fills_of entered) p (fill_of e)
 unfolding fills_of
 fills_set entered p e = map-set fill_of entered p e
+
+-- a byte is no no_number, so that what is entered is told from nothing by its number
+pub fill_or : (e : Option ℕ) (kept : ℕ) {r : ℕ} → r < 256 → r ≡ unwrap_or e kept → r ≡ cond (not (eqb (fill_of e) no_number)) (fill_of e) kept
+unfolding fill_of
+fill_or None kept h q = q
+fill_or (Some fill) kept {r} h q = rw (ne_eqb fill no_number (λ z. omega arith)) q
 
 -- where nothing is entered, what is kept stays
 pub none_kept : (done : Bool) (s : PageState) (kept : ℕ) → kept ≡ kept_then done s no_number kept

@@ -4,3 +4,5 @@ pub mod HeldLaws
 pub mod Buffers
 pub mod TrialLaws
 pub mod StepLaws
+pub mod Bytes
+pub mod BytesLaws

@@ -123,6 +123,7 @@ pub fn erase_line(
 
 impl Desk<'_> {
     ghost use Rattle.recorded.specs.Held.{desk_of, SameBuffers};
+    ghost use Rattle.recorded.specs.Bytes.{InBytes};
 
     // An erase, and the cuts in it where it is accepted: the flash before it is kept in buffers of its own.
     pub fn erase_line(&mut self, tally: Tally, list: &[u32]) -> Tally
@@ -132,6 +133,7 @@ impl Desk<'_> {
         ensures same_sizes { self.new.sizes ≡ self.old.sizes }
         ensures same_trial { self.new.trial ≡ self.old.trial }
         ensures same_buffers { SameBuffers self.old self.new }
+        ensures bytes { InBytes (desk_of self.old) → InBytes (desk_of self.new) }
     {
         let words = &mut *self.words;
         let contents = &mut *self.contents;

@@ -31,6 +31,7 @@ pub struct Desk<'a> {
 
 impl Desk<'_> {
     ghost use Rattle.recorded.specs.Held.{desk_of, SameBuffers};
+    ghost use Rattle.recorded.specs.Bytes.{InBytes};
 
     // A line that is neither a write nor an erase: one that may stand in a script alters no flash.
     fn other_line(&mut self, line: Line, list: &[u32])
@@ -38,10 +39,11 @@ impl Desk<'_> {
         ensures same_sizes { self.new.sizes ≡ self.old.sizes }
         ensures same_trial { self.new.trial ≡ self.old.trial }
         ensures same_buffers { SameBuffers self.old self.new }
+        ensures bytes { InBytes (desk_of self.old) → InBytes (desk_of self.new) }
     {
         let state = &mut *self.state;
         let _ = dispatch::call(self.sizes, line, list, self.words, self.contents, state);
-        ledger::settle(self.sizes.pages, false, state, self.entered, self.kept);
+        ledger::numbers::settle_numbers(self.sizes.pages, false, state, self.entered, self.kept);
     }
 
     // A write, and the cut behind it: recovery alters no flash, so that the flash itself is judged.
@@ -52,6 +54,7 @@ impl Desk<'_> {
         ensures same_sizes { self.new.sizes ≡ self.old.sizes }
         ensures same_trial { self.new.trial ≡ self.old.trial }
         ensures same_buffers { SameBuffers self.old self.new }
+        ensures bytes { InBytes (desk_of self.old) → InBytes (desk_of self.new) }
     {
         let words = &mut *self.words;
         let contents = &mut *self.contents;
@@ -62,8 +65,8 @@ impl Desk<'_> {
         let Ok(done) = dispatch::call(self.sizes, line, &no_list, words, contents, state) else {
             return tally;
         };
-        ledger::enter(self.entered, page, fill);
-        ledger::settle(self.sizes.pages, done == 1, state, self.entered, kept);
+        ledger::numbers::enter_number(self.entered, page, fill);
+        ledger::numbers::settle_numbers(self.sizes.pages, done == 1, state, self.entered, kept);
         let mut cut_state = [0u32; 1024];
         let s = state.len();
         tally.count(cutpoint::comes_back(self.sizes, words, contents, &mut cut_state[0..s], kept))
@@ -78,6 +81,7 @@ impl Desk<'_> {
         ensures same_sizes { self.new.sizes ≡ self.old.sizes }
         ensures same_trial { self.new.trial ≡ self.old.trial }
         ensures same_buffers { SameBuffers self.old self.new }
+        ensures bytes { InBytes (desk_of self.old) → InBytes (desk_of self.new) }
     {
         match line {
             Line::Write { page, slot, fill } => self.write_line(tally, page, slot, fill),
@@ -90,5 +94,52 @@ impl Desk<'_> {
                 tally
             }
         }
+    }
+}
+
+#[cfg(test)]
+mod tests {
+    use super::*;
+    use sizes::NO_NUMBER;
+
+    // One page in two slots, formatted: a ring keeps its byte, and its cut and the one in an erase of the record below come back the same.
+    #[test]
+    fn keeps_the_byte_of_a_ring(rt: HostRuntime) {
+        let mut words = [
+            0, 0, 0, 0, 0, NO_NUMBER, NO_NUMBER, NO_NUMBER, NO_NUMBER, NO_NUMBER,
+        ];
+        let mut contents = [0u8; 64];
+        let mut state = [0, 0, NO_NUMBER, 0];
+        let mut entered = [None; 1];
+        let mut kept = [0u32; 1];
+        let mut desk = Desk {
+            trial: false,
+            sizes: Sizes {
+                pages: 1,
+                slots: 2,
+                width: 32,
+            },
+            words: &mut words,
+            contents: &mut contents,
+            state: &mut state,
+            entered: &mut entered,
+            kept: &mut kept,
+        };
+        let list = [0u32; 64];
+        let launched = desk.step(Tally::default(), Line::Launch { count: 1 }, &list);
+        let line = Line::Write {
+            page: 0,
+            slot: 1,
+            fill: 255,
+        };
+        let written = desk.step(Tally::default(), line, &list);
+        let erased = desk.erase_line(Tally::default(), &[0]);
+        assert_eq!(rt; (launched.same, launched.differ), (0, 0));
+        assert_eq!(rt; (written.same, written.differ), (1, 0));
+        assert_eq!(rt; (erased.same, erased.differ), (1, 0));
+        assert_eq!(rt; (words[0], words[5], contents[32]), (NO_NUMBER, 0, 255));
+        assert_eq!(rt; state, [1, 1, NO_NUMBER, 0]);
+        assert_eq!(rt; entered, [None]);
+        assert_eq!(rt; kept, [255]);
     }
 }

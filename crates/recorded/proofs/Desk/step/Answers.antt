@@ -21,4 +21,4 @@ returns-in_default c = let a = c.args in
     let s = a.self.now in
     let o = c.other_line.ensures in
     let w = other_after two_widths s.sizes (desk_of s) s.trial a.line a.list.now a.tally (opened c.in_default.in_default-own.keys3) _ o.leaves in
-    record { leaves = w.0; counts = w.1; same_sizes = o.same_sizes; same_trial = o.same_trial; same_buffers = o.same_buffers }
+    record { leaves = w.0; counts = w.1; same_sizes = o.same_sizes; same_trial = o.same_trial; same_buffers = o.same_buffers; bytes = o.bytes }
