@@ -1,5 +1,5 @@
 -- Laws of a ledger whose fills are bytes: they are bytes behind a byte that is entered, and behind every call.
-use Rattle.std.specs.Prelude.{ℕ, zero, suc, ◌<◌, ◌≡◌, refl, List, Bool, true, false, not, ◌&&◌, cond, eqb, length, get_or, set}
+use Rattle.std.specs.Prelude.{ℕ, zero, suc, ◌<◌, refl, List, Bool, true, false, not, ◌&&◌, cond, eqb, length, get_or, set}
 use Rattle.std.proofs.Math.Seq.{get_or-set_same, get_or-set_other, set_out}
 use Rattle.bounded.specs.Limits.{no_number}
 use Rattle.bounded.specs.Choice.{on_lt, on_eq, on_test}

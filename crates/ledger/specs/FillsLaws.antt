@@ -1,5 +1,5 @@
 -- Laws of the fills entered for pages.
-use Rattle.std.specs.Prelude.{ℕ, zero, suc, ◌≤◌, ◌<◌, ◌≡◌, refl, List, ◌∷◌, Option, None, Some, Bool, true, false, not, ◌&&◌, cond, eqb, length, get_or, set, replicate}
+use Rattle.std.specs.Prelude.{ℕ, zero, suc, ◌+◌, ◌≤◌, ◌<◌, ◌≡◌, refl, List, ◌∷◌, Option, None, Some, Bool, true, false, not, ◌&&◌, cond, eqb, length, get_or, set, replicate}
 use Rattle.std.specs.Option.{unwrap_or}
 use Rattle.std.proofs.Common.{arith, sym, ap, ◌∙◌}
 use borrow.Author.Tests.{ne_eqb}
@@ -7,7 +7,8 @@ use Rattle.bounded.specs.Limits.{no_number}
 use Rattle.std.proofs.lemmas.List.{map-set, length-map, get_or-map}
 use Rattle.state.specs.declared.PageState.{PageState}
 use Rattle.state.specs.State.{in_flight}
-use Rattle.ledger.specs.Ledger.{kept_then}
+use Rattle.ledger.specs.Ledger.{entered_then, kept_then, settled_entered, settled_kept}
+use Rattle.ledger.specs.LedgerLaws.{entered_more, kept_more}
 use Rattle.ledger.specs.Fills.{fill_of, fills_of}
 
 -- as many as there are pages
@@ -56,3 +57,16 @@ pub fills_none : (n : ℕ) → fills_of (replicate n None) ≡ replicate n no_nu
 unfolding fills_of fill_of
 fills_none zero = refl
 fills_none (suc n) = ap (λ (l : List ℕ). no_number ∷ l) (fills_none n)
+
+-- one page more is settled in both tables, by what is entered and what is kept of it then
+pub page_settled :
+    (st : ℕ → PageState) (done : Bool) (first first_kept : List ℕ) (entered : List (Option ℕ)) (kept : List ℕ) (P : ℕ) (d e : Option ℕ) {s : PageState} {k : ℕ}
+    → P < length entered → s ≡ st P
+    → fills_of entered ≡ settled_entered P st first → kept ≡ settled_kept P done st first first_kept
+    → fill_of e ≡ entered_then s (fill_of (get_or entered P d)) → k ≡ kept_then done s (fill_of (get_or entered P d)) (get_or kept P 0)
+    → (fills_of (set entered P e) ≡ settled_entered (P + 1) st first) × (set kept P k ≡ settled_kept (P + 1) done st first first_kept)
+page_settled st done first first_kept entered kept P d e {s} {k} inside at entered_is kept_is e_is k_is =
+    let fill = sym (fills_at entered P d inside) in (
+      fills_set entered P e ∙ entered_more st first P at entered_is (e_is ∙ ap (entered_then s) fill),
+      kept_more st first done first_kept P at entered_is kept_is (k_is ∙ ap (λ (f : ℕ). kept_then done s f (get_or kept P 0)) fill),
+    )

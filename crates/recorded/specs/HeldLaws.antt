@@ -1,8 +1,9 @@
 -- Laws of the desk that the program holds: buffers of the same lengths are as ready.
-use Rattle.std.specs.Prelude.{◌≡◌, refl, length}
-use Rattle.std.proofs.Common.{◌∙◌}
+use Rattle.std.specs.Prelude.{◌≡◌, ◌≤◌, refl, length}
+use Rattle.std.proofs.Common.{arith, ◌∙◌}
 use Rattle.bounded.specs.Limits.{two_widths}
 use Rattle.sizes.specs.declared.Sizes.{Sizes}
+use Rattle.sizes.specs.Sizes.{sizes_of}
 use Rattle.recorded.specs.Desk.{Desk, Ready}
 use Rattle.recorded.specs.Held.{SameLengths, SameBuffers}
 use Rattle.recorded.specs.declared.Desk.{Desk as Held}
@@ -20,6 +21,22 @@ still_ready sizes d e r same =
       entered_room = rw same.entered r.entered_room;
       kept_room = rw same.kept r.kept_room;
     }
+
+-- a desk of one page in two slots of 32 bytes, by its lengths
+pub page_ready :
+    (d : Desk) → length d.volume.flash.words ≡ 10 → length d.volume.flash.contents ≡ 64 → length d.volume.state ≡ 4 → 1 ≤ length d.entered → 1 ≤ length d.kept
+    → Ready two_widths (sizes_of 1 2 32) d
+unfolding two_widths
+page_ready d words contents state entered kept = record {
+  fits = record {
+    bounds = record { one_page = omega arith; pages_most = omega arith; slots_least = omega arith; slots_most = omega arith };
+    allowed = refl;
+    flash_sized = record { words_sized = words; contents_sized = contents };
+    state_sized = state;
+  };
+  entered_room = entered;
+  kept_room = kept;
+}
 
 -- as they are
 pub same_stays : (d : Held) → SameBuffers d d
